@@ -1,0 +1,105 @@
+-- 01, "Refusal numbers", "A level" (last paragraph) and "The program": the answer to a byte string, from its bytes to the verdict, the new block's
+-- bytes and the four counts.
+use mathlib.Core.Bool.{Bool, true, false, _||_}
+use mathlib.Core.List.{List, [], _∷_, _++_}
+use Prim.Native.Nat.{ℕ, zero, suc}
+use lib.Dec.{leb}
+use lib.ListN.{length, getD}
+use Rattle.rules.specs.Polynomial.{Polynomial, Atom, same}
+use Rattle.rules.specs.Formula.{Parts, end, atom, and, or, Node, leaf, allOf, anyOf, isEnd, eachAtomOf, atoms, alone}
+use Rattle.rules.specs.Level.{Formula, simplify}
+use Rattle.rules.specs.Block.{NumberedAtom, Block, Reading, refused, read, readBlock, writeBlock}
+
+-- The formula that a block holds: each atom with its polynomial instead of the number.
+unfoldable pub lookedUp : List Polynomial → NumberedAtom → Atom
+lookedUp table a = record { polynomial = getD table (a .number) []; set = a .set }
+
+unfoldable pub formulaOf : Block → Node Atom
+formulaOf block = eachAtomOf (lookedUp (block .table)) (block .tree)
+
+-- "The new block keeps n and lists the used normal forms by first use in the tree."
+unfoldable pub knows : List Polynomial → Polynomial → Bool
+knows [] p = false
+knows (q ∷ qs) p = same p q || knows qs p
+
+unfoldable pub addedUnless : Bool → Polynomial → List Polynomial → List Polynomial
+addedUnless true p table = table
+addedUnless false p table = table ++ (p ∷ [])
+
+unfoldable pub used : List Polynomial → Formula → List Polynomial
+used table end = table
+used table (atom a rest) = used (addedUnless (knows table (a .polynomial)) (a .polynomial) table) rest
+used table (and kids rest) = used (used table kids) rest
+used table (or kids rest) = used (used table kids) rest
+
+unfoldable pub hereOr : Bool → ℕ → ℕ
+hereOr true later = 0
+hereOr false later = later
+
+unfoldable pub numberIn : List Polynomial → Polynomial → ℕ
+numberIn [] p = 0
+numberIn (q ∷ qs) p = hereOr (same p q) (suc (numberIn qs p))
+
+unfoldable pub numbered : List Polynomial → Atom → NumberedAtom
+numbered table a = record { number = numberIn table (a .polynomial); set = a .set }
+
+unfoldable pub blockOf : ℕ → Node Atom → Block
+blockOf n tree = let table = used [] (alone tree) in record { variables = n; table = table; tree = eachAtomOf (numbered table) tree }
+
+-- "a verdict (formula, always, unsatisfiable)": "ALWAYS is written as an AND with no children, UNSATISFIABLE as an OR with none".
+pub data Verdict : Type 0 where
+  formula always unsatisfiable : Verdict
+
+unfoldable pub ifEnd : Bool → Verdict → Verdict
+ifEnd true verdict = verdict
+ifEnd false verdict = formula
+
+unfoldable pub verdictOf : Node Atom → Verdict
+verdictOf (leaf a) = formula
+verdictOf (allOf kids) = ifEnd (isEnd kids) always
+verdictOf (anyOf kids) = ifEnd (isEnd kids) unsatisfiable
+
+-- "atoms in, atoms out, polynomials in, polynomials out (table sizes)"
+pub record Counts : Type 0 where
+  pub atoms-in : ℕ
+  pub atoms-out : ℕ
+  pub polynomials-in : ℕ
+  pub polynomials-out : ℕ
+
+unfoldable pub countsOf : Block → Block → Counts
+countsOf given new = record {
+  atoms-in = atoms (alone (given .tree));
+  atoms-out = atoms (alone (new .tree));
+  polynomials-in = length (given .table);
+  polynomials-out = length (new .table);
+}
+
+-- "A refusal returns its number and length 0 and the output keeps each byte. An answer returns a verdict and a length; the output's first bytes are
+-- the new block and the rest keep their values."
+pub data Answer : Type 0 where
+  refusal : ℕ → Answer
+  answered : Verdict → List ℕ → Counts → Answer
+
+-- The simplified formula of a block, and the block it is written as.
+unfoldable pub simplified : Block → Node Atom
+simplified given = simplify (given .variables) (formulaOf given)
+
+unfoldable pub newBlock : Block → Block
+newBlock given = blockOf (given .variables) (simplified given)
+
+unfoldable pub answerTo : Reading Block → Answer
+answerTo (refused number) = refusal number
+answerTo (read given stream) = answered (verdictOf (simplified given)) (writeBlock (newBlock given)) (countsOf given (newBlock given))
+
+-- 1: "lent output shorter than lent input"; it is tried before all others.
+unfoldable pub unlessShort : Bool → Answer → Answer
+unlessShort true answer = answer
+unlessShort false answer = refusal 1
+
+unfoldable pub answer : ℕ → List ℕ → Answer
+answer room bytes = unlessShort (leb (length bytes) room) (answerTo (readBlock bytes))
+
+-- To unfold this is to unfold every definition of this file.
+unfoldable pub open-answer : Unit {0}
+unfolding lookedUp formulaOf knows addedUnless used hereOr numberIn numbered blockOf ifEnd verdictOf countsOf simplified newBlock answerTo unlessShort answer
+open-answer = tt

@@ -1,0 +1,12 @@
+pub mod Signs
+pub mod Polynomial
+pub mod Deduce
+pub mod Rounds
+pub mod Formula
+pub mod Level
+pub mod Bits
+pub mod Block
+pub mod Answer
+pub mod Meaning
+pub mod Limits
+pub mod Cases
