@@ -1,0 +1,4 @@
+pub mod Booleans
+pub mod Sets
+pub mod Whole
+pub mod Exact
