@@ -10,3 +10,4 @@ pub mod Answer
 pub mod Meaning
 pub mod Limits
 pub mod Cases
+pub mod Demands

@@ -1,0 +1,34 @@
+-- Demand 3, as definitions: "for each accepted block and each choice of whole numbers for its variables, the answer holds exactly when the original
+-- holds", and "the answer never has more atoms, more polynomials or more bytes than the block it came from". The laws are in crate laws.
+use mathlib.Core.Path.{_≡_}
+use mathlib.Core.Bool.{Bool, true, false}
+use mathlib.Core.List.{List}
+use mathlib.Core.Option.{Option, none, some}
+use Prim.Native.Nat.{ℕ, _≤_}
+use lib.IntN.{ℤ}
+use lib.ListN.{length}
+use Rattle.rules.specs.Block.{Block, Reading, refused, read, readBlock}
+use Rattle.rules.specs.Answer.{Answer, refusal, answered, formula, always, unsatisfiable, formulaOf}
+use Rattle.rules.specs.Meaning.{holdsAt}
+
+-- Whether what was read holds at the readings; none if it was refused.
+unfoldable pub readHolds : List ℤ → Reading Block → Option Bool
+readHolds readings (refused number) = none
+readHolds readings (read block stream) = some (holdsAt readings (formulaOf block))
+
+-- The answer's bytes read back as a block that holds exactly when the given block holds; "UNSATISFIABLE" is answered only if no choice satisfies the
+-- original, "ALWAYS" only if all do. A refusal answers nothing; bytes that are refused are never answered otherwise.
+unfoldable pub SameLifts : Reading Block → Answer → Type 0
+SameLifts given (refusal number) = Unit {0}
+SameLifts (refused number) (answered verdict bytes counts) = ⊥
+SameLifts (read given stream) (answered verdict bytes counts) =
+    (readings : List ℤ) → length readings ≡ given .variables →
+    (readHolds readings (readBlock bytes) ≡ some (holdsAt readings (formulaOf given)))
+    × (verdict ≡ always → holdsAt readings (formulaOf given) ≡ true)
+    × (verdict ≡ unsatisfiable → holdsAt readings (formulaOf given) ≡ false)
+
+-- The counts are those of the two blocks (`countsOf` in Answer), the bytes are the whole block's.
+unfoldable pub NeverLonger : List ℕ → Answer → Type 0
+NeverLonger given (refusal number) = Unit {0}
+NeverLonger given (answered verdict bytes counts) =
+    (counts .atoms-out ≤ counts .atoms-in) × (counts .polynomials-out ≤ counts .polynomials-in) × (length bytes ≤ length given)
