@@ -1,0 +1,11 @@
+pub mod Same
+pub mod Holding
+pub mod Respects
+pub mod Narrower
+pub mod Rounds
+pub mod Tidy
+pub mod Carried
+pub mod Sweep
+pub mod Removal
+pub mod Rules
+pub mod Written

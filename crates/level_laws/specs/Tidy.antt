@@ -1,0 +1,97 @@
+-- Step 2: to bring atoms to normal form, merge those of one polynomial and drop the true ones keeps the truth of the list;
+-- a list that is broken does not hold.
+use mathlib.Core.Path.{_≡_, refl, sym, ap, _∙_}
+use mathlib.Core.Bool.{Bool, true, false, _&&_}
+use mathlib.Core.List.{List, [], _∷_}
+use mathlib.Core.Option.{Option, none, some}
+use Prim.Native.Nat.{ℕ}
+use lib.Dec.{eqb}
+use lib.IntN.{ℤ}
+use borrow.Author.Tests.{eqb-true}
+use Rattle.rules.specs.Signs.{Sign, empty, full, signOf, has, intersect}
+use Rattle.rules.specs.Polynomial.{Polynomial, Atom, same, normal, constant}
+use Rattle.rules.specs.Level.{Tidied, broken, tidied, mergedIf, mergeInto, mergeConstant, mergeNormal, merge, keptIf, withoutFull, afterMerging, tidy}
+use Rattle.rules.specs.Meaning.{atomHolds}
+use Rattle.sign_laws.specs.Booleans.{and-assoc, and-swap, and-true, and-false}
+use Rattle.sign_laws.specs.Sets.{has-intersect}
+use Rattle.level_laws.specs.Same.{same-equal}
+use Rattle.level_laws.specs.Holding.{every, atomsHold, empty-fails, full-holds}
+use Rattle.level_laws.specs.Respects.{Respects}
+
+-- what a tidied list says; "the node is false" where it is broken
+unfoldable pub tidiedHolds : (Polynomial → Sign) → Tidied → Bool
+tidiedHolds sign broken = false
+tidiedHolds sign (tidied l) = atomsHold sign l
+
+module _ (sign : Polynomial → Sign) where
+  -- ---- one atom for each polynomial
+
+  -- two atoms of one polynomial hold exactly if the atom with the intersected set does
+  merged-holds : (a first : Atom) → a .polynomial ≡ first .polynomial
+      → atomHolds sign (record { polynomial = first .polynomial; set = intersect (first .set) (a .set) }) ≡ atomHolds sign first && atomHolds sign a
+  unfolding atomHolds
+  merged-holds a first e = rw e (has-intersect (sign (first .polynomial)) (first .set) (a .set))
+
+  mergeInto-keeps : (a : Atom) (l : List Atom) → atomsHold sign (mergeInto a l) ≡ atomHolds sign a && atomsHold sign l
+  unfolding mergeInto mergedIf every
+  mergeInto-keeps a [] = refl
+  mergeInto-keeps a (first ∷ later) = by-test (same (a .polynomial) (first .polynomial)) refl (mergeInto-keeps a later)
+    where
+      by-test : (b : Bool) → same (a .polynomial) (first .polynomial) ≡ b → atomsHold sign (mergeInto a later) ≡ atomHolds sign a && atomsHold sign later
+          → atomsHold sign (mergedIf b a first later (mergeInto a later)) ≡ atomHolds sign a && (atomHolds sign first && atomsHold sign later)
+      by-test true w h = ap (λ (x : Bool). x && atomsHold sign later) (merged-holds a first (same-equal (a .polynomial) (first .polynomial) w))
+          ∙ sym (and-assoc (atomHolds sign first) (atomHolds sign a) (atomsHold sign later))
+          ∙ and-swap (atomHolds sign first) (atomHolds sign a) (atomsHold sign later)
+      by-test false w h = rw h (and-swap (atomHolds sign first) (atomHolds sign a) (atomsHold sign later))
+
+  -- ---- full and empty sets
+
+  keptIf-keeps : (isEmpty isFull : Bool) (a : Atom) (rest : Tidied) → (isEmpty ≡ true → atomHolds sign a ≡ false) → (isFull ≡ true → atomHolds sign a ≡ true)
+      → tidiedHolds sign (keptIf isEmpty isFull a rest) ≡ atomHolds sign a && tidiedHolds sign rest
+  unfolding keptIf tidiedHolds every
+  keptIf-keeps true isFull a rest f g = rw (f refl)
+  keptIf-keeps false true a rest f g = rw (g refl)
+  keptIf-keeps false false a broken f g = sym (and-false (atomHolds sign a))
+  keptIf-keeps false false a (tidied l) f g = refl
+
+  withoutFull-keeps : (l : List Atom) → tidiedHolds sign (withoutFull l) ≡ atomsHold sign l
+  unfolding withoutFull tidiedHolds every
+  withoutFull-keeps [] = refl
+  withoutFull-keeps (a ∷ l) =
+      keptIf-keeps (eqb (a .set) empty) (eqb (a .set) full) a (withoutFull l)
+      (λ e. empty-fails sign a (eqb-true (a .set) empty e)) (λ e. full-holds sign a (eqb-true (a .set) full e))
+      ∙ ap (λ (x : Bool). atomHolds sign a && x) (withoutFull-keeps l)
+
+  afterMerging-keeps : (result : Tidied) → tidiedHolds sign (afterMerging result) ≡ tidiedHolds sign result
+  unfolding afterMerging tidiedHolds
+  afterMerging-keeps broken = refl
+  afterMerging-keeps (tidied l) = withoutFull-keeps l
+
+module _ {sign : Polynomial → Sign} {n : ℕ} (ok : Respects sign n) where
+  -- ---- the whole step
+
+  mergeConstant-keeps : (b : Bool) (l later : List Atom) → tidiedHolds sign (merge l later) ≡ atomsHold sign l && atomsHold sign later
+      → tidiedHolds sign (mergeConstant b l (λ (m : List Atom). merge m later)) ≡ atomsHold sign l && (b && atomsHold sign later)
+  unfolding mergeConstant tidiedHolds
+  mergeConstant-keeps true l later h = h
+  mergeConstant-keeps false l later h = sym (and-false (atomsHold sign l))
+
+  mergeNormal-keeps : (a : Atom) (l later : List Atom) → ((m : List Atom) → tidiedHolds sign (merge m later) ≡ atomsHold sign m && atomsHold sign later)
+      → (o : Option ℤ) → constant (a .polynomial) ≡ o
+      → tidiedHolds sign (mergeNormal o a l (λ (m : List Atom). merge m later)) ≡ atomsHold sign l && (atomHolds sign a && atomsHold sign later)
+  unfolding mergeNormal atomHolds
+  mergeNormal-keeps a l later h none w = h (mergeInto a l)
+      ∙ (rw (mergeInto-keeps sign a l) (sym (and-assoc (atomHolds sign a) (atomsHold sign l) (atomsHold sign later))
+      ∙ and-swap (atomHolds sign a) (atomsHold sign l) (atomsHold sign later)))
+  mergeNormal-keeps a l later h (some c) w = rw (ok .by-constant (a .polynomial) c w) (mergeConstant-keeps (has (signOf c) (a .set)) l later (h l))
+
+  merge-keeps : (l later : List Atom) → tidiedHolds sign (merge l later) ≡ atomsHold sign l && atomsHold sign later
+  unfolding merge tidiedHolds every
+  merge-keeps l [] = sym (and-true (atomsHold sign l))
+  merge-keeps l (a ∷ later) = mergeNormal-keeps (normal a) l later (λ m. merge-keeps m later) (constant (normal a .polynomial)) refl
+      ∙ ap (λ (x : Bool). atomsHold sign l && (x && atomsHold sign later)) (ok .by-normal a)
+
+  -- step 2 keeps the truth of a list
+  pub tidy-keeps : (l : List Atom) → tidiedHolds sign (tidy l) ≡ atomsHold sign l
+  unfolding tidy every
+  tidy-keeps l = afterMerging-keeps sign (merge [] l) ∙ merge-keeps [] l
