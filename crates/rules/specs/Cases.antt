@@ -29,6 +29,9 @@ y² = 0x020
 abbrev z¹ : ℕ
 z¹ = 0x001
 
+abbrev z² : ℕ
+z² = 0x002
+
 abbrev x⁰ : ℕ
 x⁰ = 0x000
 
@@ -69,6 +72,12 @@ z = pos 1 times z¹ plus nothing
 
 abbrev x+y : Polynomial
 x+y = pos 1 times x¹ plus pos 1 times y¹ plus nothing
+
+abbrev x+y² : Polynomial
+x+y² = pos 1 times x¹ plus pos 1 times y² plus nothing
+
+abbrev x-z² : Polynomial
+x-z² = pos 1 times x¹ plus -1 times z² plus nothing
 
 abbrev x²+1 : Polynomial
 x²+1 = pos 1 times x² plus pos 1 times x⁰ plus nothing
@@ -136,6 +145,19 @@ cases =
 pub known-results : map (λ (c : Case). simplify 3 (c .given)) cases ≡ map (λ (c : Case). c .gives) cases
 unfolding open-signs open-polynomial open-deduce open-rounds open-formula open-level cases
 known-results = refl
+
+-- 01, "Wrong turns in the trade", where no case above would tell: removal goes by the carried set, not by the set as first read (x is carried as > 0,
+-- and what x-z² ≥ 0 says of it is not enough then); and an OR that is emptied is false, one that is implied is true.
+unfoldable pub turns : List Case
+turns =
+    record { given = allOf (x+y² is >0 also x is ≥0 also y is =0 also x-z² is ≥0 also end); gives = allOf (x is >0 also y is =0 also x-z² is ≥0 also end) } ∷
+    record { given = allOf (x is >0 also y is >0 also or (x is <0 also y is <0 also end) end); gives = anyOf end } ∷
+    record { given = allOf (x is >0 also or (x is ≥0 also y is <0 also end) end); gives = only x >0 } ∷
+    []
+
+pub no-wrong-turn : map (λ (c : Case). simplify 3 (c .given)) turns ≡ map (λ (c : Case). c .gives) turns
+unfolding open-signs open-polynomial open-deduce open-rounds open-formula open-level turns
+no-wrong-turn = refl
 
 -- "Input .. (case A) prints ..": its bytes, the verdict, the counts and the new block's bytes.
 unfoldable pub caseA : List ℕ

@@ -1,5 +1,5 @@
 -- 01, "Deducing p from q": the fractions t with p + tq ≥ 0 by monomials (L) and with p + tq ≤ 0 (U), and what they say of p.
--- L and U are closed intervals, kept by their two ends; the law `exact` of crate laws says that the tests below are 01's words.
+-- L and U are closed intervals, kept by their two ends; crate deduction_laws says that the tests below are exactly 01's words.
 use mathlib.Core.Bool.{Bool, true, false, not, _&&_, _||_}
 use mathlib.Core.List.{List, [], _∷_}
 use Prim.Native.Nat.{ℕ, zero, suc}

@@ -1,5 +1,5 @@
 -- 01, "A level": the AND rule in its six steps, the OR rule by complement and exchange, and the whole tree.
--- The laws `it-ends` of crate laws say that the turns of the way back to step 2, and the nestings of the rules, are always enough.
+-- Crate ending_laws says that the turns of the way back to step 2, and the nestings of the rules, are always enough.
 use mathlib.Core.Bool.{Bool, true, false}
 use mathlib.Core.List.{List, [], _∷_, _++_}
 use mathlib.Core.Option.{Option, none, some}
@@ -204,7 +204,7 @@ unfoldable pub settle : ℕ → ℕ → List Atom → List Formula → Formula
 settle n zero l ors = parts l ors
 settle n (suc k) l ors = afterTidy n (tidy l) ors (λ (m : List Atom) (later : List Formula). settle n k m later)
 
--- Each way back takes at least one AND or OR out of the children, so one turn more than they have is enough: law `it-ends`.
+-- Each way back takes at least one AND or OR out of the children, so one turn more than they have is enough: law `no-turn-missing`.
 unfoldable pub inner : Formula → ℕ
 inner end = 0
 inner (atom a rest) = inner rest

@@ -1,5 +1,5 @@
 -- 01, "The block", the column "Allowed": the blocks that can be written, each limit in the words of the format.
--- The laws `reads-back` and `one-block` of crate laws say that these are exactly what the reader accepts.
+-- The laws `reads-back` and `accepted-within` of crate block_laws say that these are exactly what the reader accepts.
 use mathlib.Core.List.{List, [], _∷_}
 use mathlib.Core.Path.{_≡_}
 use Prim.Native.Nat.{ℕ, zero, suc, _-_, _*_, _^_, _<_, _≤_}

@@ -1,5 +1,5 @@
 -- 01, "Rounds over a list of atoms joined by AND", and what a list says of a polynomial after its rounds.
--- The law `it-ends` of crate laws says that the number of rounds that a run may take is always enough.
+-- Crate ending_laws says that the number of rounds that a run may take is always enough: `rounds-end`, `at-most`.
 use mathlib.Core.Bool.{Bool, true, false, _&&_, _||_}
 use mathlib.Core.List.{List, [], _∷_, map, _++_}
 use mathlib.Core.Option.{Option, none, some}
@@ -104,7 +104,7 @@ placedAll n (a ∷ l) board = placedAll n l (placed (which n (a .polynomial)) (a
 unfoldable pub start : ℕ → List Atom → State
 start n l = record { board = placedAll n l (replicate n full); atoms = nonVariable n l }
 
--- 2(n + k) + 1 rounds, for n variables and k non-variable atoms: law `it-ends`.
+-- 2(n + k) + 1 rounds, for n variables and k non-variable atoms: law `at-most`.
 unfoldable pub enough : State → ℕ
 enough st = 2 * (length (st .board) + length (st .atoms)) + 1
 
