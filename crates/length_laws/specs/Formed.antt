@@ -1,0 +1,64 @@
+-- What is said of the atoms of a block, and of the atoms that the level rules make of them: sets of three bits, and polynomials whose normal forms
+-- are, or that are themselves, among given forms.
+use mathlib.Core.Bool.{not, _&&_}
+use mathlib.Core.List.{List}
+use mathlib.Core.List.{List·Memᴰ as Member, Memᴰ·cast as member-same}
+use mathlib.Core.Path.{_≡_}
+use Prim.Native.Nat.{_<_}
+use lib.Dec.{lit<}
+use Rattle.rules.specs.Signs.{SignSet, has, full, complement, intersect}
+use Rattle.rules.specs.Polynomial.{Polynomial, Atom, normal}
+use Rattle.rules.specs.Level.{complemented}
+use Rattle.sign_laws.specs.Sets.{setOf-small}
+use Rattle.normal_laws.specs.Shape.{normalForm, normal-small, normal-alike}
+
+-- A set of three bits.
+pub record Small (s : SignSet) : Type 0 where
+  pub bits : s < 8
+
+-- An atom as a block gives it: its polynomial's normal form is one of the forms.
+pub record Given (forms : List Polynomial) (a : Atom) : Type 0 where
+  pub small : Small (a .set)
+  pub form : Member (normalForm (a .polynomial)) forms
+
+-- An atom in normal form: its polynomial is one of the forms.
+pub record Formed (forms : List Polynomial) (a : Atom) : Type 0 where
+  pub small : Small (a .set)
+  pub form : Member (a .polynomial) forms
+
+-- ---- sets
+
+pub full-small : Small full
+full-small = record { bits = lit< tt }
+
+pub intersect-small : (a b : SignSet) → Small (intersect a b)
+unfolding intersect
+intersect-small a b = record { bits = setOf-small (λ s. has s a && has s b) }
+
+complement-small : (a : SignSet) → Small (complement a)
+unfolding complement
+complement-small a = record { bits = setOf-small (λ s. not (has s a)) }
+
+-- ---- atoms
+
+module _ {forms : List Polynomial} where
+  -- another set
+  pub formed-with : {a : Atom} (s : SignSet) → Small s → Formed forms a → Formed forms (record { polynomial = a .polynomial; set = s })
+  formed-with s h k = record { small = h; form = k .form }
+
+  -- the normal form
+  pub formed-normal : (a : Atom) → Given forms a → Formed forms (normal a)
+  formed-normal a h = record { small = record { bits = normal-small a (h .small .bits) }; form = member-same (normal-alike a) (h .form) }
+
+  -- the complement
+  pub given-complemented : (a : Atom) → Given forms a → Given forms (complemented a)
+  unfolding complemented
+  given-complemented a h = record { small = complement-small (a .set); form = h .form }
+
+  pub formed-complemented : (a : Atom) → Formed forms a → Formed forms (complemented a)
+  unfolding complemented
+  formed-complemented a h = record { small = complement-small (a .set); form = h .form }
+
+  -- the forms being normal forms, an atom in normal form is also as a block might give it
+  pub formed-given : ((p : Polynomial) → Member p forms → normalForm p ≡ p) → (a : Atom) → Formed forms a → Given forms a
+  formed-given own a h = record { small = h .small; form = member-same (own (a .polynomial) (h .form)) (h .form) }

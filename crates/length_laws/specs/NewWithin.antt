@@ -1,0 +1,67 @@
+-- Law new-within: the new block of a block within the limits is within the limits, so it can be written, and read again.
+-- And the formula that it holds is the simplified one.
+use mathlib.Core.Path.{_≡_, refl, sym, subst}
+use mathlib.Core.List.{List, []}
+use mathlib.Core.List.{List·Memᴰ as Member, List·Memᴰ·head as here, List·Memᴰ·tail as later}
+use Prim.Native.Nat.{ℕ}
+use native.Mathlib.Omega.{arith}
+use lib.ListN.{length}
+use Rattle.rules.specs.Polynomial.{Polynomial}
+use Rattle.rules.specs.Formula.{Node, leaf, allOf, anyOf, alone, eachAtom, eachAtomOf, open-formula}
+use Rattle.rules.specs.Block.{Block}
+use Rattle.rules.specs.Limits.{PolynomialWithin, TableWithin, no-polynomials, polynomials, PartsWithin, BlockWithin}
+use Rattle.rules.specs.Answer.{formulaOf, used, numbered, blockOf, simplified, newBlock}
+use Rattle.normal_laws.specs.Shape.{normalForm-within}
+use Rattle.length_laws.specs.Lists.{Every, every-none, every}
+use Rattle.length_laws.specs.Alternation.{Join, AND, OR, other, tree-alone}
+use Rattle.length_laws.specs.Table.{used-all, block-formula}
+use Rattle.length_laws.specs.Blocks.{formsOf, kindOf, parts-numbered}
+use Rattle.length_laws.specs.NeverLonger.{simplified-formed, new-forms, polynomials-never-more, new-nodes}
+
+-- ---- the table
+
+form-within : {n : ℕ} {table : List Polynomial} {p : Polynomial} → TableWithin n table → Member p (formsOf table) → PolynomialWithin n p
+form-within {n} (polynomials {p = q} h hs) (here e) = subst (PolynomialWithin n) (sym e) (normalForm-within q h)
+form-within (polynomials h hs) (later m) = form-within hs m
+
+table-within : {n : ℕ} {given new : List Polynomial} → TableWithin n given → Every (λ (p : Polynomial). Member p (formsOf given)) new → TableWithin n new
+table-within h every-none = no-polynomials
+table-within h (every m ms) = polynomials (form-within h m) (table-within h ms)
+
+-- ---- the tree
+
+alone-each : {A B : Type 0} (g : A → B) (tree : Node A) → eachAtom g (alone tree) ≡ alone (eachAtomOf g tree)
+unfolding open-formula
+alone-each g (leaf a) = refl
+alone-each g (allOf kids) = refl
+alone-each g (anyOf kids) = refl
+
+not-root : (join : Join) → 0 ≡ kindOf join → ⊥
+not-root AND e = omega arith
+not-root OR e = omega arith
+
+tree-within : (given : Block) → BlockWithin given → PartsWithin 6 (length (newBlock given .table)) 0 (alone (newBlock given .tree))
+unfolding newBlock blockOf
+tree-within given h =
+    let table = used [] (alone (simplified given)) in
+    subst (PartsWithin 6 (length table) 0) (alone-each (numbered table) (simplified given))
+    (tree-alone (simplified-formed given h) (λ join k. parts-numbered table 0 (not-root (other join)) (used-all [] k)))
+
+-- ---- the block
+
+-- the new block is within the limits
+pub new-within : (given : Block) → BlockWithin given → BlockWithin (newBlock given)
+unfolding newBlock blockOf
+new-within given h = record {
+  some-variables = h .some-variables;
+  variables = h .variables;
+  polynomials = omega (arith, polynomials-never-more given h, h .polynomials);
+  nodes = omega (arith, new-nodes given, h .nodes);
+  table = table-within (h .table) (new-forms given h);
+  tree = tree-within given h;
+}
+
+-- and holds the simplified formula
+pub new-formula : (given : Block) → formulaOf (newBlock given) ≡ simplified given
+unfolding newBlock
+new-formula given = block-formula (given .variables) (simplified given)

@@ -1,0 +1,64 @@
+-- Lists without repeats, and the pigeonhole law with weights:
+-- what has no repeats and stands among other things weighs no more than these.
+use mathlib.Core.Path.{_≡_, sym, ap, _∙_}
+use mathlib.Core.List.{List, [], _∷_, _++_}
+use mathlib.Core.List.{List·Memᴰ as Member, List·Memᴰ·head as here, List·Memᴰ·tail as later}
+use Prim.Native.Nat.{ℕ, _+_, _≤_}
+use native.Mathlib.Omega.{arith}
+use Rattle.length_laws.specs.Lists.{Every, every-none, every}
+
+pub data Distinct {A : Type 0} : List A → Type 0 where
+  none-distinct : Distinct []
+  distinct : {a : A} {l : List A} → (Member a l → ⊥) → Distinct l → Distinct (a ∷ l)
+
+-- The sum of the weights of a list's members.
+unfoldable pub total : {A : Type 0} → (A → ℕ) → List A → ℕ
+total w [] = 0
+total w (a ∷ l) = w a + total w l
+
+module _ {A : Type 0} where
+  added-cases : {X : Type 0} (l : List A) {a b : A} → Member a (l ++ (b ∷ [])) → (Member a l → X) → (a ≡ b → X) → X
+  added-cases [] (here e) old new = new e
+  added-cases [] (later m) old new = elim m [ ]
+  added-cases (x ∷ l) (here e) old new = old (here e)
+  added-cases (x ∷ l) (later m) old new = added-cases l m (λ k. old (later k)) new
+
+  -- something new at the end repeats nothing
+  pub distinct-added : {l : List A} {a : A} → Distinct l → (Member a l → ⊥) → Distinct (l ++ (a ∷ []))
+  distinct-added none-distinct h = distinct h none-distinct
+  distinct-added (distinct {l = l} k ks) h = distinct (λ m. added-cases l m k (λ e. h (here (sym e)))) (distinct-added ks (λ m. h (later m)))
+
+  -- What is left of a list when one of its members is taken out.
+  record Left (w : A → ℕ) (a : A) (l : List A) : Type 0 where
+    rest : List A
+    weighs : total w l ≡ w a + total w rest
+    holds : (b : A) → Member b l → (b ≡ a → ⊥) → Member b rest
+
+  take-out : (w : A → ℕ) {a : A} {l : List A} → Member a l → Left w a l
+  unfolding total
+  take-out w {a} (here {x} {xs} e) = record { rest = xs; weighs = ap (λ (c : A). w c + total w xs) (sym e); holds = others }
+    where
+      others : (b : A) → Member b (x ∷ xs) → (b ≡ a → ⊥) → Member b xs
+      others b (here d) ne = absurd (ne (d ∙ sym e))
+      others b (later m) ne = m
+  take-out w {a} (later {x} {xs} m) = with-first (take-out w m)
+    where
+      with-first : Left w a xs → Left w a (x ∷ xs)
+      with-first left = record { rest = x ∷ left .rest; weighs = omega (arith, left .weighs); holds = others }
+        where
+          others : (b : A) → Member b (x ∷ xs) → (b ≡ a → ⊥) → Member b (x ∷ left .rest)
+          others b (here d) ne = here d
+          others b (later k) ne = later (left .holds b k ne)
+
+  still-there : {w : A → ℕ} {a : A} {among : List A} (left : Left w a among) {l : List A} → (Member a l → ⊥) → Every (λ (b : A). Member b among) l →
+      Every (λ (b : A). Member b (left .rest)) l
+  still-there left new every-none = every-none
+  still-there left new (every {a = b} h hs) = every (left .holds b h (λ e. new (here (sym e)))) (still-there left (λ m. new (later m)) hs)
+
+  -- what has no repeats and stands among others weighs no more than these
+  pub pigeonhole : (w : A → ℕ) {l among : List A} → Distinct l → Every (λ (a : A). Member a among) l → total w l ≤ total w among
+  unfolding total
+  pigeonhole w none-distinct every-none = omega arith
+  pigeonhole w (distinct new ks) (every h hs) =
+      let left = take-out w h in
+      omega (arith, left .weighs, pigeonhole w ks (still-there left new hs))
