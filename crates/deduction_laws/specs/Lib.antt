@@ -1,0 +1,11 @@
+pub mod Fractions
+pub mod Ends
+pub mod FractionSets
+pub mod Intervals
+pub mod Exact
+pub mod Monomials
+pub mod Terms
+pub mod Rows
+pub mod Coefficients
+pub mod Deduction
+pub mod Readings

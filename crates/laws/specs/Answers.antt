@@ -1,0 +1,79 @@
+-- The theorems about the whole answer, from bytes to bytes: the same lifts, and never longer (`rules/specs/Demands.antt` has the two definitions).
+use mathlib.Core.Path.{_≡_, refl, sym, ap, _∙_, subst}
+use mathlib.Core.Bool.{Bool, true, false}
+use mathlib.Core.List.{List}
+use mathlib.Core.Option.{Option, some}
+use Prim.Native.Nat.{ℕ, _≤_}
+use native.Mathlib.Omega.{arith}
+use lib.Dec.{leb}
+use lib.IntN.{ℤ}
+use lib.ListN.{length}
+use Rattle.rules.specs.Formula.{alone, atoms}
+use Rattle.rules.specs.Block.{Block, Stream, Reading, refused, read, readBlock, writeBlock, blockLength}
+use Rattle.rules.specs.Answer.{Answer, refusal, answered, always, unsatisfiable, formulaOf, verdictOf, simplified, newBlock, countsOf, answerTo, unlessShort, answer}
+use Rattle.rules.specs.Meaning.{holds, holdsAt, signAt}
+use Rattle.rules.specs.Demands.{readHolds, SameLifts, NeverLonger}
+use Rattle.level_laws.specs.Rules.{verdict-always, verdict-unsatisfiable}
+use Rattle.level_laws.specs.Written.{newBlock-keeps}
+use Rattle.length_laws.specs.NeverLonger.{never-longer}
+use Rattle.length_laws.specs.NewWithin.{new-within}
+use Rattle.block_laws.specs.Blocks.{reads-back, block-accepted, accepted-within}
+use Rattle.block_laws.specs.Sizes.{length-block}
+use Rattle.laws.specs.Readings.{respected}
+
+-- ---- an accepted block
+
+module _ (bytes : List ℕ) {given : Block} {stream : Stream} (accepted : readBlock bytes ≡ read given stream) where
+  -- the answer's bytes are accepted, as the block that the answer is
+  pub answer-reads-back : (left : Stream) × (readBlock (writeBlock (newBlock given)) ≡ read (newBlock given) left)
+  answer-reads-back = reads-back (newBlock given) (new-within given (accepted-within bytes accepted))
+
+  -- at every choice of whole numbers the answer, read back, holds exactly when the block does; ALWAYS and UNSATISFIABLE are right there
+  pub same-lifts-of : SameLifts (read given stream) (answerTo (read given stream))
+  unfolding SameLifts answerTo readHolds holdsAt simplified
+  same-lifts-of readings many = (
+    ap (readHolds readings) (answer-reads-back .1) ∙ ap some (newBlock-keeps given (respected readings many)),
+    verdict-always (respected readings many) (formulaOf given),
+    verdict-unsatisfiable (respected readings many) (formulaOf given),
+  )
+
+  -- no more atoms, polynomials or bytes
+  pub never-longer-of : NeverLonger bytes (answerTo (read given stream))
+  unfolding NeverLonger answerTo countsOf
+  never-longer-of =
+      let shorter = never-longer given (accepted-within bytes accepted) in
+      (shorter .atoms, shorter .polynomials, omega (arith, length-block (newBlock given), shorter .bytes, block-accepted bytes accepted .long))
+
+-- ---- the answer to any byte string, however much output is lent: a refusal, or that to an accepted block
+
+by-reading : (P : Answer → Type 0) (reading : Reading Block) → ((number : ℕ) → P (refusal number))
+    → ((given : Block) (stream : Stream) → reading ≡ read given stream → P (answerTo (read given stream))) → P (answerTo reading)
+unfolding answerTo
+by-reading P (refused number) on-refusal on-accepted = on-refusal number
+by-reading P (read given stream) on-refusal on-accepted = on-accepted given stream refl
+
+by-room : (P : Answer → Type 0) (enough : Bool) (a : Answer) → P (refusal 1) → P a → P (unlessShort enough a)
+unfolding unlessShort
+by-room P true a on-short on-enough = on-enough
+by-room P false a on-short on-enough = on-short
+
+by-answer : (P : Answer → Type 0) (room : ℕ) (bytes : List ℕ) → ((number : ℕ) → P (refusal number))
+    → ((given : Block) (stream : Stream) → readBlock bytes ≡ read given stream → P (answerTo (read given stream))) → P (answer room bytes)
+unfolding answer
+by-answer P room bytes on-refusal on-accepted =
+    by-room P (leb (length bytes) room) (answerTo (readBlock bytes)) (on-refusal 1) (by-reading P (readBlock bytes) on-refusal on-accepted)
+
+-- Demand 3: for each choice of whole numbers the answer holds exactly when the original holds; UNSATISFIABLE only if nothing satisfies the original,
+-- ALWAYS only if all does.
+pub same-lifts : (room : ℕ) (bytes : List ℕ) → SameLifts (readBlock bytes) (answer room bytes)
+unfolding SameLifts
+same-lifts room bytes = by-answer (SameLifts (readBlock bytes)) room bytes (refused-same (readBlock bytes))
+    (λ given stream e. subst (λ (reading : Reading Block). SameLifts reading (answerTo (read given stream))) (sym e) (same-lifts-of bytes e))
+  where
+    refused-same : (reading : Reading Block) (number : ℕ) → SameLifts reading (refusal number)
+    refused-same reading number = tt
+
+-- Demand 3: the answer never has more atoms, more polynomials or more bytes than the block it came from.
+pub never-longer-answer : (room : ℕ) (bytes : List ℕ) → NeverLonger bytes (answer room bytes)
+unfolding NeverLonger
+never-longer-answer room bytes = by-answer (NeverLonger bytes) room bytes (λ number. tt) (λ given stream e. never-longer-of bytes e)
