@@ -1,0 +1,100 @@
+//! The answer to a block: bytes in, verdict and bytes out; and the lines that the program prints.
+//! Document 01, "Refusal numbers", "A level" (the new block) and "The program".
+
+use crate::block::{read, write, Formula, Refusal};
+use crate::level::simplify;
+use crate::polynomial::Polynomial;
+use crate::tree::Node;
+
+/// "a verdict (formula, always, unsatisfiable)"
+#[derive(Clone, Copy, Debug, PartialEq, Eq)]
+pub enum Verdict {
+    Formula,
+    Always,
+    Unsatisfiable,
+}
+
+#[derive(Clone, Debug)]
+pub struct Answer {
+    pub verdict: Verdict,
+    pub original: Formula,
+    pub simplified: Formula,
+    pub bytes: Vec<u8>,
+}
+
+/// "It reads at most 32,768 bytes of a block on standard input"
+pub const MOST_READ: usize = 32_768;
+
+/// The answer to lent input, with a lent output of the given length.
+pub fn answer(input: &[u8], output_length: usize) -> Result<Answer, Refusal> {
+    // 1: "lent output shorter than lent input"
+    if output_length < input.len() {
+        return Err(1);
+    }
+    let original = read(input)?;
+    let (verdict, simplified) = simplify_formula(&original);
+    let bytes = write(&simplified);
+    Ok(Answer { verdict, original, simplified, bytes })
+}
+
+/// The verdict and the new formula.
+pub fn simplify_formula(formula: &Formula) -> (Verdict, Formula) {
+    let tree = simplify(formula.variables, formula.tree.map(&mut |&k| formula.table[k].clone()));
+    let verdict = if tree.is_always() {
+        Verdict::Always
+    } else if tree.is_never() {
+        Verdict::Unsatisfiable
+    } else {
+        Verdict::Formula
+    };
+    (verdict, new_formula(formula.variables, &tree))
+}
+
+/// "The new block keeps n and lists the used normal forms by first use in the tree. ALWAYS is written as an
+/// AND with no children, UNSATISFIABLE as an OR with none, both with an empty table."
+fn new_formula(variables: usize, tree: &Node<Polynomial>) -> Formula {
+    let mut table: Vec<Polynomial> = vec![];
+    let tree = tree.map(&mut |form: &Polynomial| {
+        if let Some(number) = table.iter().position(|used| used == form) {
+            return number;
+        }
+        table.push(form.clone());
+        table.len() - 1
+    });
+    Formula { variables, table, tree }
+}
+
+/// "prints one line: one of the words FORMULA, ALWAYS, UNSATISFIABLE with atoms in, atoms out, polynomials
+/// in, polynomials out (table sizes); or REFUSED and the number. Except on refusal, a second line has the
+/// new block in lower-case hex pairs, one space apart."
+pub fn report(input: &[u8]) -> String {
+    // "the rest is not read"; the lent output is as long as what was read.
+    let input = &input[..input.len().min(MOST_READ)];
+    match answer(input, input.len()) {
+        Err(refusal) => format!("REFUSED {refusal}\n"),
+        Ok(answer) => {
+            let word = match answer.verdict {
+                Verdict::Formula => "FORMULA",
+                Verdict::Always => "ALWAYS",
+                Verdict::Unsatisfiable => "UNSATISFIABLE",
+            };
+            let pairs: Vec<String> = answer.bytes.iter().map(|byte| format!("{byte:02x}")).collect();
+            format!(
+                "{word} {} {} {} {}\n{}\n",
+                answer.original.tree.atoms(),
+                answer.simplified.tree.atoms(),
+                answer.original.table.len(),
+                answer.simplified.table.len(),
+                pairs.join(" ")
+            )
+        }
+    }
+}
+
+/// What a reader alone prints: `ACCEPTED`, or `REFUSED` and the number.
+pub fn read_report(input: &[u8]) -> String {
+    match read(&input[..input.len().min(MOST_READ)]) {
+        Err(refusal) => format!("REFUSED {refusal}\n"),
+        Ok(_) => "ACCEPTED\n".to_string(),
+    }
+}

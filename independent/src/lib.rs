@@ -1,0 +1,43 @@
+//! An independent reading of document 01: a reader, a simplifier and a writer for lift condition blocks.
+//! Plain lists and exact numbers, in document 01's order and words; slow where that is simpler.
+
+// "Signs"
+pub mod signs;
+
+// Signs of monomials and polynomials, and "Normal form"
+pub mod polynomial;
+
+// A formula as a tree of AND, OR and atoms
+pub mod tree;
+
+// "The block" and "Refusal numbers"
+pub mod block;
+
+// "Deducing p from q"
+pub mod deduce;
+
+// "Rounds over a list of atoms joined by AND"
+pub mod rounds;
+
+// "A level"
+pub mod level;
+
+// Bytes in, verdict and bytes out; "The program"
+pub mod answer;
+
+// "Conditions with known results"
+pub mod cases;
+
+// When a formula holds: what answers are checked against
+pub mod meaning;
+
+// Numbers from a seed, and what is made with them: corpora, and the self-check
+pub mod check;
+pub mod corpus;
+pub mod random;
+
+// The fixed edge blocks
+pub mod edge;
+
+// The claims that the book is held to
+pub mod book;

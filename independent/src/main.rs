@@ -1,0 +1,109 @@
+//! The command line: the program of document 01, the same over a stream of blocks, corpora and the check.
+//! Standard input to standard output; see README.md for the commands.
+
+use std::io::{self, Read, Write};
+use std::process::ExitCode;
+
+use independent::answer::{read_report, report, MOST_READ};
+use independent::cases::cases;
+use independent::{block, book, check, corpus, edge};
+
+const USAGE: &str =
+    "usage: independent [many | read | describe | corpus KIND SEED COUNT | book SEED COUNT | check SEED COUNT]\n\
+                     KIND is valid, damaged, edge or cases\n";
+
+fn main() -> ExitCode {
+    let arguments: Vec<String> = std::env::args().skip(1).collect();
+    let words: Vec<&str> = arguments.iter().map(String::as_str).collect();
+    let outcome = match words[..] {
+        [] => program(),
+        ["many"] => each_block(|_, block| report(block)),
+        ["read"] => each_block(|_, block| read_report(block)),
+        ["describe"] => each_block(|index, block| format!("{index} {}", read_report(block))),
+        ["corpus", kind, seed, count] => match (seed.parse(), count.parse()) {
+            (Ok(seed), Ok(count)) => write_corpus(kind, seed, count),
+            _ => usage(),
+        },
+        ["book", seed, count] => match (seed.parse(), count.parse()) {
+            (Ok(seed), Ok(count)) => write_claims(seed, count),
+            _ => usage(),
+        },
+        ["check", seed, count] => match (seed.parse(), count.parse()) {
+            (Ok(seed), Ok(count)) => run_check(seed, count),
+            _ => usage(),
+        },
+        _ => usage(),
+    };
+    match outcome {
+        Ok(code) => code,
+        Err(error) => {
+            eprintln!("independent: {error}");
+            ExitCode::FAILURE
+        }
+    }
+}
+
+fn usage() -> io::Result<ExitCode> {
+    eprint!("{USAGE}");
+    Ok(ExitCode::FAILURE)
+}
+
+/// "It reads at most 32,768 bytes of a block on standard input (no accepted block is as long; the rest is
+/// not read)"
+fn program() -> io::Result<ExitCode> {
+    let mut input = vec![];
+    io::stdin().lock().take(MOST_READ as u64).read_to_end(&mut input)?;
+    io::stdout().write_all(report(&input).as_bytes())?;
+    Ok(ExitCode::SUCCESS)
+}
+
+/// The lines for each block of a stream. A frame that is cut off gets the line CUT OFF and is the last.
+fn each_block(lines: fn(usize, &[u8]) -> String) -> io::Result<ExitCode> {
+    let mut input = vec![];
+    io::stdin().lock().read_to_end(&mut input)?;
+    let mut output = io::BufWriter::new(io::stdout().lock());
+    let mut rest = &input[..];
+    let mut index = 0;
+    while !rest.is_empty() {
+        let whole = rest.len() >= 2 && {
+            let length = usize::from(rest[0]) * 256 + usize::from(rest[1]);
+            rest.len() >= 2 + length
+        };
+        if !whole {
+            output.write_all(b"CUT OFF\n")?;
+            break;
+        }
+        let length = usize::from(rest[0]) * 256 + usize::from(rest[1]);
+        output.write_all(lines(index, &rest[2..2 + length]).as_bytes())?;
+        rest = &rest[2 + length..];
+        index += 1;
+    }
+    output.flush()?;
+    Ok(ExitCode::SUCCESS)
+}
+
+fn write_corpus(kind: &str, seed: u64, count: usize) -> io::Result<ExitCode> {
+    let blocks = match kind {
+        "valid" => corpus::valid(seed, count),
+        "damaged" => corpus::damaged(seed, count),
+        "edge" => edge::blocks().into_iter().map(|edge| edge.bytes).collect(),
+        "cases" => cases().iter().map(|case| block::write(&case.formula)).collect(),
+        _ => return usage(),
+    };
+    io::stdout().lock().write_all(&corpus::stream(&blocks))?;
+    Ok(ExitCode::SUCCESS)
+}
+
+fn write_claims(seed: u64, count: usize) -> io::Result<ExitCode> {
+    io::stdout().write_all(book::claims(seed, count).as_bytes())?;
+    Ok(ExitCode::SUCCESS)
+}
+
+fn run_check(seed: u64, count: usize) -> io::Result<ExitCode> {
+    let summary = check::check(seed, count);
+    for what in &summary.wrong {
+        println!("{what}");
+    }
+    println!("{}", summary.line());
+    Ok(if summary.wrong.is_empty() { ExitCode::SUCCESS } else { ExitCode::FAILURE })
+}
