@@ -12,6 +12,7 @@ use Rattle.rules.specs.Level.{Formula, simplify, open-level}
 use Rattle.rules.specs.Bits.{open-bits}
 use Rattle.rules.specs.Block.{open-block}
 use Rattle.rules.specs.Answer.{Answer, answered, formula, answer, open-answer}
+use Rattle.rules.specs.Report.{report, open-report}
 
 -- "Variables x, y, z in that order": the monomials.
 abbrev x¹ : ℕ
@@ -172,3 +173,15 @@ shortA = 0x11 ∷ 0x01 ∷ 0x01 ∷ 0x00 ∷ 0x11 ∷ 0x10 ∷ 0x00 ∷ 0x00 ∷
 pub bytes-of-A : answer 36 caseA ≡ answered formula shortA (record { atoms-in = 2; atoms-out = 1; polynomials-in = 2; polynomials-out = 1 })
 unfolding open-signs open-polynomial open-deduce open-rounds open-formula open-level open-bits open-block open-answer caseA shortA
 bytes-of-A = refl
+
+-- the two lines that the program prints for it
+unfoldable pub linesOfA : List ℕ
+linesOfA =
+    70 ∷ 79 ∷ 82 ∷ 77 ∷ 85 ∷ 76 ∷ 65 ∷ 32 ∷ 50 ∷ 32 ∷ 49 ∷ 32 ∷ 50 ∷ 32 ∷ 49 ∷ 10 ∷ 49 ∷ 49 ∷ 32 ∷ 48 ∷
+    49 ∷ 32 ∷ 48 ∷ 49 ∷ 32 ∷ 48 ∷ 48 ∷ 32 ∷ 49 ∷ 49 ∷ 32 ∷ 49 ∷ 48 ∷ 32 ∷ 48 ∷ 48 ∷ 32 ∷ 48 ∷ 48 ∷ 32 ∷
+    48 ∷ 48 ∷ 32 ∷ 49 ∷ 48 ∷ 32 ∷ 56 ∷ 52 ∷ 32 ∷ 48 ∷ 48 ∷ 32 ∷ 48 ∷ 48 ∷ 32 ∷ 48 ∷ 48 ∷ 32 ∷ 48 ∷ 56 ∷
+    32 ∷ 48 ∷ 48 ∷ 32 ∷ 48 ∷ 52 ∷ 10 ∷ []
+
+pub printed-for-A : report (answer 36 caseA) ≡ linesOfA
+unfolding open-signs open-polynomial open-deduce open-rounds open-formula open-level open-bits open-block open-answer open-report caseA linesOfA
+printed-for-A = refl

@@ -6,8 +6,9 @@ pub mod Formula
 pub mod Level
 pub mod Bits
 pub mod Block
-pub mod Answer
-pub mod Meaning
 pub mod Limits
-pub mod Cases
+pub mod Answer
+pub mod Report
+pub mod Meaning
 pub mod Demands
+pub mod Cases
