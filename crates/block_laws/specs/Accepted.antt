@@ -59,6 +59,7 @@ pub record Passed (bits : List Bool) (nodes : ℕ) (s s₁ : Stream) : Type 0 wh
   pub over : s .bits ≡ bits ++ s₁ .bits
   pub counted : s .allowed ≡ nodes + s₁ .allowed
 
+-- A reader that stands still went over nothing.
 pub passed-nothing : (s : Stream) → Passed [] 0 s s
 passed-nothing s = record { over = refl; counted = omega arith }
 

@@ -14,13 +14,9 @@ use lib.Pow.{pow-pos, pow-mono, mod-pow-add, high, areBytes}
 use lib.Seq.{take-at, drop-at, length-take-le}
 use Rattle.rules.specs.Signs.{bit}
 use Rattle.rules.specs.Bits.{isOne, field, value, unpack, packBytes, bytesFor, padded, pack}
+use Rattle.sign_laws.specs.Sets.{bit-below}
 
 -- ---- One bit.
-
-bit-below : (b : Bool) → bit b < 2
-unfolding bit
-bit-below true = omega arith
-bit-below false = omega arith
 
 isOne-bit : (b : Bool) → isOne (bit b) ≡ b
 unfolding isOne bit

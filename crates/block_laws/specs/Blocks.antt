@@ -16,7 +16,8 @@ use Rattle.rules.specs.Limits.{BlockWithin}
 use Rattle.block_laws.specs.Bits.{AllBytes, length-unpack, bytesFor-filled, few-added, pack-bytes, unpack-pack, pack-unpacked}
 use Rattle.block_laws.specs.Accepted.{stream}
 use Rattle.block_laws.specs.Body.{body-reads-back, BodyAccepted, body-accepted}
-use Rattle.block_laws.specs.Head.{HeadAllowed, head-read, head-accepted, headBits, HeadReads, head-reads-back, head-field-below, begins, same-head, short-refused, length-refused}
+use Rattle.block_laws.specs.Head.{HeadAllowed, head-read, head-accepted, headBits, HeadReads, head-reads-back, head-field-below, begins, same-head}
+use Rattle.block_laws.specs.Head.{short-refused, length-refused}
 use Rattle.block_laws.specs.Sizes.{length-block, block-below-32768}
 
 -- ---- What is written reads back.

@@ -10,7 +10,8 @@ use lib.ListN.{length, take, drop, length-append, length-drop}
 use borrow.Author.Tests.{lt-ltb, le-leb, ltb-true, leb-true}
 use Rattle.rules.specs.Polynomial.{Term, Polynomial}
 use Rattle.rules.specs.Bits.{field, value}
-use Rattle.rules.specs.Block.{Stream, read, require, afterwards, signed, readTerm, readTerms, readPolynomial, readTable, minusBit, writeTerm, writeTerms, writePolynomial, writeTable}
+use Rattle.rules.specs.Block.{Stream, read, require, afterwards, signed, readTerm, readTerms, readPolynomial, readTable, minusBit, writeTerm, writeTerms}
+use Rattle.rules.specs.Block.{writePolynomial, writeTable}
 use Rattle.rules.specs.Limits.{TermWithin, TermsWithin, no-terms, terms, PolynomialWithin, TableWithin, no-polynomials, polynomials}
 use Rattle.block_laws.specs.Bits.{length-field, drop-field, written-field, read-below}
 use Rattle.block_laws.specs.Accepted.{require-read, afterwards-read, same-read, stream, behind, Passed, passed-nothing, passed-both, passed-field}
@@ -173,6 +174,7 @@ unfolding writeTable
 more-polynomials-accepted first others =
     record { passed = passed-both (first .0) (others .passed); within = polynomials (first .1) (others .within); counted = ap suc (others .counted) }
 
+-- A table that is accepted is within the limits, and its bits are those that are written.
 pub table-accepted : (m n : ℕ) (s : Stream) {table : List Polynomial} {s₁ : Stream} → readTable m n s ≡ read table s₁ → TableAccepted n m s table s₁
 unfolding readTable
 table-accepted zero n s accepted =

@@ -12,7 +12,8 @@ use lib.ListN.{length, take, drop, length-append, length-drop}
 use borrow.Author.Tests.{lt-ltb, le-leb, ltb-true, leb-true, eqb-false, ne-eqb, not-true}
 use Rattle.rules.specs.Formula.{Parts, end, atom, and, or, Node, leaf, allOf, anyOf, before, alone, children, nodes}
 use Rattle.rules.specs.Bits.{field, value}
-use Rattle.rules.specs.Block.{NumberedAtom, Stream, Reading, refused, read, require, afterwards, readAtom, readJoin, byKind, readNodeBy, readParts, joined, readNode, writeParts}
+use Rattle.rules.specs.Block.{NumberedAtom, Stream, Reading, refused, read, require, afterwards, readAtom, readJoin, byKind, readNodeBy, readParts, joined, readNode}
+use Rattle.rules.specs.Block.{writeParts}
 use Rattle.rules.specs.Limits.{PartsWithin}
 use Rattle.block_laws.specs.Bits.{length-field, drop-field, written-field, read-below}
 use Rattle.block_laws.specs.Accepted.{refused≢read, require-read, afterwards-read, same-read, stream, behind, Passed, passed-nothing, passed-both, passed-field}

@@ -14,31 +14,31 @@ use Rattle.rules.specs.Polynomial.{Term, Polynomial, Board}
 use Rattle.rules.specs.Deduce.{Row, row, rows}
 use Rattle.deduction_laws.specs.Rows.{Tops, tops-none, tops, of-rows}
 
--- ---- the words
+-- ---- The words.
 
 -- "fall strictly from term to term"
 pub data Falls : Polynomial → Type 0 where
   falls-none : Falls []
   falls : {t : Term} {ts : Polynomial} → Tops (t .monomial) ts → Falls ts → Falls (t ∷ ts)
 
--- the coefficient of a monomial, if it is there
+-- The coefficient of a monomial, if it is there.
 unfoldable pub coefficientOf : ℕ → Polynomial → Option ℤ
 coefficientOf m [] = none
 coefficientOf m (t ∷ ts) = cond (eqb (t .monomial) m) (some (t .coefficient)) (coefficientOf m ts)
 
--- the coefficients a and b in the rows of a monomial
+-- The coefficients a and b in the rows of a monomial.
 unfoldable pub rowsOf : ℕ → List Row → List (ℤ × ℤ)
 rowsOf m [] = []
 rowsOf m (x ∷ xs) = cond (eqb (x .monomial) m) ((x .a, x .b) ∷ rowsOf m xs) (rowsOf m xs)
 
--- one row if the monomial is in p or in q, none if it is in neither
+-- One row if the monomial is in p or in q, none if it is in neither.
 unfoldable pub asRows : Option ℤ → Option ℤ → List (ℤ × ℤ)
 asRows none none = []
 asRows none (some b) = (pos 0, b) ∷ []
 asRows (some a) none = (a, pos 0) ∷ []
 asRows (some a) (some b) = (a, b) ∷ []
 
--- ---- what falls below m has no m
+-- ---- What falls below m has no m.
 
 lowered : {m n : ℕ} {p : Polynomial} → n < m → Tops n p → Tops m p
 lowered l tops-none = tops-none
@@ -50,7 +50,7 @@ absent falls-none tops-none = refl
 absent {m} (falls {t = u} {ts = us} k f) (tops l) =
     ap (λ (b : Bool). cond b (some (u .coefficient)) (coefficientOf m us)) (ne-eqb (u .monomial) m (λ e. omega (arith, l))) ∙ absent f (lowered l k)
 
--- ---- one more row: the rows of a monomial before and after, by the test that the row is one of them
+-- ---- One more row: the rows of a monomial before and after, by the test that the row is one of them.
 
 abbrev Clear : Option ℤ → Option ℤ → Type 0
 Clear x y = (x ≡ none) × (y ≡ none)
@@ -75,7 +75,7 @@ module _ (rs : List (ℤ × ℤ)) (x y : Option ℤ) (same : rs ≡ asRows x y) 
   more-of-both true a c clear = first (a, c) (clear refl)
   more-of-both false a c clear = same
 
--- ---- the law
+-- ---- The law.
 
 tail-falls : {t : Term} {ts : Polynomial} → Falls (t ∷ ts) → Tops (t .monomial) ts × Falls ts
 tail-falls (falls k f) = (k, f)
@@ -83,7 +83,7 @@ tail-falls (falls k f) = (k, f)
 clear : {n : ℕ} {p q : Polynomial} (m : ℕ) → Tops n p → Falls p → Tops n q → Falls q → eqb n m ≡ true → Clear (coefficientOf m p) (coefficientOf m q)
 clear {n} {p} {q} m k f l g e = subst (λ (m : ℕ). Clear (coefficientOf m p) (coefficientOf m q)) (eqb-true n m e) (absent f k, absent g l)
 
--- the rows of a monomial of p or q are one row with its coefficients, 0 if absent; there are none of any other monomial
+-- The rows of a monomial of p or q are one row with its coefficients, 0 if absent; there are none of any other monomial.
 pub rows-of : (board : Board) (p q : Polynomial) → Falls p → Falls q → (m : ℕ) → rowsOf m (rows board p q) ≡ asRows (coefficientOf m p) (coefficientOf m q)
 unfolding rowsOf coefficientOf asRows row
 rows-of board = of-rows board (λ p q xs. Falls p → Falls q → (m : ℕ) → rowsOf m xs ≡ asRows (coefficientOf m p) (coefficientOf m q)) (record {

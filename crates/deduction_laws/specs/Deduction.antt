@@ -1,32 +1,33 @@
 -- "Deducing p from q" is right: what the five bullets find of p holds, for any values of the monomials whose signs fit the board.
 -- A t of L gives p + tq ≥ 0, one of its interior p + tq > 0 if some monomial is strict; so p is found from the signs of t and q.
-use mathlib.Core.Path.{_≡_, refl, sym, ap, ap₂, _∙_, subst}
-use mathlib.Core.Bool.{Bool, true, false, not, _&&_, _||_, false≢true}
+use mathlib.Core.Path.{_≡_, refl, sym, ap, ap₂, _∙_}
+use mathlib.Core.Bool.{Bool, true, false, not, _&&_, false≢true}
 use mathlib.Core.List.{List, [], _∷_}
 use Prim.Native.Nat.{ℕ, zero, suc}
-use lib.Dec.{eqb}
 use lib.IntN.{ℤ, pos, negsuc, negℤ, _+ℤ_, _*ℤ_, negℤ-negℤ}
-use borrow.Author.Tests.{eqb-true}
 use Rattle.whole.specs.Solver.{#, con, _:+_, _:-_, _:*_, neg, solve}
-use Rattle.rules.specs.Signs.{Sign, negative, nought, positive, signOf, SignSet, empty, Kind, ∅, >0, =0, ≥0, <0, ≠0, ≤0, any, kind, named, sum, product, mirror, inside, open-signs}
+use Rattle.rules.specs.Signs.{Sign, negative, nought, positive, signOf, SignSet, Kind, ∅, >0, =0, ≥0, <0, ≠0, ≤0, any, kind, named, sum, product, mirror, inside}
+use Rattle.rules.specs.Signs.{open-signs}
 use Rattle.rules.specs.Polynomial.{Polynomial, Atom, Board, monomialSign}
-use Rattle.rules.specs.Deduce.{Fraction, denominator, Row, rows, isStrict, isZero, strict, Way, up, down, hasT, hasZero, hasPast, hasFrom, hasInner, hasInnerPast, found, fromStrict, fromWeak, fromEqual, finding, findingOf, anyEmpty, unlessEmpty, deduce}
+use Rattle.rules.specs.Deduce.{Fraction, denominator, Row, rows, isStrict, isZero, strict, Way, up, down, hasT, hasZero, hasPast, hasFrom, hasInner, hasInnerPast}
+use Rattle.rules.specs.Deduce.{found, fromStrict, fromWeak, fromEqual, finding, findingOf, anyEmpty, unlessEmpty, deduce}
 use Rattle.rules.specs.Meaning.{valueBy}
 use Rattle.sign_laws.specs.Booleans.{and-intro, never-both, and-first, and-second, or-cases, not-true}
-use Rattle.sign_laws.specs.Sets.{in-empty}
+use Rattle.sign_laws.specs.Lists.{Every, every-none, every}
+use Rattle.sign_laws.specs.Sets.{in-empty, not-empty}
 use Rattle.sign_laws.specs.Whole.{_∈_, ∈-sum, ∈-product, ∈-negation, ∈-intersect, ∈-full, by-sign, by-equal, without-factor, clash, wider}
 use Rattle.deduction_laws.specs.Fractions.{combined, combined-negated, gap, gap-turned, denominator-positive, zeroFraction, is-below}
 use Rattle.deduction_laws.specs.Ends.{Strength, weakly, strictly, signs, stronger}
 use Rattle.deduction_laws.specs.FractionSets.{Side, L, U, asked, Holds, one-row, Interior, past, from, interval}
 use Rattle.deduction_laws.specs.Exact.{has-t, has-zero, has-past, has-from, has-inner, has-inner-past}
-use Rattle.deduction_laws.specs.Rows.{total, total-a, total-b, Fitting, fitting-none, fitting, rows-fit, in-named}
+use Rattle.deduction_laws.specs.Rows.{total, total-a, total-b, Fitting, rows-fit, in-named}
 
--- for U the signs of L are exchanged
+-- For U the signs of L are exchanged.
 abbrev turned : Side → SignSet → SignSet
 turned L s = s
 turned U s = mirror s
 
--- ---- one row: a monomial's part of p + tq
+-- ---- One row: a monomial's part of p + tq.
 
 row-part : (a b v c d : ℤ) → a *ℤ v *ℤ d +ℤ c *ℤ (b *ℤ v) ≡ (a *ℤ d +ℤ c *ℤ b) *ℤ v
 row-part a b v c d = solve (a ∷ b ∷ v ∷ c ∷ d ∷ []) (# 0 :* # 2 :* # 4 :+ # 3 :* (# 1 :* # 2)) ((# 0 :* # 4 :+ # 3 :* # 1) :* # 2) tt
@@ -36,12 +37,12 @@ unfolding open-signs
 asked-fits L k = elim k [ ∅ ↦ refl | >0 ↦ refl | =0 ↦ refl | ≥0 ↦ refl | <0 ↦ refl | ≠0 ↦ refl | ≤0 ↦ refl | any ↦ refl ]
 asked-fits U k = elim k [ ∅ ↦ refl | >0 ↦ refl | =0 ↦ refl | ≥0 ↦ refl | <0 ↦ refl | ≠0 ↦ refl | ≤0 ↦ refl | any ↦ refl ]
 
--- what is asked of a t makes the part ≥ 0 (for U: ≤ 0)
+-- What is asked of a t makes the part ≥ 0 (for U: ≤ 0).
 weak-row : (side : Side) (t : Fraction) (x : Row) (v : ℤ) → v ∈ named (x .s) → combined t (x .a) (x .b) ∈ named (asked side (x .s))
     → combined t (x .a *ℤ v) (x .b *ℤ v) ∈ turned side 3
 weak-row side t x v f h = by-equal (row-part (x .a) (x .b) v (t .numerator) (denominator t)) (wider (∈-product h f) (asked-fits side (x .s)))
 
--- ---- between two t: a + tb is not 0, unless a and b are
+-- ---- Between two t: a + tb is not 0, unless a and b are.
 
 moved : (a b : ℤ) (t u : Fraction) → combined u a b *ℤ denominator t ≡ combined t a b *ℤ denominator u +ℤ b *ℤ gap t u
 moved a b t u = solve (a ∷ b ∷ t .numerator ∷ denominator t ∷ u .numerator ∷ denominator u ∷ [])
@@ -56,7 +57,7 @@ is-zero (pos zero) h = refl
 is-zero (pos (suc n)) h = clash h (by-sign {a = 1} positive refl refl) refl
 is-zero (negsuc n) h = clash h (by-sign {a = 4} negative refl refl) refl
 
--- if a + tb is 0 at t, then at a smaller t it has the sign of -b, and at a larger one the sign of b
+-- If a + tb is 0 at t, then at a smaller t it has the sign of -b, and at a larger one the sign of b.
 both-zero : (a b : ℤ) (small t large : Fraction) → gap small t ∈ 1 → gap t large ∈ 1
     → combined small a b ∈ 3 → combined large a b ∈ 3 → combined t a b ∈ 2 → isZero a && isZero b ≡ true
 unfolding open-signs isZero
@@ -74,7 +75,7 @@ zero-negated (pos zero) = refl
 zero-negated (pos (suc n)) = refl
 zero-negated (negsuc n) = refl
 
--- some s is > or <
+-- Some s is > or <.
 strict-kind : (X : Kind → Type 0) (k : Kind) → isStrict k ≡ true → X >0 → X <0 → X k
 unfolding isStrict
 strict-kind X ∅ e x y = absurd (false≢true e)
@@ -87,7 +88,7 @@ strict-kind X ≤0 e x y = absurd (false≢true e)
 strict-kind X any e x y = absurd (false≢true e)
 
 module _ (small t large : Fraction) (lo : gap small t ∈ 1) (hi : gap t large ∈ 1) where
-  -- a + tb has a sign of the set at all three
+  -- a + tb has a sign of the set at all three.
   abbrev Throughout : ℤ → ℤ → SignSet → Type 0
   Throughout a b s = (combined small a b ∈ s) × (combined t a b ∈ s) × (combined large a b ∈ s)
 
@@ -108,7 +109,7 @@ module _ (small t large : Fraction) (lo : gap small t ∈ 1) (hi : gap t large �
       turn : (u : Fraction) → combined u a b ∈ 6 → combined u (negℤ a) (negℤ b) ∈ 3
       turn u h = by-equal (combined-negated u a b) (∈-negation h)
 
-  -- a strict monomial that is one of p or q makes its part > 0 (for U: < 0)
+  -- A strict monomial that is one of p or q makes its part > 0 (for U: < 0).
   strong-row : (side : Side) (x : Row) (v : ℤ) → isStrict (x .s) ≡ true → isZero (x .a) && isZero (x .b) ≡ false → v ∈ named (x .s)
       → Throughout (x .a) (x .b) (named (asked side (x .s))) → combined t (x .a *ℤ v) (x .b *ℤ v) ∈ turned side 1
   unfolding open-signs
@@ -124,7 +125,7 @@ module _ (small t large : Fraction) (lo : gap small t ∈ 1) (hi : gap t large �
       of-negative L f h = ∈-product (below-zero (x .a) (x .b) used h) f
       of-negative U f h = ∈-product (above-zero (x .a) (x .b) used h) f
 
--- ---- all rows: p + tq
+-- ---- All rows: p + tq.
 
 sums : (a b p q c d : ℤ) → (a +ℤ p) *ℤ d +ℤ c *ℤ (b +ℤ q) ≡ (a *ℤ d +ℤ c *ℤ b) +ℤ (p *ℤ d +ℤ c *ℤ q)
 sums a b p q c d = solve (a ∷ b ∷ p ∷ q ∷ c ∷ d ∷ []) ((# 0 :+ # 2) :* # 5 :+ # 4 :* (# 1 :+ # 3)) (# 0 :* # 5 :+ # 4 :* # 1 :+ (# 2 :* # 5 :+ # 4 :* # 3)) tt
@@ -145,7 +146,7 @@ sum-in U weakly j = elim j [ weakly ↦ refl | strictly ↦ refl ]
 sum-in U strictly j = elim j [ weakly ↦ refl | strictly ↦ refl ]
 
 module _ (v : ℕ → ℤ) where
-  -- p + tq by the rows
+  -- p + tq by the rows.
   combinedRows : Fraction → List Row → ℤ
   combinedRows t xs = combined t (total (λ x. x .a) v xs) (total (λ x. x .b) v xs)
 
@@ -159,18 +160,18 @@ module _ (v : ℕ → ℤ) where
       (sums (x .a *ℤ v (x .monomial)) (x .b *ℤ v (x .monomial)) (total (λ x. x .a) v xs) (total (λ x. x .b) v xs) (t .numerator) (denominator t))
       (wider (∈-sum h k) (sum-in side i j))
 
-  -- a t of L makes it ≥ 0, a t of U ≤ 0
-  weak : (side : Side) (t : Fraction) {xs : List Row} → Fitting v xs → Holds side xs t → combinedRows t xs ∈ turned side 3
+  -- A t of L makes it ≥ 0, a t of U ≤ 0.
+  weak : (side : Side) (t : Fraction) {xs : List Row} → Every (Fitting v) xs → Holds side xs t → combinedRows t xs ∈ turned side 3
   unfolding combinedRows combinedRow total
-  weak side t fitting-none i = by-equal (nothing (t .numerator) (denominator t)) (zero-in side)
-  weak side t (fitting {x = x} {xs = xs} f fs) (one-row h i) = added side weakly weakly t x xs (weak-row side t x (v (x .monomial)) f h) (weak side t fs i)
+  weak side t every-none i = by-equal (nothing (t .numerator) (denominator t)) (zero-in side)
+  weak side t (every {a = x} {l = xs} f fs) (one-row h i) = added side weakly weakly t x xs (weak-row side t x (v (x .monomial)) f h) (weak side t fs i)
 
-  -- a t of the interior makes it > 0 (for U: < 0), if strict
-  strong : (side : Side) (small t large : Fraction) → gap small t ∈ 1 → gap t large ∈ 1 → {xs : List Row} → Fitting v xs → strict xs ≡ true
+  -- A t of the interior makes it > 0 (for U: < 0), if strict.
+  strong : (side : Side) (small t large : Fraction) → gap small t ∈ 1 → gap t large ∈ 1 → {xs : List Row} → Every (Fitting v) xs → strict xs ≡ true
       → Holds side xs small → Holds side xs t → Holds side xs large → combinedRows t xs ∈ turned side 1
   unfolding combinedRows combinedRow total strict
-  strong side small t large lo hi fitting-none e i₁ i i₂ = absurd (false≢true e)
-  strong side small t large lo hi (fitting {x = x} {xs = xs} f fs) e (one-row h₁ i₁) (one-row h i) (one-row h₂ i₂) =
+  strong side small t large lo hi every-none e i₁ i i₂ = absurd (false≢true e)
+  strong side small t large lo hi (every {a = x} {l = xs} f fs) e (one-row h₁ i₁) (one-row h i) (one-row h₂ i₂) =
       or-cases (isStrict (x .s) && used) (strict xs) e
       (λ k. added side strictly weakly t x xs (firmly (and-first (isStrict (x .s)) used k) (not-true (isZero (x .a) && isZero (x .b)) (and-second (isStrict (x .s)) used k)))
       (weak side t fs i))
@@ -182,20 +183,20 @@ module _ (v : ℕ → ℤ) where
       firmly : isStrict (x .s) ≡ true → isZero (x .a) && isZero (x .b) ≡ false → combinedRow t x ∈ turned side 1
       firmly k u = strong-row small t large lo hi side x (v (x .monomial)) k u f (h₁, h, h₂)
 
--- ---- p, from the signs of p + tq, of t and of q
+-- ---- p, from the signs of p + tq, of t and of q.
 
 given-back : (x y : ℤ) → x ≡ x +ℤ y +ℤ negℤ y
 given-back x y = solve (x ∷ y ∷ []) (# 0) (# 0 :+ # 1 :+ neg (# 1)) tt
 
--- p is (p + tq) less tq
+-- p is (p + tq) less tq.
 find : {g k w : SignSet} (t : Fraction) (p q : ℤ) → combined t p q ∈ g → t .numerator ∈ k → q ∈ w → p ∈ sum g (mirror (product k w))
 find t p q hg hk hw = without-factor (denominator-positive t) (by-equal (given-back (p *ℤ denominator t) (t .numerator *ℤ q)) (∈-sum hg (∈-negation (∈-product hk hw))))
 
--- on this side a p + tq of strength i, a t of the kind k and a q of the kind w give a p of strength o
+-- On this side a p + tq of strength i, a t of the kind k and a q of the kind w give a p of strength o.
 abbrev Gives : Side → Strength → Kind → Kind → Strength → Type 0
 Gives side i k w o = inside (sum (turned side (signs i)) (mirror (product (named k) (named w)))) (turned side (signs o)) ≡ true
 
--- ---- the five bullets
+-- ---- The five bullets.
 
 module _ (v : ℕ → ℤ) (board : Board) (fits : (m : ℕ) → v m ∈ monomialSign board m) (p q : Polynomial) (w : Kind) (hq : valueBy v q ∈ named w) where
   by-t : (i o : Strength) (side : Side) (k : Kind) → Gives side i k w o → (t : Fraction)
@@ -242,7 +243,7 @@ module _ (v : ℕ → ℤ) (board : Board) (fits : (m : ℕ) → v m ∈ monomia
       strong-t side any first (and-first (strict xs) (hasInner (interval side xs)) e) t i (∈-full (t .numerator)))
       (λ e. let (t, i) = has-t side xs .0 e in weak-t weakly side any second t i (∈-full (t .numerator)))
 
--- what the bullet for q's set finds of p holds
+-- What the bullet for q's set finds of p holds.
 pub finding-sound : (v : ℕ → ℤ) (board : Board) → ((m : ℕ) → v m ∈ monomialSign board m) → (p q : Polynomial) (w : Kind) → valueBy v q ∈ named w
     → valueBy v p ∈ findingOf w (rows board p q)
 unfolding findingOf finding open-signs
@@ -255,15 +256,9 @@ finding-sound v board fits p q ≠0 h = ∈-full (valueBy v p)
 finding-sound v board fits p q ≤0 h = ∈-intersect (from-weak v board fits p q ≤0 h L up refl refl) (from-weak v board fits p q ≤0 h U down refl refl)
 finding-sound v board fits p q any h = ∈-full (valueBy v p)
 
--- if q's sign is in q's set, then p's sign is in what is deduced of p; no set of the board may be empty
+-- If q's sign is in q's set, then p's sign is in what is deduced of p; no set of the board may be empty.
 pub deduce-sound : (v : ℕ → ℤ) (board : Board) → ((m : ℕ) → v m ∈ monomialSign board m) → anyEmpty board ≡ false
     → (p : Polynomial) (q : Atom) → valueBy v (q .polynomial) ∈ q .set → valueBy v p ∈ deduce board p q
 unfolding deduce unlessEmpty
-deduce-sound v board fits filled p q h = by (eqb (q .set) empty) refl
-  where
-    found-of-p : valueBy v p ∈ findingOf (kind (q .set)) (rows board p (q .polynomial))
-    found-of-p = finding-sound v board fits p (q .polynomial) (kind (q .set)) (in-named (q .set) h)
-
-    by : (b : Bool) → eqb (q .set) empty ≡ b → valueBy v p ∈ unlessEmpty (b || anyEmpty board) (findingOf (kind (q .set)) (rows board p (q .polynomial)))
-    by true e = in-empty (subst (λ (s : SignSet). valueBy v (q .polynomial) ∈ s) (eqb-true (q .set) empty e) h .sign)
-    by false e = rw filled found-of-p
+deduce-sound v board fits filled p q h =
+    rw (not-empty (q .set) (h .sign), filled) (finding-sound v board fits p (q .polynomial) (kind (q .set)) (in-named (q .set) h))

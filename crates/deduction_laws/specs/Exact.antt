@@ -1,20 +1,22 @@
 -- L and U are document 01's sets: each test of the book on an interval holds exactly if L (or U) has such a t as 01 asks for.
 -- One law for each test that the five bullets of "Deducing p from q" use, for both sides and both signs of t.
 use mathlib.Core.Path.{_≡_, ap, subst}
-use mathlib.Core.Bool.{Bool, true, not, _&&_}
+use mathlib.Core.Bool.{Bool, true, not, _&&_, and-eq-true-iff}
 use mathlib.Core.List.{List}
 use mathlib.Core.Logic.{_↔_}
 use lib.IntN.{ℤ, negℤ}
 use Rattle.rules.specs.Signs.{Kind, named, open-signs}
-use Rattle.rules.specs.Deduce.{Fraction, free, at, Interval, Row, endAtMost, atZero, Way, up, down, pastZero, reachesZero, hasT, hasZero, hasPast, hasFrom, hasInner, hasInnerPast}
-use Rattle.sign_laws.specs.Booleans.{and-intro, and-first, and-second, not-true}
+use Rattle.rules.specs.Deduce.{Fraction, free, at, Interval, Row, endAtMost, atZero, Way, up, down, pastZero, reachesZero, hasT, hasZero, hasPast, hasFrom, hasInner}
+use Rattle.rules.specs.Deduce.{hasInnerPast}
+use Rattle.sign_laws.specs.Booleans.{not-true}
 use Rattle.sign_laws.specs.Whole.{_∈_, ∈-negation, by-equal}
 use Rattle.deduction_laws.specs.Fractions.{zeroFraction, opposite, gap-opposite, _below_, is-below}
-use Rattle.deduction_laws.specs.Ends.{Strength, weakly, strictly, signs, Before, from-free, in-order, inOrder, through, through-weakly, oppositeEnd, opposite-order, opposite-end-twice, after-zero}
+use Rattle.deduction_laws.specs.Ends.{Strength, weakly, strictly, signs, Before, from-free, in-order, inOrder, through, through-weakly, oppositeEnd}
+use Rattle.deduction_laws.specs.Ends.{opposite-order, opposite-end-twice, after-zero}
 use Rattle.deduction_laws.specs.FractionSets.{Side, Holds, Interior, past, from, interval}
 use Rattle.deduction_laws.specs.Intervals.{Inside, interval-holds, Open, some-t, inner-t, open-by, open-by-inner}
 
--- ---- an interval turned about 0
+-- ---- An interval turned about 0.
 
 abbrev oppositeInterval : Interval → Interval
 oppositeInterval r = record { low = oppositeEnd (r .high); high = oppositeEnd (r .low); void = r .void }
@@ -46,17 +48,14 @@ opposite-interior {t = t} i = record {
   larger-above = opposite-below (i .smaller) t (i .smaller-below);
 }
 
--- ---- the tests on the ends
-
-both : (a b : Bool) → (a && b ≡ true) ↔ ((a ≡ true) × (b ≡ true))
-both a b = (λ e. (and-first a b e, and-second a b e), λ (p, q). and-intro p q)
+-- ---- The tests on the ends.
 
 abbrev opens : Strength → Interval → Bool
 opens weakly = hasT
 opens strictly = hasInner
 
 open-test : (o : Strength) (r : Interval) → (not (r .void) && inOrder o (r .low) (r .high) ≡ true) ↔ Open o r
-open-test o r = let test = both (not (r .void)) (inOrder o (r .low) (r .high)) in (
+open-test o r = let test = and-eq-true-iff (not (r .void)) (inOrder o (r .low) (r .high)) in (
   λ e. let k = test .0 e in record { not-void = not-true (r .void) (k .0); ends = in-order o (r .low) (r .high) .0 (k .1) },
   λ k. test .1 (ap not (k .not-void), in-order o (r .low) (r .high) .1 (k .ends)),
 )
@@ -81,7 +80,7 @@ is-facing weakly down r = in-order weakly (r .low) atZero
 is-facing strictly up r = in-order strictly atZero (r .high)
 is-facing strictly down r = in-order strictly (r .low) atZero
 
--- ---- what the tests find
+-- ---- What the tests find.
 
 abbrev ahead : Strength → Way → Kind
 ahead weakly = from
@@ -97,7 +96,7 @@ unfolding open-signs
 upward-sign weakly = (λ h. h, λ h. h)
 upward-sign strictly = (λ h. h, λ h. h)
 
--- what is found on the way up in the opposite interval is found on the way down in the interval
+-- What is found on the way up in the opposite interval is found on the way down in the interval.
 some-ahead : (o : Strength) (way : Way) (r : Interval) → Open weakly r → Facing o way r → (t : Fraction) × Inside r t × (t .numerator ∈ named (ahead o way))
 unfolding atZero
 some-ahead o up r k b = let (t, i, c) = some-t r atZero k b in (t, i, upward-sign o .0 (after-zero t .0 c))
@@ -126,7 +125,7 @@ interior-of {t = t} f i = record {
   larger-above = i .larger-above;
 }
 
--- ---- the tests of the five bullets, in document 01's words (said of L; U is the other side)
+-- ---- The tests of the five bullets, in document 01's words (said of L; U is the other side).
 
 module _ (side : Side) (rows : List Row) where
   holds : (t : Fraction) → Inside (interval side rows) t → Holds side rows t
@@ -137,7 +136,7 @@ module _ (side : Side) (rows : List Row) where
 
   has-ahead : (o : Strength) (way : Way)
       → (hasT (interval side rows) && faces o way (interval side rows) ≡ true) ↔ ((t : Fraction) × Holds side rows t × (t .numerator ∈ named (ahead o way)))
-  has-ahead o way = let r = interval side rows in let test = both (hasT r) (faces o way r) in (
+  has-ahead o way = let r = interval side rows in let test = and-eq-true-iff (hasT r) (faces o way r) in (
     λ e. let k = test .0 e in let (t, i, h) = some-ahead o way r (is-open weakly r .0 (k .0)) (is-facing o way r .0 (k .1)) in (t, holds t i, h),
     λ (t, i, h). test .1 (is-open weakly r .1 (open-by (held t i)), is-facing o way r .1 (facing-by o way r t (held t i) h)),
   )
@@ -153,8 +152,8 @@ module _ (side : Side) (rows : List Row) where
   pub has-zero : (hasZero (interval side rows) ≡ true) ↔ Holds side rows zeroFraction
   unfolding hasZero atZero
   has-zero = let r = interval side rows in
-      let first = both (not (r .void) && endAtMost (r .low) atZero) (endAtMost atZero (r .high)) in
-      let second = both (not (r .void)) (endAtMost (r .low) atZero) in (
+      let first = and-eq-true-iff (not (r .void) && endAtMost (r .low) atZero) (endAtMost atZero (r .high)) in
+      let second = and-eq-true-iff (not (r .void)) (endAtMost (r .low) atZero) in (
         λ e. let k = first .0 e in let j = second .0 (k .0) in holds zeroFraction
             (record { not-void = not-true (r .void) (j .0); over = in-order weakly (r .low) atZero .0 (j .1); under = in-order weakly atZero (r .high) .0 (k .1) }),
         λ h. let i = held zeroFraction h in
@@ -182,7 +181,7 @@ module _ (side : Side) (rows : List Row) where
   pub has-inner-past : (way : Way)
       → (hasInnerPast way (interval side rows) ≡ true) ↔ ((t : Fraction) × Interior (Holds side rows) t × (t .numerator ∈ named (past way)))
   unfolding hasInnerPast
-  has-inner-past way = let r = interval side rows in let test = both (hasInner r) (pastZero way r) in (
+  has-inner-past way = let r = interval side rows in let test = and-eq-true-iff (hasInner r) (pastZero way r) in (
     λ e. let k = test .0 e in let (t, i, h) = inner-ahead way r (is-open strictly r .0 (k .0)) (is-facing strictly way r .0 (k .1)) in (t, interior-of holds i, h),
     λ (t, i, h). test .1 (is-open strictly r .1 (open-by-inner (interior-of held i)), is-facing strictly way r .1 (facing-by strictly way r t (held t (i .held)) h)),
   )

@@ -6,6 +6,7 @@ use Rattle.rules.specs.Deduce.{Fraction, Row, Interval, everyT, intervalL, inte
 use Rattle.sign_laws.specs.Whole.{_∈_}
 use Rattle.deduction_laws.specs.Fractions.{combined, _below_}
 
+-- The two sets of 01.
 pub data Side : Type 0 where
   L U : Side
 
@@ -44,7 +45,7 @@ pub record Interior (Set : Fraction → Type 0) (t : Fraction) : Type 0 where
   pub larger-held : Set larger
   pub larger-above : t below larger
 
--- the signs of a t above 0 (up) or below 0 (down); of a t ≥ 0 (up) or ≤ 0 (down)
+-- The signs of a t above 0 (up) or below 0 (down); of a t ≥ 0 (up) or ≤ 0 (down).
 abbrev pub past : Way → Kind
 past up = >0
 past down = <0
@@ -53,7 +54,7 @@ abbrev pub from : Way → Kind
 from up = ≥0
 from down = ≤0
 
--- the interval that the book computes for L and for U
+-- The interval that the book computes for L and for U.
 abbrev pub interval : Side → List Row → Interval
 interval L rows = intervalL everyT rows
 interval U rows = intervalU everyT rows

@@ -1,7 +1,7 @@
 -- What an interval of the book holds, and when it holds a t, one of a given sign, or one with a smaller and a larger beside it.
 -- `Inside r t` is the meaning of an interval; the tests of the book are about its two ends.
 use mathlib.Core.Path.{_≡_, refl, sym, ap, _∙_}
-use mathlib.Core.Bool.{Bool, true, false, not, true≢false, _||_}
+use mathlib.Core.Bool.{false, not}
 use mathlib.Core.List.{List, [], _∷_}
 use mathlib.Core.Logic.{_↔_}
 use Prim.Native.Nat.{ℕ, zero, suc}
@@ -12,20 +12,23 @@ use borrow.Author.Tests.{not-false}
 use Rattle.whole.specs.Solver.{#, con, _:+_, _:-_, _:*_, neg, solve}
 use Rattle.rules.specs.Signs.{Kind, ∅, >0, =0, ≥0, <0, ≠0, ≤0, any, named, open-signs}
 use Rattle.rules.specs.Deduce.{Fraction, denominator, End, free, at, Interval, higher, cutNotNegative, cutNotPositive, cutL, cutU, Row, everyT, intervalL, intervalU}
+use Rattle.sign_laws.specs.Booleans.{neither}
 use Rattle.sign_laws.specs.Whole.{_∈_, ∈-product, ∈-negation, ∈-intersect, ∈-full, by-equal, wider, without-factor}
-use Rattle.deduction_laws.specs.Fractions.{combined, combined-negated, gap, denominator-positive, not-negative, zeroFraction, oneMore, one-more, oneLess, one-less, between, gap-to-between, gap-from-between, is-below}
-use Rattle.deduction_laws.specs.Ends.{Strength, weakly, strictly, Before, from-free, to-free, apart, gap-of, after-higher, before-lower, as-weak, to-itself, through}
+use Rattle.deduction_laws.specs.Fractions.{combined, combined-negated, gap, denominator-positive, not-negative, zeroFraction, oneMore, one-more, oneLess}
+use Rattle.deduction_laws.specs.Fractions.{one-less, between, gap-to-between, gap-from-between, is-below}
+use Rattle.deduction_laws.specs.Ends.{Strength, weakly, strictly, Before, from-free, to-free, apart, gap-of, after-higher, before-lower, as-weak, to-itself}
+use Rattle.deduction_laws.specs.Ends.{through}
 use Rattle.deduction_laws.specs.FractionSets.{Side, L, U, asked, Holds, no-rows, one-row, Interior, interval}
 
--- ---- the fractions of an interval
+-- ---- The fractions of an interval.
 
--- not void, and between the ends
+-- Not void, and between the ends.
 pub record Inside (r : Interval) (t : Fraction) : Type 0 where
   pub not-void : r .void ≡ false
   pub over : Before weakly (r .low) (at t)
   pub under : Before weakly (at t) (r .high)
 
--- ---- a cut holds what passes its condition
+-- ---- A cut holds what passes its condition.
 
 flat : (a : ℤ) (t : Fraction) → combined t a (pos 0) ≡ a *ℤ denominator t
 flat a t = solve (a ∷ t .numerator ∷ denominator t ∷ []) (# 0 :* # 2 :+ # 1 :* con (pos 0)) (# 0 :* # 2) tt
@@ -36,10 +39,6 @@ rising a n t = solve (a ∷ pos (suc n) ∷ t .numerator ∷ denominator t ∷ [
 falling : (a : ℤ) (n : ℕ) (t : Fraction) → combined t a (negsuc n) ≡ gap t (record { numerator = a; less = n })
 falling a n t = solve (a ∷ pos (suc n) ∷ t .numerator ∷ denominator t ∷ []) (# 0 :* # 3 :+ # 2 :* neg (# 1)) (# 0 :* # 3 :- # 2 :* # 1) tt
 
-neither : (a b : Bool) → (a || b ≡ false) ↔ ((a ≡ false) × (b ≡ false))
-neither true b = (λ e. absurd (true≢false e), λ (e, f). e)
-neither false b = (λ e. (refl, e), λ (e, f). f)
-
 below-zero : (a : ℤ) → leZ a (negsuc 0) ≡ not (nonNeg a)
 below-zero (pos n) = refl
 below-zero (negsuc n) = leb·zero n
@@ -47,7 +46,7 @@ below-zero (negsuc n) = leb·zero n
 not-below-zero : (a : ℤ) → (leZ a (negsuc 0) ≡ false) ↔ (a ∈ 3)
 not-below-zero a = (λ e. not-negative a .0 (not-false (nonNeg a) (sym (below-zero a) ∙ e)), λ h. below-zero a ∙ ap not (not-negative a .1 h))
 
--- a cut by a + tb ≥ 0 leaves just the t that have this
+-- A cut by a + tb ≥ 0 leaves just the t that have this.
 pub cut-not-negative : (a b : ℤ) (r : Interval) (t : Fraction) → Inside (cutNotNegative a b r) t ↔ ((combined t a b ∈ 3) × Inside r t)
 unfolding cutNotNegative open-signs
 cut-not-negative a (pos zero) r t = (
@@ -73,7 +72,7 @@ cut-not-negative a (negsuc n) r t = let u : Fraction = record { numerator = a; l
   λ (h, i). record { not-void = i .not-void; over = i .over; under = before-lower (r .high) u .1 (i .under, apart (by-equal (sym (falling a n t)) h)) },
 )
 
--- and a cut by a + tb ≤ 0
+-- And a cut by a + tb ≤ 0.
 pub cut-not-positive : (a b : ℤ) (r : Interval) (t : Fraction) → Inside (cutNotPositive a b r) t ↔ ((combined t a b ∈ 6) × Inside r t)
 unfolding cutNotPositive open-signs
 cut-not-positive a b r t = let cut = cut-not-negative (negℤ a) (negℤ b) r t in (
@@ -81,7 +80,7 @@ cut-not-positive a b r t = let cut = cut-not-negative (negℤ a) (negℤ b) r t 
   λ (h, i). cut .1 (by-equal (combined-negated t a b) (∈-negation h), i),
 )
 
--- ---- the cuts of L and U leave just the t that have what is asked
+-- ---- The cuts of L and U leave just the t that have what is asked.
 
 abbrev cut : Side → Kind → ℤ → ℤ → Interval → Interval
 cut L = cutL
@@ -141,19 +140,19 @@ in-everyT : (t : Fraction) → Inside everyT t
 unfolding everyT
 in-everyT t = record { not-void = refl; over = from-free; under = to-free }
 
--- the interval that the book computes holds just the t of the set
+-- The interval that the book computes holds just the t of the set.
 pub interval-holds : (side : Side) (xs : List Row) (t : Fraction) → Inside (interval side xs) t ↔ Holds side xs t
 interval-holds L xs t = let from = interval-from L everyT xs t in (λ i. from .0 i .0, λ h. from .1 (h, in-everyT t))
 interval-holds U xs t = let from = interval-from U everyT xs t in (λ i. from .0 i .0, λ h. from .1 (h, in-everyT t))
 
--- ---- an interval holds a t if its ends are in order
+-- ---- An interval holds a t if its ends are in order.
 
--- not void, and the ends in order
+-- Not void, and the ends in order.
 pub record Open (o : Strength) (r : Interval) : Type 0 where
   pub not-void : r .void ≡ false
   pub ends : Before o (r .low) (r .high)
 
--- as high a t as is needed: the upper end, or where that is free one past the lower end
+-- As high a t as is needed: the upper end, or where that is free one past the lower end.
 abbrev top : End → End → Fraction
 top x (at u) = u
 top free free = zeroFraction
@@ -169,7 +168,7 @@ top-after x (at u) z lies b = b
 top-after free free z lies b = as-weak (lies zeroFraction from-free)
 top-after (at t) free z lies b = as-weak (lies (oneMore t) (apart (one-more t)))
 
--- the higher of two lower ends, and a t at it that is below the top
+-- The higher of two lower ends, and a t at it that is below the top.
 abbrev highest : End → End → End
 highest x free = x
 highest x (at t) = higher x t
@@ -190,7 +189,7 @@ foot-below : (x y : End) → Before strictly x y → Before strictly (at (foot x
 foot-below free y b = apart (one-less (top free y))
 foot-below (at u) y b = top-after (at u) y (at u) (λ w c. c) b
 
--- a t of the interval, past e if the upper end is
+-- A t of the interval, past e if the upper end is.
 pub some-t : {o : Strength} (r : Interval) (e : End) → Open weakly r → Before o e (r .high) → (t : Fraction) × Inside r t × Before o e (at t)
 some-t r e k b = let floor = highest (r .low) e in (
   top floor (r .high),
@@ -202,7 +201,7 @@ some-t r e k b = let floor = highest (r .low) e in (
   top-after floor (r .high) e (λ w c. after-highest (r .low) e .0 c .1) b,
 )
 
--- between two fractions of the interval lies one of its interior
+-- Between two fractions of the interval lies one of its interior.
 between-inner : (r : Interval) (f u : Fraction) → r .void ≡ false → Before weakly (r .low) (at f) → Before strictly (at f) (at u) → Before weakly (at u) (r .high)
     → Interior (Inside r) (between f u)
 between-inner r f u v l b h = record {
@@ -221,7 +220,7 @@ between-inner r f u v l b h = record {
     down : Before strictly (at (between f u)) (at u)
     down = apart (by-equal (gap-from-between f u) (gap-of b))
 
--- a t of the interior, past e if the upper end is
+-- A t of the interior, past e if the upper end is.
 pub inner-t : (r : Interval) (e : End) → Open strictly r → Before strictly e (r .high) → (t : Fraction) × Interior (Inside r) t × Before strictly e (at t)
 inner-t r e k b =
     let floor = highest (r .low) e in
@@ -232,10 +231,11 @@ inner-t r e k b =
     let inner = between-inner r f u (k .not-void) (after .0) rises (top-under floor (r .high)) in
     (between f u, inner, through (after .1) (apart (by-equal (gap-to-between f u) (gap-of rises))))
 
--- and back: the ends of an interval that holds a t are in order, strictly if t is in the interior
+-- And back: the ends of an interval that holds a t are in order.
 pub open-by : {r : Interval} {t : Fraction} → Inside r t → Open weakly r
 open-by i = record { not-void = i .not-void; ends = through (i .over) (i .under) }
 
+-- Strictly, if t is in the interior.
 pub open-by-inner : {r : Interval} {t : Fraction} → Interior (Inside r) t → Open strictly r
 open-by-inner {t = t} i =
     let rises : Before strictly (at (i .smaller)) (at t) = apart (is-below (i .smaller) t .0 (i .smaller-below)) in

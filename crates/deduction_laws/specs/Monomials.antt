@@ -11,18 +11,18 @@ use lib.Pow.{pow-add}
 use lib.Arith.{digits-lt, digits-div, digits-mod, mod-mul}
 use Rattle.rules.specs.Polynomial.{exponent}
 
--- the exponents of n variables, the first variable's first
+-- The exponents of n variables, the first variable's first.
 unfoldable pub exponents : ℕ → ℕ → List ℕ
 exponents zero m = []
 exponents (suc n) m = exponent m n ∷ exponents n m
 
--- the first place where two lists differ decides
+-- The first place where two lists differ decides.
 infix 4 _precedes_
 pub data _precedes_ : List ℕ → List ℕ → Type 0 where
   here : {x y : ℕ} {xs ys : List ℕ} → x < y → (x ∷ xs) precedes (y ∷ ys)
   further : {x : ℕ} {xs ys : List ℕ} → xs precedes ys → (x ∷ xs) precedes (x ∷ ys)
 
--- ---- the digits of a number to the base 16
+-- ---- The digits of a number to the base 16.
 
 sixteen-positive : (k : ℕ) → 0 < 16 ^ k
 sixteen-positive k = one-le-pow k 16 (omega arith)
@@ -34,7 +34,7 @@ digits m n = ap (λ (c : ℕ). m % c) (pow-suc 16 n ∙ mul-comm (16 ^ n) 16) �
 rest-small : (m n : ℕ) → m % 16 ^ n < 16 ^ n
 rest-small m n = mod-lt m (sixteen-positive n)
 
--- ---- one digit before the rest
+-- ---- One digit before the rest.
 
 module _ (x y a b c : ℕ) (ha : a < c) (hb : b < c) where
   equal-digit : x * c + a ≡ y * c + b → (x ≡ y) × (a ≡ b)
@@ -77,29 +77,30 @@ equal-lists (suc n) m m′ = (
       digits m n ∙ ap₂ (λ (x a : ℕ). x * 16 ^ n + a) first (equal-lists n m m′ .1 others) ∙ sym (digits m′ n),
 )
 
--- ---- the laws
+-- ---- The laws.
 
--- of two monomials over n variables the one is below the other exactly if its exponents precede the other's
+-- Of two monomials over n variables the one is below the other exactly if its exponents precede the other's.
 pub packing-keeps-order : (n : ℕ) {m m′ : ℕ} → m < 16 ^ n → m′ < 16 ^ n → (m < m′) ↔ (exponents n m precedes exponents n m′)
 packing-keeps-order n {m} {m′} h h′ = (
   λ l. in-order n m m′ .0 (subst₂ (λ (a b : ℕ). a < b) (sym (mod-eq-of-lt h)) (sym (mod-eq-of-lt h′)) l),
   λ l. subst₂ (λ (a b : ℕ). a < b) (mod-eq-of-lt h) (mod-eq-of-lt h′) (in-order n m m′ .1 l),
 )
 
--- and they are the same exactly if their exponents are
+-- And they are the same exactly if their exponents are.
 pub packing-keeps-all : (n : ℕ) {m m′ : ℕ} → m < 16 ^ n → m′ < 16 ^ n → (m ≡ m′) ↔ (exponents n m ≡ exponents n m′)
 packing-keeps-all n {m} {m′} h h′ = (
   λ e. ap (exponents n) e,
   λ e. sym (mod-eq-of-lt h) ∙ equal-lists n m m′ .1 e ∙ mod-eq-of-lt h′,
 )
 
--- ---- the monomial of one variable
+-- ---- The monomial of one variable.
 
--- the variable that is followed by k others has the exponent 1 in 16 ^ k, all others 0
+-- The variable that is followed by k others has the exponent 1 in 16 ^ k.
 pub exponent-own : (k : ℕ) → exponent (16 ^ k) k ≡ 1
 unfolding exponent
 exponent-own k = ap (λ (n : ℕ). n % 16) (div-self (sixteen-positive k))
 
+-- The variables behind it have the exponent 0.
 pub exponent-behind : (k j : ℕ) → j < k → exponent (16 ^ k) j ≡ 0
 unfolding exponent
 exponent-behind k j h = ap (λ (n : ℕ). n / 16 ^ j % 16) parts ∙ ap (λ (n : ℕ). n % 16) (mul-div-cancel (16 ^ (k - suc j) * 16) (sixteen-positive j))
@@ -111,6 +112,7 @@ exponent-behind k j h = ap (λ (n : ℕ). n / 16 ^ j % 16) parts ∙ ap (λ (n :
     parts : 16 ^ k ≡ 16 ^ (k - suc j) * 16 * 16 ^ j
     parts = ap (λ (n : ℕ). 16 ^ n) (split k j h) ∙ pow-add 16 (suc (k - suc j)) j ∙ ap (λ (n : ℕ). n * 16 ^ j) (pow-suc 16 (k - suc j))
 
+-- And so have those before it.
 pub exponent-before : (k j : ℕ) → k < j → exponent (16 ^ k) j ≡ 0
 unfolding exponent
 exponent-before k j h = ap (λ (n : ℕ). n % 16) (div-eq-of-lt larger)

@@ -1,36 +1,34 @@
 -- The laws of deduction at whole numbers: readings of the variables whose signs fit the board.
 -- A polynomial's sign at the readings is in what its terms give, and in what is deduced from an atom that holds there.
-use mathlib.Core.Path.{_≡_, refl, sym, ap, ap₂, _∙_, subst}
-use mathlib.Core.Bool.{Bool, true, false, _||_}
+use mathlib.Core.Path.{_≡_, refl, sym, ap, ap₂, _∙_}
+use mathlib.Core.Bool.{true, false}
 use mathlib.Core.List.{List, [], _∷_}
 use Prim.Native.Nat.{ℕ, zero, suc, _-_, _^_, _≤_, _<_}
 use native.Mathlib.Omega.{arith}
-use lib.Dec.{eqb}
 use lib.IntN.{ℤ, pos, one, pow, _*ℤ_, *ℤ-one, +ℤ-idr}
 use lib.ListN.{length, getD}
-use borrow.Author.Tests.{eqb-true}
 use Rattle.whole.specs.Differences.{one-*ℤ, *ℤ-assoc}
-use Rattle.rules.specs.Signs.{signOf, positive, SignSet, empty, open-signs}
+use Rattle.rules.specs.Signs.{signOf, positive, SignSet, open-signs}
 use Rattle.rules.specs.Polynomial.{Polynomial, Atom, Board, exponent, monomialSignFrom, monomialSign, byTerms, variable}
 use Rattle.rules.specs.Deduce.{anyEmpty, deduce}
 use Rattle.rules.specs.Meaning.{monomialAt, valueBy, signAt, atomHolds}
-use Rattle.sign_laws.specs.Sets.{_In_, in-empty}
+use Rattle.sign_laws.specs.Sets.{_In_, not-empty}
 use Rattle.sign_laws.specs.Whole.{_∈_, by-sign, by-equal}
 use Rattle.deduction_laws.specs.Monomials.{exponent-own, exponent-behind, exponent-before}
 use Rattle.deduction_laws.specs.Terms.{multiplied-sound, terms-sound}
 use Rattle.deduction_laws.specs.Deduction.{deduce-sound}
 
--- each reading has a sign of its variable's set
+-- Each reading has a sign of its variable's set.
 pub data Fits : List ℤ → Board → Type 0 where
   no-readings : Fits [] []
   reading : {x : ℤ} {set : SignSet} {xs : List ℤ} {board : Board} → x ∈ set → Fits xs board → Fits (x ∷ xs) (set ∷ board)
 
--- there is a reading for each variable of the board
+-- There is a reading for each variable of the board.
 pub same-length : {xs : List ℤ} {board : Board} → Fits xs board → length xs ≡ length board
 same-length no-readings = refl
 same-length (reading h hs) = ap suc (same-length hs)
 
--- ---- the monomials have signs of the board
+-- ---- The monomials have signs of the board.
 
 monomial-from : (m : ℕ) {xs : List ℤ} {board : Board} → Fits xs board → {z : ℤ} {sofar : SignSet} → z ∈ sofar → z *ℤ monomialAt xs m ∈ monomialSignFrom sofar board m
 unfolding monomialAt monomialSignFrom one
@@ -39,35 +37,31 @@ monomial-from m (reading {x} {set} {xs} {board} k ks) {z} h =
     by-equal (sym (*ℤ-assoc z (pow x (exponent m (length xs))) (monomialAt xs m)) ∙ ap (λ (n : ℕ). z *ℤ pow x (exponent m n) *ℤ monomialAt xs m) (same-length ks))
     (monomial-from m ks (multiplied-sound (exponent m (length board)) h k))
 
--- each monomial has a sign of its set on the board
+-- Each monomial has a sign of its set on the board.
 pub monomial-sound : {xs : List ℤ} {board : Board} → Fits xs board → (m : ℕ) → monomialAt xs m ∈ monomialSign board m
 unfolding monomialSign open-signs one
 monomial-sound {xs} fit m = by-equal (sym (one-*ℤ (monomialAt xs m))) (monomial-from m fit {z = pos 1} (by-sign positive refl refl))
 
--- no set of a board that readings fit is empty
+-- No set of a board that readings fit is empty.
 pub none-empty : {xs : List ℤ} {board : Board} → Fits xs board → anyEmpty board ≡ false
 unfolding anyEmpty
 none-empty no-readings = refl
-none-empty (reading {x} {set} {board = board} h hs) = by (eqb set empty) refl ∙ none-empty hs
-  where
-    by : (b : Bool) → eqb set empty ≡ b → b || anyEmpty board ≡ anyEmpty board
-    by true e = in-empty (subst (λ (s : SignSet). x ∈ s) (eqb-true set empty e) h .sign)
-    by false e = refl
+none-empty (reading {set = set} h hs) = rw (not-empty set (h .sign), none-empty hs)
 
--- ---- the laws at the readings
+-- ---- The laws at the readings.
 
--- a polynomial's sign is in the set that its terms give
+-- A polynomial's sign is in the set that its terms give.
 pub by-terms : {xs : List ℤ} {board : Board} → Fits xs board → (p : Polynomial) → signAt xs p In byTerms board p
 unfolding signAt
 by-terms {xs} {board} fit p = terms-sound (monomialAt xs) board (monomial-sound fit) p .sign
 
--- if the atom q holds, p's sign is in the set that is deduced of p
+-- If the atom q holds, p's sign is in the set that is deduced of p.
 pub by-deduction : {xs : List ℤ} {board : Board} → Fits xs board → (p : Polynomial) (q : Atom) → atomHolds (signAt xs) q ≡ true → signAt xs p In deduce board p q
 unfolding signAt atomHolds
 by-deduction {xs} {board} fit p q h =
     deduce-sound (monomialAt xs) board (monomial-sound fit) (none-empty fit) p q (record { sign = record { is = h } }) .sign
 
--- ---- the sign of a variable is the sign of its reading
+-- ---- The sign of a variable is the sign of its reading.
 
 no-exponents : (k : ℕ) (xs : List ℤ) → length xs ≤ k → monomialAt xs (16 ^ k) ≡ one
 unfolding monomialAt one pow
@@ -82,7 +76,7 @@ later-variable : (k : ℕ) (x : ℤ) (xs : List ℤ) → k < length xs → monom
 unfolding monomialAt pow
 later-variable k x xs h = ap (λ (e : ℕ). pow x e *ℤ monomialAt xs (16 ^ k)) (exponent-before k (length xs) h) ∙ one-*ℤ (monomialAt xs (16 ^ k))
 
--- the monomial of variable i has its reading as value
+-- The monomial of variable i has its reading as value.
 pub variable-at : (xs : List ℤ) (i : ℕ) → i < length xs → monomialAt xs (16 ^ (length xs - suc i)) ≡ getD xs i (pos 0)
 variable-at [] i h = absurd (omega arith)
 variable-at (x ∷ xs) zero h = ap (λ (k : ℕ). monomialAt (x ∷ xs) (16 ^ k)) (one-less (length xs)) ∙ first-variable x xs
@@ -95,7 +89,7 @@ variable-at (x ∷ xs) (suc i) h = ap (λ (k : ℕ). monomialAt (x ∷ xs) (16 ^
     both-less : (n i : ℕ) → suc n - suc (suc i) ≡ n - suc i
     both-less n i = omega arith
 
--- and so the sign of a variable
+-- And so the sign of a variable.
 pub variable-sign : (xs : List ℤ) {n i : ℕ} → length xs ≡ n → i < n → signAt xs (variable n i) ≡ signOf (getD xs i (pos 0))
 unfolding signAt valueBy variable one
 variable-sign xs {n} {i} e h = ap signOf (+ℤ-idr (pos 1 *ℤ monomialAt xs (16 ^ (n - suc i))) ∙ one-*ℤ (monomialAt xs (16 ^ (n - suc i)))

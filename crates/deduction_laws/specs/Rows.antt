@@ -13,11 +13,12 @@ use Rattle.rules.specs.Signs.{SignSet, kind, named}
 use Rattle.rules.specs.Polynomial.{Term, Polynomial, Board, monomialSign}
 use Rattle.rules.specs.Deduce.{Row, row, rowsOfQ, ofThree, rowsFrom, rows}
 use Rattle.rules.specs.Meaning.{valueBy}
+use Rattle.sign_laws.specs.Lists.{Every, every-none, every}
 use Rattle.sign_laws.specs.Whole.{_∈_, ∈-full}
 
--- ---- one induction for all that holds of the rows
+-- ---- One induction for all that holds of the rows.
 
--- m is above the first monomial of a polynomial, if that has one
+-- m is above the first monomial of a polynomial, if that has one.
 pub data Tops (m : ℕ) : Polynomial → Type 0 where
   tops-none : Tops m []
   tops : {u : Term} {us : Polynomial} → u .monomial < m → Tops m (u ∷ us)
@@ -29,7 +30,7 @@ of-three P true second x y z f g h = f refl
 of-three P false true x y z f g h = g refl
 of-three P false false x y z f g h = h refl refl
 
--- what holds of no rows, and is kept by a row of p's term, of q's term and of a term of each, holds of the rows of p and q
+-- What holds of no rows, and is kept by a row of p's term, of q's term and of a term of each, holds of the rows of p and q.
 pub record Kept (board : Board) (P : Polynomial → Polynomial → List Row → Type 0) : Type 0 where
   pub none : P [] [] []
   pub mine : (t : Term) (p q : Polynomial) (xs : List Row) → Tops (t .monomial) q → P p q xs
@@ -57,14 +58,15 @@ module _ (board : Board) (P : Polynomial → Polynomial → List Row → Type 0)
       above : (m n : ℕ) → (m ≡ n → ⊥) → m ≤ n → m < n
       above m n d l = omega arith
 
+  -- What is kept holds of the rows of p and q.
   pub of-rows : (p q : Polynomial) → P p q (rows board p q)
   unfolding rows
   of-rows [] q = of-q q
   of-rows (t ∷ ts) q = of-term t ts (λ rest. rows board ts rest) (of-rows ts) q
 
--- ---- the rows add up to p and q
+-- ---- The rows add up to p and q.
 
--- a column of the rows, each coefficient times its monomial's value, added up
+-- A column of the rows, each coefficient times its monomial's value, added up.
 unfoldable pub total : (Row → ℤ) → (ℕ → ℤ) → List Row → ℤ
 total column v [] = pos 0
 total column v (x ∷ xs) = column x *ℤ v (x .monomial) +ℤ total column v xs
@@ -75,7 +77,7 @@ no-part x y = solve (x ∷ y ∷ []) (con (pos 0) :* # 0 :+ # 1) (# 1) tt
 more : {y z : ℤ} (x : ℤ) → y ≡ z → x +ℤ y ≡ x +ℤ z
 more x e = ap (λ y. x +ℤ y) e
 
--- the column a is p
+-- The column a is p.
 pub total-a : (v : ℕ → ℤ) (board : Board) (p q : Polynomial) → total (λ x. x .a) v (rows board p q) ≡ valueBy v p
 unfolding total valueBy row
 total-a v board p q = of-rows board (λ p q xs. total (λ x. x .a) v xs ≡ valueBy v p) (record {
@@ -85,7 +87,7 @@ total-a v board p q = of-rows board (λ p q xs. total (λ x. x .a) v xs ≡ valu
   both = λ t u p q xs m e. more (t .coefficient *ℤ v (t .monomial)) e;
 }) p q
 
--- the column b is q
+-- The column b is q.
 pub total-b : (v : ℕ → ℤ) (board : Board) (p q : Polynomial) → total (λ x. x .b) v (rows board p q) ≡ valueBy v q
 unfolding total valueBy row
 total-b v board p q = of-rows board (λ p q xs. total (λ x. x .b) v xs ≡ valueBy v q) (record {
@@ -95,9 +97,9 @@ total-b v board p q = of-rows board (λ p q xs. total (λ x. x .b) v xs ≡ valu
   both = λ t u p q xs m e. ap (λ (n : ℕ). u .coefficient *ℤ v n +ℤ total (λ x. x .b) v xs) m ∙ more (u .coefficient *ℤ v (u .monomial)) e;
 }) p q
 
--- ---- each s fits its monomial's value
+-- ---- Each s fits its monomial's value.
 
--- a set's kind names the set; numbers past the eight sets are read as the full set
+-- A set's kind names the set; numbers past the eight sets are read as the full set.
 pub in-named : {z : ℤ} (s : SignSet) → z ∈ s → z ∈ named (kind s)
 unfolding named kind
 in-named zero h = h
@@ -110,15 +112,16 @@ in-named (suc (suc (suc (suc (suc (suc zero)))))) h = h
 in-named (suc (suc (suc (suc (suc (suc (suc zero))))))) h = h
 in-named {z} (suc (suc (suc (suc (suc (suc (suc (suc s)))))))) h = ∈-full z
 
-pub data Fitting (v : ℕ → ℤ) : List Row → Type 0 where
-  fitting-none : Fitting v []
-  fitting : {x : Row} {xs : List Row} → v (x .monomial) ∈ named (x .s) → Fitting v xs → Fitting v (x ∷ xs)
+-- The monomial's value has a sign of s.
+abbrev pub Fitting : (ℕ → ℤ) → Row → Type 0
+Fitting v x = v (x .monomial) ∈ named (x .s)
 
-pub rows-fit : (v : ℕ → ℤ) (board : Board) → ((m : ℕ) → v m ∈ monomialSign board m) → (p q : Polynomial) → Fitting v (rows board p q)
+-- If the monomials' values fit the board, they fit all rows.
+pub rows-fit : (v : ℕ → ℤ) (board : Board) → ((m : ℕ) → v m ∈ monomialSign board m) → (p q : Polynomial) → Every (Fitting v) (rows board p q)
 unfolding row
-rows-fit v board fits = of-rows board (λ p q xs. Fitting v xs) (record {
-  none = fitting-none;
-  mine = λ t p q xs m h. fitting (in-named (monomialSign board (t .monomial)) (fits (t .monomial))) h;
-  its = λ u p q xs m h. fitting (in-named (monomialSign board (u .monomial)) (fits (u .monomial))) h;
-  both = λ t u p q xs m h. fitting (in-named (monomialSign board (t .monomial)) (fits (t .monomial))) h;
+rows-fit v board fits = of-rows board (λ p q xs. Every (Fitting v) xs) (record {
+  none = every-none;
+  mine = λ t p q xs m h. every (in-named (monomialSign board (t .monomial)) (fits (t .monomial))) h;
+  its = λ u p q xs m h. every (in-named (monomialSign board (u .monomial)) (fits (u .monomial))) h;
+  both = λ t u p q xs m h. every (in-named (monomialSign board (t .monomial)) (fits (t .monomial))) h;
 })

@@ -13,7 +13,7 @@ use Rattle.rules.specs.Polynomial.{Polynomial, Board, odd, multiplied, monomial
 use Rattle.rules.specs.Meaning.{valueBy}
 use Rattle.sign_laws.specs.Whole.{_∈_, ∈-sum, ∈-product, ∈-square, ∈-own, by-sign, by-equal, by-same-sign, sign-product}
 
--- ---- a polynomial, by terms
+-- ---- A polynomial, by terms.
 
 module _ (v : ℕ → ℤ) (board : Board) (fits : (m : ℕ) → v m ∈ monomialSign board m) where
   terms-from : (p : Polynomial) {sofar : SignSet} {z : ℤ} → z ∈ sofar → z +ℤ valueBy v p ∈ byTermsFrom sofar board p
@@ -22,12 +22,12 @@ module _ (v : ℕ → ℤ) (board : Board) (fits : (m : ℕ) → v m ∈ monomia
   terms-from (t ∷ ts) {z = z} h = by-equal (sym (+ℤ-assoc z (t .coefficient *ℤ v (t .monomial)) (valueBy v ts)))
       (terms-from ts (∈-sum h (∈-product (∈-own (t .coefficient)) (fits (t .monomial)))))
 
-  -- a polynomial has a sign of the set that its terms give
+  -- A polynomial has a sign of the set that its terms give.
   pub terms-sound : (p : Polynomial) → valueBy v p ∈ byTerms board p
   unfolding byTerms open-signs
   terms-sound p = by-equal (sym (+ℤ-idl (valueBy v p))) (terms-from p {z = pos 0} (by-sign nought refl refl))
 
--- ---- a power has the sign of the number if the exponent is odd, of its square if it is even
+-- ---- A power has the sign of the number if the exponent is odd, of its square if it is even.
 
 thrice : (s x : Sign) → productOfSigns (productOfSigns (productOfSigns s x) x) x ≡ productOfSigns s x
 unfolding productOfSigns

@@ -1,7 +1,7 @@
 -- A set that becomes empty stays empty to the end of the round: to look for it there, as the book does, is to look at once.
 -- 01, "Rounds": "A set that becomes empty ends the rounds at once: contradiction."
 use mathlib.Core.Path.{_≡_, refl}
-use mathlib.Core.Bool.{Bool, true, false, _||_}
+use mathlib.Core.Bool.{true}
 use mathlib.Core.List.{List, [], _∷_, _++_}
 use Prim.Native.Nat.{ℕ, zero, suc, _≤_}
 use native.Mathlib.Omega.{arith}
@@ -12,6 +12,8 @@ use Rattle.rules.specs.Signs.{SignSet, empty, full, only, has, bit, setOf, inte
 use Rattle.rules.specs.Polynomial.{Polynomial, Atom, Board, variable}
 use Rattle.rules.specs.Deduce.{anyEmpty, deduce}
 use Rattle.rules.specs.Rounds.{cutBy, turn, turns, cutAtom, cutAtoms, State, round, setsOf, hasEmpty, contradiction}
+use Rattle.sign_laws.specs.Booleans.{or-keeps}
+use Rattle.ending_laws.specs.Cuts.{along-turns}
 use Rattle.ending_laws.specs.Rounds.{Run, finds-contradiction}
 
 -- ---- One set.
@@ -29,11 +31,6 @@ empty-after-some board p (q ∷ qs) rs s e = empty-after-some board p qs rs (int
 
 -- ---- The board, from turn to turn.
 
-or-keeps : (b c x y : Bool) → (b ≡ true → x ≡ true) → (c ≡ true → y ≡ true) → b || c ≡ true → x || y ≡ true
-or-keeps true c x y f g e = rw (f refl)
-or-keeps false c true y f g e = refl
-or-keeps false c false y f g e = g e
-
 set-empty : (l : List SignSet) (i : ℕ) (s : SignSet) → (getD l i full ≡ empty → s ≡ empty) → anyEmpty l ≡ true → anyEmpty (set l i s) ≡ true
 unfolding anyEmpty
 set-empty [] i s f e = e
@@ -41,13 +38,12 @@ set-empty (t ∷ l) zero s f e = or-keeps (eqb t empty) (anyEmpty l) _ _ (λ z. 
 set-empty (t ∷ l) (suc i) s f e = or-keeps (eqb t empty) (anyEmpty l) _ _ (λ z. z) (set-empty l i s f) e
 
 turns-empty : (n : ℕ) (atoms : List Atom) (board : Board) (i k : ℕ) → anyEmpty board ≡ true → anyEmpty (turns n atoms board i k) ≡ true
-unfolding turns turn
-turns-empty n atoms board i zero e = e
-turns-empty n atoms board i (suc k) e =
-    turns-empty n atoms (turn n atoms board i) (suc i) k (set-empty board i _ (λ z. rw z (cutBy-empty board (variable n i) atoms)) e)
+unfolding turn
+turns-empty n atoms = along-turns (λ board. anyEmpty board ≡ true) n atoms
+    (λ board i e. set-empty board i _ (λ z. rw z (cutBy-empty board (variable n i) atoms)) e)
 
-empty-to-the-end : (n : ℕ) (atoms : List Atom) (board : Board) (i j k : ℕ) → j ≤ k → anyEmpty (turns n atoms board i j) ≡ true →
-    anyEmpty (turns n atoms board i k) ≡ true
+empty-to-the-end : (n : ℕ) (atoms : List Atom) (board : Board) (i j k : ℕ) → j ≤ k → anyEmpty (turns n atoms board i j) ≡ true
+    → anyEmpty (turns n atoms board i k) ≡ true
 unfolding turns
 empty-to-the-end n atoms board i zero k h e = turns-empty n atoms board i k e
 empty-to-the-end n atoms board i (suc j) zero h e = absurd (omega arith)

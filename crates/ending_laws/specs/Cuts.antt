@@ -1,7 +1,7 @@
 -- What a round does to each set: it keeps it, or cuts it to a part of it. A round that changes sets below 8 and empties none takes a sign out.
 -- 01, "Rounds over a list of atoms joined by AND".
 use mathlib.Core.Path.{_≡_, refl, ap, _∙_}
-use mathlib.Core.Bool.{Bool, true, false, _&&_, _||_, true≢false}
+use mathlib.Core.Bool.{Bool, true, false, _&&_, true≢false}
 use mathlib.Core.List.{List, [], _∷_, _++_}
 use Prim.Native.Nat.{ℕ, zero, suc, _+_, _*_, _≤_, _<_}
 use native.Mathlib.Nat.{le-refl}
@@ -13,7 +13,9 @@ use Rattle.rules.specs.Signs.{SignSet, empty, full, intersect}
 use Rattle.rules.specs.Polynomial.{Polynomial, Atom, Board, byTerms, variable}
 use Rattle.rules.specs.Deduce.{deduce, anyEmpty}
 use Rattle.rules.specs.Rounds.{cutBy, turn, turns, cutAtom, cutAtoms, State, round, setsOf, sameSets, hasEmpty, unchanged}
-use Rattle.ending_laws.specs.Sizes.{PartOf, part-refl, part-trans, intersect-first, intersect-below, spare, spare-at-most, spare-part, spare-falls}
+use Rattle.sign_laws.specs.Booleans.{neither}
+use Rattle.sign_laws.specs.Sets.{PartOf, part-refl, part-trans, intersect-first, intersect-below}
+use Rattle.ending_laws.specs.Sizes.{spare, spare-at-most, spare-part, spare-falls}
 
 -- ---- One set.
 
@@ -28,6 +30,19 @@ pub cutBy-below : (board : Board) (p : Polynomial) (qs : List Atom) (s : SignSet
 unfolding cutBy
 cutBy-below board p [] s h = h
 cutBy-below board p (q ∷ qs) s h = cutBy-below board p qs (intersect s (deduce board p q)) (intersect-below s (deduce board p q))
+
+-- A round cuts an atom's set to a part of it.
+pub cutAtom-part : (board : Board) (others : List Atom) (a : Atom) → PartOf (cutAtom board others a .set) (a .set)
+unfolding cutAtom
+cutAtom-part board others a =
+    let terms = byTerms board (a .polynomial) in
+    part-trans (cutBy-part board (a .polynomial) others (intersect (a .set) terms)) (intersect-first (a .set) terms)
+
+-- That is below 8, whatever the set was.
+pub cutAtom-below : (board : Board) (others : List Atom) (a : Atom) → cutAtom board others a .set < 8
+unfolding cutAtom
+cutAtom-below board others a =
+    let terms = byTerms board (a .polynomial) in cutBy-below board (a .polynomial) others (intersect (a .set) terms) (intersect-below (a .set) terms)
 
 -- A set before and after: it is kept, whatever it is, or it was below 8 and a part of it is left.
 pub data Narrowed : SignSet → SignSet → Type 0 where
@@ -48,6 +63,7 @@ by-deductions board p qs s h = cut h (cutBy-below board p qs s h) (cutBy-part bo
 
 -- ---- A list of sets: the sets before and after, and the signs that they can lose.
 
+-- Each set of a list is kept or cut.
 pub data AllNarrowed : List SignSet → List SignSet → Type 0 where
   none-left : AllNarrowed [] []
   narrowed : {a b : SignSet} {l m : List SignSet} → Narrowed a b → AllNarrowed l m → AllNarrowed (a ∷ l) (b ∷ m)
@@ -70,11 +86,12 @@ all-below none-left i h = h
 all-below (narrowed w ws) zero h = narrowed-below w h
 all-below (narrowed w ws) (suc i) h = all-below ws i h
 
--- How many signs the sets of a list can lose: at most two each.
+-- How many signs the sets of a list can lose.
 unfoldable pub spareAll : List SignSet → ℕ
 spareAll [] = 0
 spareAll (s ∷ l) = spare s + spareAll l
 
+-- At most two each.
 pub spareAll-at-most : (l : List SignSet) → spareAll l ≤ 2 * length l
 unfolding spareAll
 spareAll-at-most [] = le-refl 0
@@ -98,15 +115,11 @@ one-falls : (b c : Bool) (k l x y : ℕ) → b && c ≡ false → k ≤ l → x 
 one-falls true c k l x y e h i f g = omega (arith, g e)
 one-falls false c k l x y e h i f g = omega (arith, f refl)
 
-neither : (b c : Bool) → b || c ≡ false → (b ≡ false) × (c ≡ false)
-neither true c e = absurd (true≢false e)
-neither false c e = (refl, e)
-
 all-fall : {l m : List SignSet} → AllNarrowed l m → anyEmpty m ≡ false → sameSets l m ≡ false → spareAll m < spareAll l
 unfolding spareAll anyEmpty sameSets
 all-fall none-left left differ = absurd (true≢false differ)
 all-fall (narrowed {a} {b} {l} {m} w ws) left differ =
-    let (here, later) = neither (eqb b empty) (anyEmpty m) left in
+    let (here, later) = neither (eqb b empty) (anyEmpty m) .0 left in
     one-falls (eqb a b) (sameSets l m) _ _ _ _ differ (narrowed-spare w) (all-spare ws) (narrowed-falls w here) (all-fall ws later)
 
 -- ---- A round.
@@ -116,8 +129,15 @@ pub record Low (n : ℕ) (st : State) : Type 0 where
   pub board : (i : ℕ) → i < n → getD (st .board) i full < 8
   pub atoms : (i : ℕ) → getD (setsOf (st .atoms)) i full < 8
 
-turns-narrowed : (n : ℕ) (atoms : List Atom) (board : Board) (i k : ℕ) → ((j : ℕ) → j < i + k → getD board j full < 8) →
-    AllNarrowed board (turns n atoms board i k)
+-- What each turn keeps, all turns keep.
+pub along-turns : (P : Board → Type 0) (n : ℕ) (atoms : List Atom) → ((board : Board) (i : ℕ) → P board → P (turn n atoms board i))
+    → (board : Board) (i k : ℕ) → P board → P (turns n atoms board i k)
+unfolding turns
+along-turns P n atoms keeps board i zero h = h
+along-turns P n atoms keeps board i (suc k) h = along-turns P n atoms keeps (turn n atoms board i) (suc i) k (keeps board i h)
+
+turns-narrowed : (n : ℕ) (atoms : List Atom) (board : Board) (i k : ℕ) → ((j : ℕ) → j < i + k → getD board j full < 8)
+    → AllNarrowed board (turns n atoms board i k)
 unfolding turns turn
 turns-narrowed n atoms board i zero low = all-kept board
 turns-narrowed n atoms board i (suc k) low =
@@ -125,14 +145,10 @@ turns-narrowed n atoms board i (suc k) low =
     all-trans first (turns-narrowed n atoms (turn n atoms board i) (suc i) k (λ j h. all-below first j (low j (omega arith))))
 
 cutAtoms-narrowed : (board : Board) (before l : List Atom) → ((i : ℕ) → getD (setsOf l) i full < 8) → AllNarrowed (setsOf l) (setsOf (cutAtoms board before l))
-unfolding cutAtoms cutAtom setsOf
+unfolding cutAtoms setsOf
 cutAtoms-narrowed board before [] low = none-left
 cutAtoms-narrowed board before (a ∷ later) low =
-    let s = intersect (a .set) (byTerms board (a .polynomial)) in
-    let below = intersect-below (a .set) (byTerms board (a .polynomial)) in
-    narrowed
-    (cut (low 0) (cutBy-below board (a .polynomial) (before ++ later) s below)
-    (part-trans (cutBy-part board (a .polynomial) (before ++ later) s) (intersect-first (a .set) (byTerms board (a .polynomial)))))
+    narrowed (cut (low 0) (cutAtom-below board (before ++ later) a) (cutAtom-part board (before ++ later) a))
     (cutAtoms-narrowed board (before ++ (a ∷ [])) later (λ i. low (suc i)))
 
 round-board : (n : ℕ) (st : State) → Low n st → AllNarrowed (st .board) (round n st .board)
@@ -150,21 +166,17 @@ round-low n st low = record {
   atoms = λ i. all-below (round-atoms n st low) i (low .atoms i);
 }
 
-turns-length : (n : ℕ) (atoms : List Atom) (board : Board) (i k : ℕ) → length (turns n atoms board i k) ≡ length board
-unfolding turns turn
-turns-length n atoms board i zero = refl
-turns-length n atoms board i (suc k) = turns-length n atoms (turn n atoms board i) (suc i) k ∙ length-set board i _
-
 cutAtoms-length : (board : Board) (before l : List Atom) → length (cutAtoms board before l) ≡ length l
 unfolding cutAtoms
 cutAtoms-length board before [] = refl
 cutAtoms-length board before (a ∷ later) = ap suc (cutAtoms-length board (before ++ (a ∷ [])) later)
 
--- A round keeps the number of sets, on the board and among the atoms.
+-- A round keeps the number of sets on the board.
 pub round-board-length : (n : ℕ) (st : State) → length (round n st .board) ≡ length (st .board)
-unfolding round
-round-board-length n st = turns-length n (st .atoms) (st .board) 0 n
+unfolding round turn
+round-board-length n st = along-turns (λ board. length board ≡ length (st .board)) n (st .atoms) (λ board i e. length-set board i _ ∙ e) (st .board) 0 n refl
 
+-- And among the atoms.
 pub round-atoms-length : (n : ℕ) (st : State) → length (round n st .atoms) ≡ length (st .atoms)
 unfolding round
 round-atoms-length n st = cutAtoms-length _ [] (st .atoms)
@@ -172,12 +184,13 @@ round-atoms-length n st = cutAtoms-length _ [] (st .atoms)
 -- A state without an empty set has none on its board and none among its atoms.
 pub none-empty : (st : State) → hasEmpty st ≡ false → (anyEmpty (st .board) ≡ false) × (anyEmpty (setsOf (st .atoms)) ≡ false)
 unfolding hasEmpty
-none-empty st e = neither (anyEmpty (st .board)) (anyEmpty (setsOf (st .atoms))) e
+none-empty st e = neither (anyEmpty (st .board)) (anyEmpty (setsOf (st .atoms))) .0 e
 
--- How many signs the sets of a state can lose: at most two each.
+-- How many signs the sets of a state can lose.
 unfoldable pub spareOf : State → ℕ
 spareOf st = spareAll (st .board) + spareAll (setsOf (st .atoms))
 
+-- At most two each.
 pub spareOf-at-most : (st : State) → spareOf st ≤ 2 * (length (st .board) + length (st .atoms))
 unfolding spareOf setsOf
 spareOf-at-most st =

@@ -7,26 +7,29 @@ use Prim.Native.Nat.{ℕ, zero, suc, _+_, _*_, _<_}
 use native.Mathlib.Omega.{arith}
 use lib.Dec.{lit<}
 use lib.ListN.{length, getD, set, length-map}
+use lib.Seq.{set-getD}
 use borrow.Author.Tests.{eq-eqb}
 use Rattle.rules.specs.Signs.{SignSet, full, only, has, bit, setOf, kind, intersect}
 use Rattle.rules.specs.Polynomial.{Polynomial, Atom, Board, byTerms, variable}
 use Rattle.rules.specs.Deduce.{finding, findingOf, anyEmpty, unlessEmpty, deduce}
 use Rattle.rules.specs.Rounds.{cutBy, turn, turns, cutAtom, cutAtoms, State, round, setsOf, sameSets, hasEmpty, unchanged}
-use Rattle.ending_laws.specs.Sizes.{part-trans, intersect-second, intersect-below, size, spare, spare-at-most, spare-full, full-part}
-use Rattle.ending_laws.specs.Cuts.{cutBy-part, cutBy-below, spareAll, spareAll-at-most, Low, none-empty, spareOf}
+use Rattle.sign_laws.specs.Lists.{Every, every-none, every, every-append}
+use Rattle.sign_laws.specs.Sets.{part-trans, intersect-second, intersect-below}
+use Rattle.ending_laws.specs.Sizes.{size, spare, spare-at-most, spare-full, full-part}
+use Rattle.ending_laws.specs.Cuts.{cutBy-part, cutBy-below, cutAtom-below, spareAll, spareAll-at-most, Low, none-empty, spareOf}
 
 -- ---- What the first round leaves is below 8, if there are atoms to cut by.
 
-set-low : (board : Board) (i : ℕ) (s : SignSet) → s < 8 → ((j : ℕ) → j < i → getD board j full < 8) →
-    (j : ℕ) → j < suc i → getD (set board i s) j full < 8
+set-low : (board : Board) (i : ℕ) (s : SignSet) → s < 8 → ((j : ℕ) → j < i → getD board j full < 8)
+    → (j : ℕ) → j < suc i → getD (set board i s) j full < 8
 set-low [] i s h low j b = lit< tt
 set-low (t ∷ board) zero s h low zero b = h
 set-low (t ∷ board) zero s h low (suc j) b = absurd (omega arith)
 set-low (t ∷ board) (suc i) s h low zero b = low 0 (omega arith)
 set-low (t ∷ board) (suc i) s h low (suc j) b = set-low board i s h (λ k c. low (suc k) (omega arith)) j (omega arith)
 
-turns-low : (n : ℕ) (a : Atom) (l : List Atom) (board : Board) (i k : ℕ) → ((j : ℕ) → j < i → getD board j full < 8) →
-    (j : ℕ) → j < i + k → getD (turns n (a ∷ l) board i k) j full < 8
+turns-low : (n : ℕ) (a : Atom) (l : List Atom) (board : Board) (i k : ℕ) → ((j : ℕ) → j < i → getD board j full < 8)
+    → (j : ℕ) → j < i + k → getD (turns n (a ∷ l) board i k) j full < 8
 unfolding turns turn cutBy
 turns-low n a l board i zero low j b = low j (omega arith)
 turns-low n a l board i (suc k) low j b =
@@ -34,9 +37,9 @@ turns-low n a l board i (suc k) low j b =
     turns-low n a l (turn n (a ∷ l) board i) (suc i) k (set-low board i _ below low) j (omega arith)
 
 cutAtoms-low : (board : Board) (before l : List Atom) (i : ℕ) → getD (setsOf (cutAtoms board before l)) i full < 8
-unfolding cutAtoms cutAtom setsOf
+unfolding cutAtoms setsOf
 cutAtoms-low board before [] i = lit< tt
-cutAtoms-low board before (a ∷ later) zero = cutBy-below board (a .polynomial) (before ++ later) _ (intersect-below (a .set) (byTerms board (a .polynomial)))
+cutAtoms-low board before (a ∷ later) zero = cutAtom-below board (before ++ later) a
 cutAtoms-low board before (a ∷ later) (suc i) = cutAtoms-low board (before ++ (a ∷ [])) later i
 
 -- Whatever the sets were, a round with atoms leaves them below 8.
@@ -49,18 +52,13 @@ first-round-low n board a l = record {
 
 -- ---- Rounds that change nothing.
 
-set-same : (l : List SignSet) (i : ℕ) → set l i (getD l i full) ≡ l
-set-same [] i = refl
-set-same (s ∷ l) zero = refl
-set-same (s ∷ l) (suc i) = ap (λ (m : List SignSet). s ∷ m) (set-same l i)
-
-turns-still : (n : ℕ) (atoms : List Atom) (board : Board) (i k : ℕ) →
-    ((j : ℕ) → j < i + k → cutBy board (variable n j) atoms (getD board j full) ≡ getD board j full) → turns n atoms board i k ≡ board
+turns-still : (n : ℕ) (atoms : List Atom) (board : Board) (i k : ℕ)
+    → ((j : ℕ) → j < i + k → cutBy board (variable n j) atoms (getD board j full) ≡ getD board j full) → turns n atoms board i k ≡ board
 unfolding turns turn
 turns-still n atoms board i zero still = refl
 turns-still n atoms board i (suc k) still =
-    ap (λ (b : Board). turns n atoms b (suc i) k) (ap (set board i) (still i (omega arith)) ∙ set-same board i) ∙
-    turns-still n atoms board (suc i) k (λ j h. still j (omega arith))
+    ap (λ (b : Board). turns n atoms b (suc i) k) (ap (set board i) (still i (omega arith)) ∙ set-getD board i full)
+    ∙ turns-still n atoms board (suc i) k (λ j h. still j (omega arith))
 
 sameSets-same : (l : List SignSet) → sameSets l l ≡ true
 unfolding sameSets
@@ -71,57 +69,57 @@ same-unchanged : (st su : State) → su ≡ st → unchanged st su ≡ true
 unfolding unchanged
 same-unchanged st su e = rw e (ap₂ _&&_ (sameSets-same (st .board)) (sameSets-same (setsOf (st .atoms))))
 
--- A round with no atoms changes nothing.
-pub no-atoms-unchanged : (n : ℕ) (board : Board) → let st : State = record { board = board; atoms = [] } in unchanged st (round n st) ≡ true
+-- A round with no atoms leaves the state as it is.
+pub no-atoms-still : (n : ℕ) (board : Board) → let st : State = record { board = board; atoms = [] } in round n st ≡ st
 unfolding round cutBy cutAtoms
-no-atoms-unchanged n board = same-unchanged _ _ (ap (λ (b : Board). record { board = b; atoms = [] }) (turns-still n [] board 0 n (λ j h. refl)))
+no-atoms-still n board = ap (λ (b : Board). record { board = b; atoms = [] }) (turns-still n [] board 0 n (λ j h. refl))
+
+-- So it changes nothing.
+pub no-atoms-unchanged : (n : ℕ) (board : Board) → let st : State = record { board = board; atoms = [] } in unchanged st (round n st) ≡ true
+no-atoms-unchanged n board = same-unchanged _ _ (no-atoms-still n board)
 
 -- ---- Atoms with full sets, which are full by terms too, deduce nothing and lose nothing.
 
-data FullAtoms (board : Board) : List Atom → Type 0 where
-  no-atoms : FullAtoms board []
-  full-atom : {a : Atom} {l : List Atom} → a .set ≡ full → intersect full (byTerms board (a .polynomial)) ≡ full → FullAtoms board l → FullAtoms board (a ∷ l)
-
-full-append : {board : Board} {l m : List Atom} → FullAtoms board l → FullAtoms board m → FullAtoms board (l ++ m)
-full-append no-atoms o = o
-full-append (full-atom e f o) p = full-atom e f (full-append o p)
+record FullAtom (board : Board) (a : Atom) : Type 0 where
+  own : a .set ≡ full
+  by-terms : intersect full (byTerms board (a .polynomial)) ≡ full
 
 deduce-full : (board : Board) (p : Polynomial) (q : Atom) → anyEmpty board ≡ false → q .set ≡ full → deduce board p q ≡ full
 unfolding deduce unlessEmpty findingOf finding kind
 deduce-full board p q no-empty e = rw (e, no-empty)
 
-cutBy-full : (board : Board) (p : Polynomial) (qs : List Atom) → anyEmpty board ≡ false → FullAtoms board qs → cutBy board p qs full ≡ full
+cutBy-full : (board : Board) (p : Polynomial) {qs : List Atom} → anyEmpty board ≡ false → Every (FullAtom board) qs → cutBy board p qs full ≡ full
 unfolding cutBy intersect setOf has only bit
-cutBy-full board p [] no-empty no-atoms = refl
-cutBy-full board p (q ∷ qs) no-empty (full-atom e f o) =
-    ap (λ s. cutBy board p qs (intersect full s)) (deduce-full board p q no-empty e) ∙ cutBy-full board p qs no-empty o
+cutBy-full board p no-empty every-none = refl
+cutBy-full board p no-empty (every {a = q} {l = qs} h hs) =
+    ap (λ s. cutBy board p qs (intersect full s)) (deduce-full board p q no-empty (h .own)) ∙ cutBy-full board p no-empty hs
 
-cutAtom-full : (board : Board) (others : List Atom) (a : Atom) → anyEmpty board ≡ false → FullAtoms board others →
-    a .set ≡ full → intersect full (byTerms board (a .polynomial)) ≡ full → cutAtom board others a ≡ a
+cutAtom-full : (board : Board) (others : List Atom) (a : Atom) → anyEmpty board ≡ false → Every (FullAtom board) others → FullAtom board a
+    → cutAtom board others a ≡ a
 unfolding cutAtom
-cutAtom-full board others a no-empty o e f = ap (λ (s : SignSet). record { polynomial = a .polynomial; set = s }) stays
+cutAtom-full board others a no-empty o h = ap (λ (s : SignSet). record { polynomial = a .polynomial; set = s }) stays
   where
     stays : cutBy board (a .polynomial) others (intersect (a .set) (byTerms board (a .polynomial))) ≡ a .set
-    stays = rw e (ap (cutBy board (a .polynomial) others) f ∙ cutBy-full board (a .polynomial) others no-empty o)
+    stays = rw (h .own) (ap (cutBy board (a .polynomial) others) (h .by-terms) ∙ cutBy-full board (a .polynomial) no-empty o)
 
-cutAtoms-full : (board : Board) (before l : List Atom) → anyEmpty board ≡ false → FullAtoms board before → FullAtoms board l → cutAtoms board before l ≡ l
+cutAtoms-full : (board : Board) (before : List Atom) {l : List Atom} → anyEmpty board ≡ false → Every (FullAtom board) before → Every (FullAtom board) l
+    → cutAtoms board before l ≡ l
 unfolding cutAtoms
-cutAtoms-full board before [] no-empty b no-atoms = refl
-cutAtoms-full board before (a ∷ later) no-empty b (full-atom e f o) =
-    ap₂ (λ (c : Atom) (m : List Atom). c ∷ m) (cutAtom-full board (before ++ later) a no-empty (full-append b o) e f)
-    (cutAtoms-full board (before ++ (a ∷ [])) later no-empty (full-append b (full-atom e f no-atoms)) o)
+cutAtoms-full board before no-empty b every-none = refl
+cutAtoms-full board before no-empty b (every {a} {l = later} h hs) =
+    ap₂ (λ (c : Atom) (m : List Atom). c ∷ m) (cutAtom-full board (before ++ later) a no-empty (every-append b hs) h)
+    (cutAtoms-full board (before ++ (a ∷ [])) no-empty (every-append b (every h every-none)) hs)
 
 -- Such are the atoms that a round leaves if it leaves all of them full: they were cut by their sign by terms.
-cutAtoms-leaves-full : (board : Board) (before l : List Atom) → ((i : ℕ) → spare (getD (setsOf (cutAtoms board before l)) i full) ≡ 2) →
-    FullAtoms board (cutAtoms board before l)
+cutAtoms-leaves-full : (board : Board) (before l : List Atom) → ((i : ℕ) → spare (getD (setsOf (cutAtoms board before l)) i full) ≡ 2)
+    → Every (FullAtom board) (cutAtoms board before l)
 unfolding cutAtoms cutAtom setsOf
-cutAtoms-leaves-full board before [] two = no-atoms
+cutAtoms-leaves-full board before [] two = every-none
 cutAtoms-leaves-full board before (a ∷ later) two =
     let s = intersect (a .set) (byTerms board (a .polynomial)) in
-    let below = cutBy-below board (a .polynomial) (before ++ later) s (intersect-below (a .set) (byTerms board (a .polynomial))) in
-    let is-full : cutBy board (a .polynomial) (before ++ later) s ≡ full = spare-full _ below (two 0) in
+    let is-full : cutBy board (a .polynomial) (before ++ later) s ≡ full = spare-full _ (cutAtom-below board (before ++ later) a) (two 0) in
     let part = part-trans (cutBy-part board (a .polynomial) (before ++ later) s) (intersect-second (a .set) (byTerms board (a .polynomial))) in
-    full-atom is-full (full-part _ (rw is-full at part)) (cutAtoms-leaves-full board (before ++ (a ∷ [])) later (λ i. two (suc i)))
+    every (record { own = is-full; by-terms = full-part _ (rw is-full at part) }) (cutAtoms-leaves-full board (before ++ (a ∷ [])) later (λ i. two (suc i)))
 
 -- ---- The second round, if the first leaves all sets full.
 
@@ -131,16 +129,16 @@ can-lose-two [] e i = refl
 can-lose-two (s ∷ l) e zero = let here = spare-at-most s in omega (arith, here, spareAll-at-most l)
 can-lose-two (s ∷ l) e (suc i) = can-lose-two l (omega (arith, spare-at-most s, spareAll-at-most l)) i
 
-full-still : (n : ℕ) (st : State) → Low n st → anyEmpty (st .board) ≡ false → ((i : ℕ) → spare (getD (st .board) i full) ≡ 2) →
-    FullAtoms (st .board) (st .atoms) → round n st ≡ st
+full-still : (n : ℕ) (st : State) → Low n st → anyEmpty (st .board) ≡ false → ((i : ℕ) → spare (getD (st .board) i full) ≡ 2)
+    → Every (FullAtom (st .board)) (st .atoms) → round n st ≡ st
 unfolding round
 full-still n st low no-empty two full-atoms =
-    ap (λ (b : Board). record { board = b; atoms = cutAtoms b [] (st .atoms) }) (turns-still n (st .atoms) (st .board) 0 n keeps) ∙
-    ap (λ (l : List Atom). record { board = st .board; atoms = l }) (cutAtoms-full (st .board) [] (st .atoms) no-empty no-atoms full-atoms)
+    ap (λ (b : Board). record { board = b; atoms = cutAtoms b [] (st .atoms) }) (turns-still n (st .atoms) (st .board) 0 n keeps)
+    ∙ ap (λ (l : List Atom). record { board = st .board; atoms = l }) (cutAtoms-full (st .board) [] no-empty every-none full-atoms)
   where
     keeps : (j : ℕ) → j < 0 + n → cutBy (st .board) (variable n j) (st .atoms) (getD (st .board) j full) ≡ getD (st .board) j full
     keeps j h =
-        rw (spare-full (getD (st .board) j full) (low .board j (omega arith)) (two j)) (cutBy-full (st .board) (variable n j) (st .atoms) no-empty full-atoms)
+        rw (spare-full (getD (st .board) j full) (low .board j (omega arith)) (two j)) (cutBy-full (st .board) (variable n j) no-empty full-atoms)
 
 -- A state that a round left, with no set empty and no sign lost from any, is left as it is by the next.
 pub second-round-unchanged : (n : ℕ) (st : State) → let su = round n st in

@@ -6,7 +6,6 @@ use Prim.Native.Nat.{ℕ, zero, suc, _%_, _<_, _∣_}
 use native.Mathlib.Nat.{dvd-refl, dvd-zero, dvd-trans, dvd-mod-iff, one-dvd, pos-of-dvd-of-pos, mod-lt, zero-lt-suc}
 use native.Mathlib.Omega.{arith}
 use lib.IntN.{natAbs}
-use lib.ListN.{length}
 use Rattle.rules.specs.Polynomial.{Term, Polynomial, gcdWithin, gcd, contentFrom, orOne, content}
 use Rattle.rules.specs.Limits.{PolynomialWithin, TermsWithin, terms as within-terms}
 
@@ -95,15 +94,19 @@ content-divides p = at-content (contentFrom 0 p) (contentFrom-divides p)
 first-divided : {d : ℕ} {t : Term} {ts : Polynomial} → DividesEach d (t ∷ ts) → d ∣ natAbs (t .coefficient)
 first-divided (terms h each) = h
 
--- In the polynomials of a block no content is wanting: it is the greatest common divisor itself.
-pub content-in-block : (n : ℕ) (p : Polynomial) → PolynomialWithin n p → content p ≡ contentFrom 0 p
+-- Where the first coefficient is not 0, no content is wanting: it is the greatest common divisor itself.
+pub content-itself : (t : Term) (ts : Polynomial) → 0 < natAbs (t .coefficient) → content (t ∷ ts) ≡ contentFrom 0 (t ∷ ts)
 unfolding content orOne
-content-in-block n p within = is-itself (contentFrom 0 p) (above-zero p (within .not-none) (within .each) (contentFrom-divides p))
+content-itself t ts not-zero = is-itself (contentFrom 0 (t ∷ ts)) (pos-of-dvd-of-pos (first-divided (contentFrom-divides (t ∷ ts))) not-zero)
   where
-    above-zero : {above d : ℕ} (q : Polynomial) → 0 < length q → TermsWithin above q → DividesEach d q → 0 < d
-    above-zero [] some each divided = absurd (omega arith)
-    above-zero (t ∷ ts) some (within-terms first later) divided = pos-of-dvd-of-pos (first-divided divided) (first .not-zero)
-
     is-itself : (g : ℕ) → 0 < g → orOne g ≡ g
     is-itself zero h = absurd (omega arith)
     is-itself (suc g) h = refl
+
+-- So it is in the polynomials of a block.
+pub content-in-block : (n : ℕ) (p : Polynomial) → PolynomialWithin n p → content p ≡ contentFrom 0 p
+content-in-block n [] within = absurd (omega (arith, within .not-none))
+content-in-block n (t ∷ ts) within = content-itself t ts (not-zero (within .each))
+  where
+    not-zero : {above : ℕ} → TermsWithin above (t ∷ ts) → 0 < natAbs (t .coefficient)
+    not-zero (within-terms first later) = first .not-zero

@@ -1,17 +1,18 @@
 -- The nestings of the AND rule and the OR rule never run out: on a tree of a block, which has at most 6, `andRule` is 01's rule with no such number.
 -- 01, "A level": "The AND rule and the OR rule call one another, each time one nesting lower."
 use mathlib.Core.Path.{_≡_, refl, ap, ap₂, _∙_}
-use mathlib.Core.List.{List, [], _∷_, _++_}
+use mathlib.Core.List.{List}
 use Prim.Native.Nat.{ℕ, zero, suc, _+_, _-_, _≤_, _<_, max, zero-le}
 use native.Mathlib.Omega.{arith}
 use native.Mathlib.Nat.{le-refl, max-le}
 use lib.ListN.{length}
 use Rattle.rules.specs.Polynomial.{Atom}
-use Rattle.rules.specs.Formula.{Parts, end, atom, and, or, Node, leaf, allOf, anyOf, before, eachAtom, eachAtomOf, alone}
+use Rattle.rules.specs.Formula.{Parts, end, atom, and, or, Node, leaf, allOf, anyOf, before, eachAtom, eachAtomOf, alone, open-formula}
 use Rattle.rules.specs.Level.{Formula, dual, dualNode, atomsOf, orsOf, add, enter, gather, afterGather, andRule, asNode, simplify}
 use Rattle.rules.specs.Block.{NumberedAtom, Block}
 use Rattle.rules.specs.Limits.{PartsWithin, BlockWithin}
 use Rattle.rules.specs.Answer.{lookedUp, formulaOf, simplified}
+use Rattle.sign_laws.specs.Lists.{Every, every-none, every, every-append}
 
 -- How deep AND and OR are nested in the parts of a node, the node itself not counted.
 unfoldable pub nesting : {A : Type 0} → Parts A → ℕ
@@ -38,32 +39,27 @@ eachAtom-nesting f (or kids rest) = ap₂ (λ k r. max (1 + k) r) (eachAtom-nest
 
 -- ---- The OR children of an AND are nested one lower.
 
-data EachBelow (m : ℕ) : List Formula → Type 0 where
-  no-children : EachBelow m []
-  children : {child : Formula} {later : List Formula} → nesting child < m → EachBelow m later → EachBelow m (child ∷ later)
+abbrev Below : ℕ → Formula → Type 0
+Below m child = nesting child < m
 
-below-append : {m : ℕ} {ors later : List Formula} → EachBelow m ors → EachBelow m later → EachBelow m (ors ++ later)
-below-append no-children below = below
-below-append (children h hs) below = children h (below-append hs below)
-
-ors-below : (m : ℕ) (kids : Formula) → nesting kids ≤ m → EachBelow m (orsOf kids)
+ors-below : (m : ℕ) (kids : Formula) → nesting kids ≤ m → Every (Below m) (orsOf kids)
 unfolding nesting orsOf
-ors-below m end h = no-children
+ors-below m end h = every-none
 ors-below m (atom a rest) h = ors-below m rest h
-ors-below m (and kids rest) h = below-append (ors-below m kids (omega arith)) (ors-below m rest (omega arith))
-ors-below m (or kids rest) h = children {child = kids} (omega arith) (ors-below m rest (omega arith))
+ors-below m (and kids rest) h = every-append (ors-below m kids (omega arith)) (ors-below m rest (omega arith))
+ors-below m (or kids rest) h = every {a = kids} (omega arith) (ors-below m rest (omega arith))
 
-gather-same : (m : ℕ) (f g : Formula → Formula) → ((child : Formula) → nesting child < m → f child ≡ g child) →
-    (ors : List Formula) → EachBelow m ors → gather f ors ≡ gather g ors
+gather-same : (m : ℕ) (f g : Formula → Formula) → ((child : Formula) → nesting child < m → f child ≡ g child)
+    → {ors : List Formula} → Every (Below m) ors → gather f ors ≡ gather g ors
 unfolding gather
-gather-same m f g agree [] no-children = refl
-gather-same m f g agree (child ∷ later) (children h hs) = ap₂ (λ found walk. add (enter found) walk) (agree child h) (gather-same m f g agree later hs)
+gather-same m f g agree every-none = refl
+gather-same m f g agree (every {a = child} h hs) = ap₂ (λ found walk. add (enter found) walk) (agree child h) (gather-same m f g agree hs)
 
 -- The OR children of an AND, simplified by two rules that agree on what is nested lower than the AND's parts.
-children-same : (kids : Formula) (f g : Formula → Formula) → ((lower : Formula) → nesting lower < nesting kids → f lower ≡ g lower) →
-    gather (λ child. dual (f (dual child))) (orsOf kids) ≡ gather (λ child. dual (g (dual child))) (orsOf kids)
+children-same : (kids : Formula) (f g : Formula → Formula) → ((lower : Formula) → nesting lower < nesting kids → f lower ≡ g lower)
+    → gather (λ child. dual (f (dual child))) (orsOf kids) ≡ gather (λ child. dual (g (dual child))) (orsOf kids)
 children-same kids f g agree =
-    gather-same (nesting kids) _ _ (λ child h. ap dual (agree (dual child) (rw (dual-nesting child) h))) (orsOf kids) (ors-below (nesting kids) kids (le-refl _))
+    gather-same (nesting kids) _ _ (λ child h. ap dual (agree (dual child) (rw (dual-nesting child) h))) (ors-below (nesting kids) kids (le-refl _))
 
 -- Any two numbers of nestings above those of the parts give the same.
 pub enough-nestings : (n d e : ℕ) (kids : Formula) → nesting kids < d → nesting kids < e → andRule n d kids ≡ andRule n e kids
@@ -79,16 +75,17 @@ more-nestings-change-nothing n d kids h = enough-nestings n (suc d) d kids (omeg
 
 -- ---- The AND rule with no number of nestings.
 
+-- One nesting more than the parts have is always enough.
 unfoldable pub unboundedAndRule : ℕ → Formula → Formula
 unboundedAndRule n kids = andRule n (1 + nesting kids) kids
 
 -- The AND rule as 01 says it: its OR children go through the OR rule, which is the AND rule between two duals.
-pub no-nesting-missing : (n : ℕ) (kids : Formula) →
-    unboundedAndRule n kids ≡ afterGather n (atomsOf kids) (gather (λ child. dual (unboundedAndRule n (dual child))) (orsOf kids))
+pub no-nesting-missing : (n : ℕ) (kids : Formula)
+    → unboundedAndRule n kids ≡ afterGather n (atomsOf kids) (gather (λ child. dual (unboundedAndRule n (dual child))) (orsOf kids))
 unfolding andRule unboundedAndRule
 no-nesting-missing n kids =
-    enough-nestings n (1 + nesting kids) (suc (nesting kids)) kids (omega arith) (omega arith) ∙
-    ap (afterGather n (atomsOf kids))
+    enough-nestings n (1 + nesting kids) (suc (nesting kids)) kids (omega arith) (omega arith)
+    ∙ ap (afterGather n (atomsOf kids))
     (children-same kids (andRule n (nesting kids)) (unboundedAndRule n) (λ lower h. enough-nestings n (nesting kids) (1 + nesting lower) lower h (omega arith)))
 
 -- Within its nestings, the book's rule is that one: what it gives where they run out is never reached.
@@ -121,17 +118,18 @@ parts-nesting d m parent (and kids rest) within =
 parts-nesting d m parent (or kids rest) within =
     max-le (omega (arith, within .1, parts-nesting (d - 1) m 2 kids (within .2))) (parts-nesting d m parent rest (within .3))
 
-tree-nesting : {A B : Type 0} (f : A → B) (tree : Node A) → nesting (alone (eachAtomOf f tree)) ≡ nesting (alone tree)
-unfolding alone before eachAtomOf eachAtom
-tree-nesting f (leaf a) = eachAtom-nesting f (atom a end)
-tree-nesting f (allOf kids) = eachAtom-nesting f (and kids end)
-tree-nesting f (anyOf kids) = eachAtom-nesting f (or kids end)
+-- Other atoms in a tree that is the only part.
+pub alone-each : {A B : Type 0} (f : A → B) (tree : Node A) → eachAtom f (alone tree) ≡ alone (eachAtomOf f tree)
+unfolding open-formula
+alone-each f (leaf a) = refl
+alone-each f (allOf kids) = refl
+alone-each f (anyOf kids) = refl
 
 -- The formula that a block within the limits holds has at most 6 nestings.
 pub formula-nesting : (block : Block) → BlockWithin block → nesting (alone (formulaOf block)) ≤ 6
 unfolding formulaOf
 formula-nesting block within =
-    rw (tree-nesting (lookedUp (block .table)) (block .tree)) (parts-nesting 6 (length (block .table)) 0 (alone (block .tree)) (within .tree))
+    rw (← alone-each (lookedUp (block .table)) (block .tree), eachAtom-nesting) (parts-nesting 6 (length (block .table)) 0 (alone (block .tree)) (within .tree))
 
 -- Each block within the limits is simplified by the rules of 01, with no number of nestings.
 pub simplified-unbounded : (block : Block) → BlockWithin block → simplified block ≡ simplifyBy (unboundedAndRule (block .variables)) (formulaOf block)

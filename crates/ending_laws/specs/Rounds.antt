@@ -1,7 +1,7 @@
 -- The rounds end by themselves: the book's run, with its bounded number of rounds, is the run that 01 describes, which has no such number.
 -- 01, "Rounds over a list of atoms joined by AND"; at most 2(n + k) + 1 rounds are begun, for n variables and k non-variable atoms.
 use mathlib.Core.Path.{_≡_, refl, sym, ap, _∙_, subst₂}
-use mathlib.Core.Bool.{Bool, true, false, true≢false}
+use mathlib.Core.Bool.{Bool, true, false}
 use mathlib.Core.List.{List, [], _∷_}
 use mathlib.Core.Option.{Option, none, some}
 use Prim.Native.Nat.{ℕ, zero, suc, _+_, _*_, _≤_, _<_}
@@ -10,9 +10,12 @@ use native.Mathlib.Omega.{arith}
 use lib.ListN.{length, set, replicate, length-set, length-replicate}
 use Rattle.rules.specs.Signs.{SignSet, full}
 use Rattle.rules.specs.Polynomial.{Atom, Board, which}
-use Rattle.rules.specs.Rounds.{State, round, hasEmpty, unchanged, Outcome, contradiction, settled, afterRound, rounds, furtherBegun, begun, nonVariable, placed, placedAll, start, enough, run}
+use Rattle.rules.specs.Deduce.{anyEmpty}
+use Rattle.rules.specs.Rounds.{State, round, setsOf, hasEmpty, unchanged, Outcome, contradiction, settled, afterRound, rounds, furtherBegun, begun}
+use Rattle.rules.specs.Rounds.{nonVariable, placed, placedAll, start, enough, run}
+use Rattle.sign_laws.specs.Booleans.{never-both}
 use Rattle.ending_laws.specs.Cuts.{Low, round-low, round-board-length, round-atoms-length, spareOf, spareOf-at-most, round-falls}
-use Rattle.ending_laws.specs.FirstRound.{first-round-low, no-atoms-unchanged, second-round-unchanged}
+use Rattle.ending_laws.specs.FirstRound.{first-round-low, no-atoms-still, no-atoms-unchanged, second-round-unchanged}
 
 -- ---- The run as 01 describes it.
 
@@ -21,8 +24,8 @@ use Rattle.ending_laws.specs.FirstRound.{first-round-low, no-atoms-uncha
 pub data Run (n : ℕ) : State → ℕ → Outcome → Type 0 where
   finds-contradiction : {st : State} → hasEmpty (round n st) ≡ true → Run n st 1 contradiction
   changes-nothing : {st : State} → hasEmpty (round n st) ≡ false → unchanged st (round n st) ≡ true → Run n st 1 (settled (round n st))
-  goes-on : {st : State} {k : ℕ} {o : Outcome} → hasEmpty (round n st) ≡ false → unchanged st (round n st) ≡ false →
-      Run n (round n st) k o → Run n st (suc k) o
+  goes-on : {st : State} {k : ℕ} {o : Outcome} → hasEmpty (round n st) ≡ false → unchanged st (round n st) ≡ false
+      → Run n (round n st) k o → Run n st (suc k) o
 
 -- A run that needs at most f rounds is the one that `rounds` and `begun` give with f.
 pub run-found : {n : ℕ} {st : State} {k : ℕ} {o : Outcome} → Run n st k o → (f : ℕ) → k ≤ f → (rounds n f st ≡ o) × (begun n f st ≡ k)
@@ -41,6 +44,13 @@ one-run {k} {j} r s =
     let second = run-found s (k + j) (omega arith) in
     (sym (first .1) ∙ second .1, sym (first .0) ∙ second .0)
 
+-- What each round keeps, and a contradiction keeps, holds of what comes of a run.
+pub along-run : {n : ℕ} (P : Outcome → Type 0) → ((st : State) → P (settled st) → hasEmpty (round n st) ≡ true → P contradiction)
+    → ((st : State) → P (settled st) → P (settled (round n st))) → {st : State} {k : ℕ} {o : Outcome} → Run n st k o → P (settled st) → P o
+along-run P fails keeps (finds-contradiction {st} e) h = fails st h e
+along-run P fails keeps (changes-nothing {st} e u) h = keeps st h
+along-run P fails keeps (goes-on {st} e u r) h = along-run P fails keeps r (keeps st h)
+
 -- ---- There is one, and it begins at most 2(n + k) + 1 rounds.
 
 -- A run from a state that begins at most so many rounds.
@@ -51,8 +61,8 @@ pub record Ends (n : ℕ) (st : State) (most : ℕ) : Type 0 where
   pub within : begins ≤ most
 
 -- One round, and then the rest if the round settles nothing.
-one-round : (n : ℕ) (st : State) (most : ℕ) → (hasEmpty (round n st) ≡ false → unchanged st (round n st) ≡ false → Ends n (round n st) most) →
-    Ends n st (suc most)
+one-round : (n : ℕ) (st : State) (most : ℕ) → (hasEmpty (round n st) ≡ false → unchanged st (round n st) ≡ false → Ends n (round n st) most)
+    → Ends n st (suc most)
 one-round n st most further = by-tests (hasEmpty (round n st)) (unchanged st (round n st)) refl refl
   where
     by-tests : (b c : Bool) → hasEmpty (round n st) ≡ b → unchanged st (round n st) ≡ c → Ends n st (suc most)
@@ -71,8 +81,8 @@ ends-low n zero st low h = absurd (omega arith)
 ends-low n (suc most) st low h = one-round n st most (λ e u. ends-low n most (round n st) (round-low n st low) (omega (arith, round-falls n st low e u)))
 
 -- After a first round that left sets below 8: each further round takes a sign out, but for one that finds all sets full, which changes nothing.
-after-first : (n : ℕ) (st : State) → Low n (round n st) → hasEmpty (round n st) ≡ false → 0 < length (st .atoms) →
-    Ends n (round n st) (2 * (length (st .board) + length (st .atoms)))
+after-first : (n : ℕ) (st : State) → Low n (round n st) → hasEmpty (round n st) ≡ false → 0 < length (st .atoms)
+    → Ends n (round n st) (2 * (length (st .board) + length (st .atoms)))
 after-first n st low left has-atoms = by-spare (decLt (spareOf (round n st)) most)
   where
     most : ℕ
@@ -85,10 +95,10 @@ after-first n st low left has-atoms = by-spare (decLt (spareOf (round n st)) mos
     by-spare (yes h) = ends-low n most (round n st) low h
     by-spare (no h) =
         let still = second-round-unchanged n st low left (all-full h) in
-        ends-sooner (omega arith) (one-round n (round n st) 0 (λ e u. absurd (true≢false (sym still ∙ u))))
+        ends-sooner (omega arith) (one-round n (round n st) 0 (λ e u. never-both still u))
 
 ends-from : (n : ℕ) (board : Board) (atoms : List Atom) → Ends n (record { board = board; atoms = atoms }) (suc (2 * (length board + length atoms)))
-ends-from n board [] = one-round n _ _ (λ e u. absurd (true≢false (sym (no-atoms-unchanged n board) ∙ u)))
+ends-from n board [] = one-round n _ _ (λ e u. never-both (no-atoms-unchanged n board) u)
 ends-from n board (a ∷ l) =
     let st : State = record { board = board; atoms = a ∷ l } in
     one-round n st _ (λ e u. after-first n st (first-round-low n board a l) e (omega arith))
@@ -124,20 +134,23 @@ more-rounds-begin-no-more n k st = run-found (rounds-end n st) (enough st + k) (
 
 -- ---- The same for a list of atoms, from its start.
 
-placed-length : (at : Option ℕ) (s : SignSet) (board : Board) → length (placed at s board) ≡ length board
+-- To place a set on the board keeps its length.
+pub placed-length : (at : Option ℕ) (s : SignSet) (board : Board) → length (placed at s board) ≡ length board
 unfolding placed
 placed-length none s board = refl
 placed-length (some i) s board = length-set board i _
 
-placedAll-length : (n : ℕ) (l : List Atom) (board : Board) → length (placedAll n l board) ≡ length board
+-- What each placing keeps, that of all variable atoms keeps.
+pub along-placed : (P : Board → Type 0) → ((at : Option ℕ) (s : SignSet) (board : Board) → P board → P (placed at s board))
+    → (n : ℕ) (l : List Atom) (board : Board) → P board → P (placedAll n l board)
 unfolding placedAll
-placedAll-length n [] board = refl
-placedAll-length n (a ∷ l) board = placedAll-length n l _ ∙ placed-length (which n (a .polynomial)) (a .set) board
+along-placed P keeps n [] board h = h
+along-placed P keeps n (a ∷ l) board h = along-placed P keeps n l _ (keeps (which n (a .polynomial)) (a .set) board h)
 
 -- The board has a set for each variable.
 pub start-length : (n : ℕ) (l : List Atom) → length (start n l .board) ≡ n
 unfolding start
-start-length n l = placedAll-length n l (replicate n full) ∙ length-replicate n full
+start-length n l = along-placed (λ board. length board ≡ n) (λ at s board e. placed-length at s board ∙ e) n l (replicate n full) (length-replicate n full)
 
 -- The run of a list is the run of 01 from its start.
 pub run-ends : (n : ℕ) (l : List Atom) → Run n (start n l) (begun n (enough (start n l)) (start n l)) (run n l)
@@ -148,3 +161,18 @@ run-ends n l = rounds-end n (start n l)
 pub at-most-for-list : (n : ℕ) (l : List Atom) → begun n (enough (start n l)) (start n l) ≤ 2 * (n + length (nonVariable n l)) + 1
 unfolding start
 at-most-for-list n l = rw (start-length n l) at (at-most n (start n l))
+
+none-is-empty : (n : ℕ) → anyEmpty (replicate n full) ≡ false
+unfolding anyEmpty
+none-is-empty zero = refl
+none-is-empty (suc n) = none-is-empty n
+
+-- Over no atoms the rounds settle as they began: they find no contradiction.
+pub run-idle : (n : ℕ) → run n [] ≡ settled (start n [])
+unfolding run start placedAll nonVariable hasEmpty setsOf anyEmpty enough
+run-idle n =
+    let st : State = start n [] in
+    let still : round n st ≡ st = no-atoms-still n (replicate n full) in
+    let filled : hasEmpty (round n st) ≡ false = rw (still, none-is-empty n) in
+    let idle : Run n st 1 (settled (round n st)) = changes-nothing filled (no-atoms-unchanged n (replicate n full)) in
+    run-found idle (enough st) (omega arith) .0 ∙ ap settled still

@@ -10,7 +10,8 @@ use native.Mathlib.Nat.{le-refl}
 use Rattle.rules.specs.Polynomial.{Atom}
 use Rattle.rules.specs.Rounds.{State, Outcome, contradiction, settled, run}
 use Rattle.rules.specs.Formula.{end, atom, and, or, isEnd}
-use Rattle.rules.specs.Level.{Formula, atomsOf, orsOf, Entry, fails, joins, stays, joinsIf, enter, Walk, falls, still, moved, add, Tidied, broken, tidied, tidy, unlessDropped, prunedIf, prune, addPruned, sweep, Again, afterSweep, afterRounds, afterTidy, settle, inner, innerAll, settled-down}
+use Rattle.rules.specs.Level.{Formula, atomsOf, orsOf, Entry, fails, joins, stays, joinsIf, enter, Walk, falls, still, moved, add, Tidied, broken, tidied, tidy}
+use Rattle.rules.specs.Level.{unlessDropped, prunedIf, prune, addPruned, sweep, Again, afterSweep, afterRounds, afterTidy, settle, inner, innerAll, settled-down}
 
 -- ---- The inner nodes of the OR children.
 
@@ -32,8 +33,8 @@ LeavesAtMost m fails = Unit {0}
 LeavesAtMost m (joins l ors) = innerAll ors ≤ m
 LeavesAtMost m (stays child) = inner child ≤ m
 
-joinsIf-leaves : (one : Bool) (m : ℕ) (l : List Atom) (ors : List Formula) (child : Formula) → innerAll ors ≤ m → inner child ≤ m →
-    LeavesAtMost m (joinsIf one l ors child)
+joinsIf-leaves : (one : Bool) (m : ℕ) (l : List Atom) (ors : List Formula) (child : Formula) → innerAll ors ≤ m → inner child ≤ m
+    → LeavesAtMost m (joinsIf one l ors child)
 unfolding LeavesAtMost joinsIf
 joinsIf-leaves true m l ors child h i = h
 joinsIf-leaves false m l ors child h i = i
@@ -73,8 +74,8 @@ AtMost : ℕ → Option Formula → Type 0
 AtMost m none = Unit {0}
 AtMost m (some child) = inner child ≤ m
 
-unlessDropped-most : (f : Formula → Formula) (m k : ℕ) → ((rest : Formula) → inner rest ≤ m → inner (f rest) ≤ k) →
-    (pruned : Option Formula) → AtMost m pruned → AtMost k (unlessDropped f pruned)
+unlessDropped-most : (f : Formula → Formula) (m k : ℕ) → ((rest : Formula) → inner rest ≤ m → inner (f rest) ≤ k)
+    → (pruned : Option Formula) → AtMost m pruned → AtMost k (unlessDropped f pruned)
 unfolding AtMost unlessDropped
 unlessDropped-most f m k h none most = tt
 unlessDropped-most f m k h (some rest) most = h rest most
@@ -140,5 +141,5 @@ more-turns-change-nothing n k l ors = enough-turns n _ _ l ors (omega arith) (om
 pub no-turn-missing : (n : ℕ) (l : List Atom) (ors : List Formula) → settled-down n l ors ≡ afterTidy n (tidy l) ors (settled-down n)
 unfolding settle settled-down
 no-turn-missing n l ors =
-    enough-turns n (1 + innerAll ors) (suc (innerAll ors)) l ors (omega arith) (omega arith) ∙
-    afterTidy-same n ors _ _ (λ m left fewer. enough-turns n (innerAll ors) (1 + innerAll left) m left fewer (omega arith)) (tidy l)
+    enough-turns n (1 + innerAll ors) (suc (innerAll ors)) l ors (omega arith) (omega arith)
+    ∙ afterTidy-same n ors _ _ (λ m left fewer. enough-turns n (innerAll ors) (1 + innerAll left) m left fewer (omega arith)) (tidy l)

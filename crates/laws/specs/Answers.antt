@@ -1,34 +1,34 @@
--- The theorems about the whole answer, from bytes to bytes: the same lifts, and never longer (`rules/specs/Demands.antt` has the two definitions).
+-- The theorems about the whole answer, from bytes to bytes: the same lifts, and never longer.
+-- `rules/specs/Demands.antt` has the two definitions.
 use mathlib.Core.Path.{_≡_, refl, sym, ap, _∙_, subst}
 use mathlib.Core.Bool.{Bool, true, false}
 use mathlib.Core.List.{List}
-use mathlib.Core.Option.{Option, some}
-use Prim.Native.Nat.{ℕ, _≤_}
+use mathlib.Core.Option.{some}
+use Prim.Native.Nat.{ℕ}
 use native.Mathlib.Omega.{arith}
 use lib.Dec.{leb}
-use lib.IntN.{ℤ}
 use lib.ListN.{length}
-use Rattle.rules.specs.Formula.{alone, atoms}
-use Rattle.rules.specs.Block.{Block, Stream, Reading, refused, read, readBlock, writeBlock, blockLength}
-use Rattle.rules.specs.Answer.{Answer, refusal, answered, always, unsatisfiable, formulaOf, verdictOf, simplified, newBlock, countsOf, answerTo, unlessShort, answer}
-use Rattle.rules.specs.Meaning.{holds, holdsAt, signAt}
+use Rattle.rules.specs.Formula.{atoms}
+use Rattle.rules.specs.Block.{Block, Stream, Reading, refused, read, readBlock, writeBlock}
+use Rattle.rules.specs.Answer.{Answer, refusal, formulaOf, simplified, newBlock, countsOf, answerTo, unlessShort, answer}
+use Rattle.rules.specs.Meaning.{holdsAt}
 use Rattle.rules.specs.Demands.{readHolds, SameLifts, NeverLonger}
+use Rattle.block_laws.specs.Blocks.{reads-back, block-accepted, accepted-within}
+use Rattle.block_laws.specs.Sizes.{length-block}
 use Rattle.level_laws.specs.Rules.{verdict-always, verdict-unsatisfiable}
 use Rattle.level_laws.specs.Written.{newBlock-keeps}
 use Rattle.length_laws.specs.NeverLonger.{never-longer}
 use Rattle.length_laws.specs.NewWithin.{new-within}
-use Rattle.block_laws.specs.Blocks.{reads-back, block-accepted, accepted-within}
-use Rattle.block_laws.specs.Sizes.{length-block}
 use Rattle.laws.specs.Readings.{respected}
 
--- ---- an accepted block
+-- ---- An accepted block.
 
 module _ (bytes : List ℕ) {given : Block} {stream : Stream} (accepted : readBlock bytes ≡ read given stream) where
-  -- the answer's bytes are accepted, as the block that the answer is
+  -- The answer's bytes are accepted, as the block that the answer is.
   pub answer-reads-back : (left : Stream) × (readBlock (writeBlock (newBlock given)) ≡ read (newBlock given) left)
   answer-reads-back = reads-back (newBlock given) (new-within given (accepted-within bytes accepted))
 
-  -- at every choice of whole numbers the answer, read back, holds exactly when the block does; ALWAYS and UNSATISFIABLE are right there
+  -- At every choice of whole numbers the answer, read back, holds exactly when the block does; ALWAYS and UNSATISFIABLE are right there.
   pub same-lifts-of : SameLifts (read given stream) (answerTo (read given stream))
   unfolding SameLifts answerTo readHolds holdsAt simplified
   same-lifts-of readings many = (
@@ -37,14 +37,14 @@ module _ (bytes : List ℕ) {given : Block} {stream : Stream} (accepted : readBl
     verdict-unsatisfiable (respected readings many) (formulaOf given),
   )
 
-  -- no more atoms, polynomials or bytes
+  -- No more atoms, polynomials or bytes.
   pub never-longer-of : NeverLonger bytes (answerTo (read given stream))
   unfolding NeverLonger answerTo countsOf
   never-longer-of =
       let shorter = never-longer given (accepted-within bytes accepted) in
       (shorter .atoms, shorter .polynomials, omega (arith, length-block (newBlock given), shorter .bytes, block-accepted bytes accepted .long))
 
--- ---- the answer to any byte string, however much output is lent: a refusal, or that to an accepted block
+-- ---- The answer to any byte string, however much output is lent: a refusal, or that to an accepted block.
 
 by-reading : (P : Answer → Type 0) (reading : Reading Block) → ((number : ℕ) → P (refusal number))
     → ((given : Block) (stream : Stream) → reading ≡ read given stream → P (answerTo (read given stream))) → P (answerTo reading)

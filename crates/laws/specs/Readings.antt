@@ -1,23 +1,21 @@
 -- The signs that polynomials have at a choice of whole numbers are respected by the deductions: whole numbers are one way to give each polynomial a
 -- sign for which the level's laws hold. (Another one, over the same law of deduction, would be fractions with a common denominator.)
-use mathlib.Core.Path.{_≡_, refl, sym, ap, _∙_, subst}
-use mathlib.Core.Bool.{true}
+use mathlib.Core.Path.{_≡_, sym, _∙_, subst}
 use mathlib.Core.List.{List, [], _∷_}
-use Prim.Native.Nat.{ℕ, zero, suc, _<_}
+use Prim.Native.Nat.{ℕ, suc, _<_}
 use native.Mathlib.Omega.{arith}
 use lib.IntN.{ℤ, pos}
 use lib.ListN.{length, getD}
-use Rattle.rules.specs.Signs.{SignSet, full, signOf}
-use Rattle.rules.specs.Polynomial.{Board, variable}
-use Rattle.rules.specs.Meaning.{monomialAt, signAt, atomHolds}
+use Rattle.rules.specs.Signs.{full, signOf}
+use Rattle.rules.specs.Polynomial.{Board}
+use Rattle.rules.specs.Meaning.{monomialAt, signAt}
 use Rattle.sign_laws.specs.Sets.{_In_}
-use Rattle.sign_laws.specs.Whole.{_∈_}
 use Rattle.deduction_laws.specs.Readings.{by-terms, by-deduction, variable-sign}
 use Rattle.deduction_laws.specs.Readings.{Fits as ReadingsFit, no-readings, reading}
 use Rattle.normal_laws.specs.Keeps.{normal-holds, constant-sign, monomial-one}
 use Rattle.level_laws.specs.Respects.{Fits, Respects}
 
--- a board that holds the signs of the readings, place by place
+-- A board that holds the signs of the readings, place by place.
 place-by-place : (readings : List ℤ) (board : Board) → length board ≡ length readings
     → ((i : ℕ) → i < length readings → signOf (getD readings i (pos 0)) In getD board i full) → ReadingsFit readings board
 place-by-place [] [] long each = no-readings
@@ -31,7 +29,7 @@ module _ (readings : List ℤ) {n : ℕ} (many : length readings ≡ n) where
   fits board f = place-by-place readings board (f .long ∙ sym many)
       (λ i h. subst (λ s. s In getD board i full) (variable-sign readings many (rw (← many) h)) (f .each i))
 
-  -- the signs at a choice of whole numbers for the n variables
+  -- The signs at a choice of whole numbers for the n variables.
   pub respected : Respects (signAt readings) n
   unfolding signAt
   respected = record {

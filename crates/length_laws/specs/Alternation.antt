@@ -5,15 +5,18 @@ use Prim.Native.Nat.{ℕ, suc}
 use Rattle.rules.specs.Polynomial.{Atom}
 use Rattle.rules.specs.Formula.{end, atom, and, or, Node, leaf, allOf, anyOf, alone, open-formula}
 use Rattle.rules.specs.Level.{Formula, complemented, dual, dualNode, atomsOf, orsOf, orParts, parts}
-use Rattle.length_laws.specs.Lists.{Every, every-none, every}
+use Rattle.sign_laws.specs.Lists.{Every, every-none, every}
 
+-- The two kinds of inner node.
 pub data Join : Type 0 where
   AND OR : Join
 
+-- The other of the two.
 abbrev pub other : Join → Join
 other AND = OR
 other OR = AND
 
+-- The parts of a node of this kind, with d nestings left below it.
 pub data Alternates (P : Atom → Type 0) : Join → ℕ → Formula → Type 0 where
   no-parts : {join : Join} {d : ℕ} → Alternates P join d end
   an-atom : {join : Join} {d : ℕ} {a : Atom} {rest : Formula} → P a → Alternates P join d rest → Alternates P join d (atom a rest)
@@ -21,21 +24,21 @@ pub data Alternates (P : Atom → Type 0) : Join → ℕ → Formula → Type 0 
   an-or : {d : ℕ} {kids rest : Formula} → Alternates P OR d kids → Alternates P AND (suc d) rest → Alternates P AND (suc d) (or kids rest)
 
 module _ {P : Atom → Type 0} where
-  -- one more nesting may be left
+  -- One more nesting may be left.
   pub deeper : {join : Join} {d : ℕ} {f : Formula} → Alternates P join d f → Alternates P join (suc d) f
   deeper no-parts = no-parts
   deeper (an-atom h rest) = an-atom h (deeper rest)
   deeper (an-and kids rest) = an-and (deeper kids) (deeper rest)
   deeper (an-or kids rest) = an-or (deeper kids) (deeper rest)
 
-  -- a wider property
+  -- The atoms may have a wider property.
   pub alternates-wider : {Q : Atom → Type 0} → ((a : Atom) → P a → Q a) → {join : Join} {d : ℕ} {f : Formula} → Alternates P join d f → Alternates Q join d f
   alternates-wider h no-parts = no-parts
   alternates-wider h (an-atom {a = a} k rest) = an-atom (h a k) (alternates-wider h rest)
   alternates-wider h (an-and kids rest) = an-and (alternates-wider h kids) (alternates-wider h rest)
   alternates-wider h (an-or kids rest) = an-or (alternates-wider h kids) (alternates-wider h rest)
 
-  -- complement and exchange
+  -- After complement and exchange the parts alternate as those of the other kind.
   pub alternates-dual : ((a : Atom) → P a → P (complemented a)) → {join : Join} {d : ℕ} {f : Formula} → Alternates P join d f → Alternates P (other join) d (dual f)
   unfolding dual
   alternates-dual h no-parts = no-parts
@@ -43,54 +46,59 @@ module _ {P : Atom → Type 0} where
   alternates-dual h (an-and kids rest) = an-or (alternates-dual h kids) (alternates-dual h rest)
   alternates-dual h (an-or kids rest) = an-and (alternates-dual h kids) (alternates-dual h rest)
 
--- ---- the OR children of an AND with d nestings left
+-- ---- The OR children of an AND with d nestings left.
 
+-- The parts of such a child: it takes one nesting.
 pub data Child (P : Atom → Type 0) : ℕ → Formula → Type 0 where
   child : {d : ℕ} {f : Formula} → Alternates P OR d f → Child P (suc d) f
 
 module _ {P : Atom → Type 0} where
+  -- One more nesting may be left.
   pub child-deeper : {d : ℕ} {f : Formula} → Child P d f → Child P (suc d) f
   child-deeper (child h) = child (deeper h)
 
-  -- the direct atoms and the OR children that step 1 takes
+  -- Each direct atom that step 1 takes has the property.
   pub direct-atoms : {d : ℕ} {f : Formula} → Alternates P AND d f → Every P (atomsOf f)
   unfolding atomsOf
   direct-atoms no-parts = every-none
   direct-atoms (an-atom h rest) = every h (direct-atoms rest)
   direct-atoms (an-or kids rest) = direct-atoms rest
 
+  -- And each OR child that it takes alternates, one nesting lower.
   pub or-children : {d : ℕ} {f : Formula} → Alternates P AND d f → Every (Child P d) (orsOf f)
   unfolding orsOf
   or-children no-parts = every-none
   or-children (an-atom h rest) = or-children rest
   or-children (an-or kids rest) = every (child kids) (or-children rest)
 
-  -- the parts that step 6 puts together
   alternates-ors : {d : ℕ} {ors : List Formula} → Every (Child P d) ors → Alternates P AND d (orParts ors)
   unfolding orParts
   alternates-ors every-none = no-parts
   alternates-ors (every (child h) later) = an-or h (alternates-ors later)
 
+  -- The parts that step 6 puts together of such atoms and children alternate.
   pub alternates-parts : {d : ℕ} {l : List Atom} {ors : List Formula} → Every P l → Every (Child P d) ors → Alternates P AND d (parts l ors)
   unfolding parts
   alternates-parts every-none k = alternates-ors k
   alternates-parts (every h hs) k = an-atom h (alternates-parts hs k)
 
--- ---- a whole tree: an atom, or an AND or OR with d nestings left below it
+-- ---- A whole tree: an atom, or an AND or OR with d nestings left below it.
 
+-- Its root is an atom, an AND or an OR.
 pub data TreeAlternates (P : Atom → Type 0) (d : ℕ) : Node Atom → Type 0 where
   one-atom : {a : Atom} → P a → TreeAlternates P d (leaf a)
   one-and : {kids : Formula} → Alternates P AND d kids → TreeAlternates P d (allOf kids)
   one-or : {kids : Formula} → Alternates P OR d kids → TreeAlternates P d (anyOf kids)
 
 module _ {P : Atom → Type 0} where
+  -- After complement and exchange the tree alternates still.
   pub tree-dual : ((a : Atom) → P a → P (complemented a)) → {d : ℕ} {tree : Node Atom} → TreeAlternates P d tree → TreeAlternates P d (dualNode tree)
   unfolding dualNode
   tree-dual h (one-atom {a} k) = one-atom (h a k)
   tree-dual h (one-and kids) = one-or (alternates-dual h kids)
   tree-dual h (one-or kids) = one-and (alternates-dual h kids)
 
-  -- as the only part, it alternates in one nesting more
+  -- As the only part, it alternates in one nesting more.
   pub tree-alone : {X : Type 0} {d : ℕ} {tree : Node Atom} → TreeAlternates P d tree → ((join : Join) → Alternates P join (suc d) (alone tree) → X) → X
   unfolding open-formula
   tree-alone (one-atom h) found = found AND (an-atom h no-parts)

@@ -1,15 +1,14 @@
 -- What is said of the atoms of a block, and of the atoms that the level rules make of them: sets of three bits, and polynomials whose normal forms
 -- are, or that are themselves, among given forms.
-use mathlib.Core.Bool.{not, _&&_}
 use mathlib.Core.List.{List}
 use mathlib.Core.List.{List·Memᴰ as Member, Memᴰ·cast as member-same}
 use mathlib.Core.Path.{_≡_}
 use Prim.Native.Nat.{_<_}
 use lib.Dec.{lit<}
-use Rattle.rules.specs.Signs.{SignSet, has, full, complement, intersect}
+use Rattle.rules.specs.Signs.{SignSet, full, complement, intersect}
 use Rattle.rules.specs.Polynomial.{Polynomial, Atom, normal}
 use Rattle.rules.specs.Level.{complemented}
-use Rattle.sign_laws.specs.Sets.{setOf-small}
+use Rattle.sign_laws.specs.Sets.{intersect-below, complement-below}
 use Rattle.normal_laws.specs.Shape.{normalForm, normal-small, normal-alike}
 
 -- A set of three bits.
@@ -26,39 +25,40 @@ pub record Formed (forms : List Polynomial) (a : Atom) : Type 0 where
   pub small : Small (a .set)
   pub form : Member (a .polynomial) forms
 
--- ---- sets
+-- ---- Sets.
 
+-- The full set is one.
 pub full-small : Small full
 full-small = record { bits = lit< tt }
 
+-- And so is each intersection.
 pub intersect-small : (a b : SignSet) → Small (intersect a b)
-unfolding intersect
-intersect-small a b = record { bits = setOf-small (λ s. has s a && has s b) }
+intersect-small a b = record { bits = intersect-below a b }
 
 complement-small : (a : SignSet) → Small (complement a)
-unfolding complement
-complement-small a = record { bits = setOf-small (λ s. not (has s a)) }
+complement-small a = record { bits = complement-below a }
 
--- ---- atoms
+-- ---- Atoms.
 
 module _ {forms : List Polynomial} where
-  -- another set
+  -- With another set of three bits an atom stays formed.
   pub formed-with : {a : Atom} (s : SignSet) → Small s → Formed forms a → Formed forms (record { polynomial = a .polynomial; set = s })
   formed-with s h k = record { small = h; form = k .form }
 
-  -- the normal form
+  -- The normal form of an atom that a block gives is formed.
   pub formed-normal : (a : Atom) → Given forms a → Formed forms (normal a)
   formed-normal a h = record { small = record { bits = normal-small a (h .small .bits) }; form = member-same (normal-alike a) (h .form) }
 
-  -- the complement
+  -- The complement of an atom is as a block might give it, if the atom is.
   pub given-complemented : (a : Atom) → Given forms a → Given forms (complemented a)
   unfolding complemented
   given-complemented a h = record { small = complement-small (a .set); form = h .form }
 
+  -- And it is formed, if the atom is.
   pub formed-complemented : (a : Atom) → Formed forms a → Formed forms (complemented a)
   unfolding complemented
   formed-complemented a h = record { small = complement-small (a .set); form = h .form }
 
-  -- the forms being normal forms, an atom in normal form is also as a block might give it
+  -- The forms being normal forms, an atom in normal form is also as a block might give it.
   pub formed-given : ((p : Polynomial) → Member p forms → normalForm p ≡ p) → (a : Atom) → Formed forms a → Given forms a
   formed-given own a h = record { small = h .small; form = member-same (own (a .polynomial) (h .form)) (h .form) }

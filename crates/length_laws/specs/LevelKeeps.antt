@@ -18,8 +18,8 @@ use Rattle.rules.specs.Level.{Tidied, broken, tidied, mergedIf, mergeInto, merg
 use Rattle.rules.specs.Level.{unlessDropped, prunedIf, prune, addPruned, sweep, keptUnless, implied, removeImplied, never, Again, afterSweep}
 use Rattle.rules.specs.Level.{afterRounds, afterTidy, settle}
 use Rattle.rules.specs.Level.{innerAll, settled-down, afterGather, andRule, nodeIf, asNode, simplify, open-level}
+use Rattle.sign_laws.specs.Lists.{Every, every-none, every, every-append, every-wider}
 use Rattle.normal_laws.specs.Shape.{normalForm}
-use Rattle.length_laws.specs.Lists.{Every, every-none, every, every-append, every-wider}
 use Rattle.length_laws.specs.Alternation.{AND, OR, Alternates, no-parts, an-atom, an-and, an-or, deeper, alternates-dual, Child, child}
 use Rattle.length_laws.specs.Alternation.{child-deeper, direct-atoms, or-children, alternates-parts, TreeAlternates, one-atom, one-and, one-or}
 use Rattle.length_laws.specs.Alternation.{tree-dual}
@@ -54,11 +54,11 @@ record Keeps (forms : List Polynomial) (d : ℕ) (again : Again) : Type 0 where
   back : (l : List Atom) (ors : List Formula) → Every (Formed forms) l → Every (Child (Formed forms) d) ors → Result forms d (again l ors)
 
 module _ {forms : List Polynomial} where
-  -- ---- steps 1 and 4: an OR child that comes back, and the walk over the children
+  -- ---- Steps 1 and 4: an OR child that comes back, and the walk over the children.
 
-  joinsIf-formed : {d : ℕ} (b : Bool) {l : List Atom} {ors : List Formula} {f : Formula} →
-      Every (Formed forms) l → Every (Child (Formed forms) d) ors → Child (Formed forms) d f →
-      EntryFormed forms d (joinsIf b l ors f)
+  joinsIf-formed : {d : ℕ} (b : Bool) {l : List Atom} {ors : List Formula} {f : Formula}
+      → Every (Formed forms) l → Every (Child (Formed forms) d) ors → Child (Formed forms) d f
+      → EntryFormed forms d (joinsIf b l ors f)
   unfolding joinsIf
   joinsIf-formed true l ors f = it-joins l ors
   joinsIf-formed false l ors f = it-stays f
@@ -80,8 +80,8 @@ module _ {forms : List Polynomial} where
   add-formed (it-stays f) (are-still later) = are-still (every f later)
   add-formed (it-stays f) (have-moved m later) = have-moved m (every f later)
 
-  gather-formed : {d : ℕ} (rule : Formula → Formula) → ((f : Formula) → Child (Given forms) d f → EntryFormed forms d (enter (rule f))) →
-      {ors : List Formula} → Every (Child (Given forms) d) ors → WalkFormed forms d (gather rule ors)
+  gather-formed : {d : ℕ} (rule : Formula → Formula) → ((f : Formula) → Child (Given forms) d f → EntryFormed forms d (enter (rule f)))
+      → {ors : List Formula} → Every (Child (Given forms) d) ors → WalkFormed forms d (gather rule ors)
   unfolding gather
   gather-formed rule h every-none = are-still every-none
   gather-formed rule h (every {a = f} k ks) = add-formed (h f k) (gather-formed rule h ks)
@@ -93,8 +93,8 @@ module _ {forms : List Polynomial} where
   prunedIf-formed false false h dropped = dropped
   prunedIf-formed false false h (left rest) = left (an-atom h rest)
 
-  unlessDropped-formed : {d : ℕ} {kids : Formula} {o : Option Formula} → Alternates (Formed forms) AND d kids → PrunedFormed forms (suc d) o →
-      PrunedFormed forms (suc d) (unlessDropped (and kids) o)
+  unlessDropped-formed : {d : ℕ} {kids : Formula} {o : Option Formula} → Alternates (Formed forms) AND d kids → PrunedFormed forms (suc d) o
+      → PrunedFormed forms (suc d) (unlessDropped (and kids) o)
   unfolding unlessDropped
   unlessDropped-formed kids dropped = dropped
   unlessDropped-formed kids (left rest) = left (an-and kids rest)
@@ -118,10 +118,10 @@ module _ {forms : List Polynomial} where
   sweep-formed n st every-none = are-still every-none
   sweep-formed n st (every (child h) later) = addPruned-formed (prune-formed n st h) (sweep-formed n st later)
 
-  -- ---- step 2
+  -- ---- Step 2.
 
-  mergedIf-formed : (b : Bool) (a first : Atom) {later merged : List Atom} → Formed forms first → Every (Formed forms) later → Every (Formed forms) merged →
-      Every (Formed forms) (mergedIf b a first later merged)
+  mergedIf-formed : (b : Bool) (a first : Atom) {later merged : List Atom} → Formed forms first → Every (Formed forms) later → Every (Formed forms) merged
+      → Every (Formed forms) (mergedIf b a first later merged)
   unfolding mergedIf
   mergedIf-formed true a first h hs ks = every (formed-with (intersect (first .set) (a .set)) (intersect-small (first .set) (a .set)) h) hs
   mergedIf-formed false a first h hs ks = every h ks
@@ -131,14 +131,14 @@ module _ {forms : List Polynomial} where
   mergeInto-formed h every-none = every h every-none
   mergeInto-formed {a} h (every {a = first} k ks) = mergedIf-formed (same (a .polynomial) (first .polynomial)) a first k ks (mergeInto-formed h ks)
 
-  mergeConstant-formed : (b : Bool) {l : List Atom} (more : List Atom → Tidied) → Every (Formed forms) l →
-      ((m : List Atom) → Every (Formed forms) m → TidiedFormed forms (more m)) → TidiedFormed forms (mergeConstant b l more)
+  mergeConstant-formed : (b : Bool) {l : List Atom} (more : List Atom → Tidied) → Every (Formed forms) l
+      → ((m : List Atom) → Every (Formed forms) m → TidiedFormed forms (more m)) → TidiedFormed forms (mergeConstant b l more)
   unfolding mergeConstant
   mergeConstant-formed true {l} more h k = k l h
   mergeConstant-formed false more h k = is-broken
 
-  mergeNormal-formed : (o : Option ℤ) {a : Atom} {l : List Atom} (more : List Atom → Tidied) → Formed forms a → Every (Formed forms) l →
-      ((m : List Atom) → Every (Formed forms) m → TidiedFormed forms (more m)) → TidiedFormed forms (mergeNormal o a l more)
+  mergeNormal-formed : (o : Option ℤ) {a : Atom} {l : List Atom} (more : List Atom → Tidied) → Formed forms a → Every (Formed forms) l
+      → ((m : List Atom) → Every (Formed forms) m → TidiedFormed forms (more m)) → TidiedFormed forms (mergeNormal o a l more)
   unfolding mergeNormal
   mergeNormal-formed none {a} {l} more g h k = k (mergeInto a l) (mergeInto-formed g h)
   mergeNormal-formed (some c) {a} more g h k = mergeConstant-formed (has (signOf c) (a .set)) more h k
@@ -170,7 +170,7 @@ module _ {forms : List Polynomial} where
   unfolding tidy
   tidy-formed h = afterMerging-formed (merge-formed every-none h)
 
-  -- ---- step 5
+  -- ---- Step 5.
 
   keptUnless-formed : (b : Bool) {a : Atom} {kept : List Atom} → Formed forms a → Every (Formed forms) kept → Every (Formed forms) (keptUnless b a kept)
   unfolding keptUnless
@@ -182,46 +182,46 @@ module _ {forms : List Polynomial} where
   removeImplied-formed n k every-none = k
   removeImplied-formed n {kept} k (every {a} {l = later} h hs) = removeImplied-formed n (keptUnless-formed (implied n (kept ++ later) a) h k) hs
 
-  -- ---- the steps in a row, the way back
+  -- ---- The steps in a row, the way back.
 
-  afterSweep-keeps : (n : ℕ) {d : ℕ} {l : List Atom} {walk : Walk} (again : Again) → Keeps forms d again → Every (Formed forms) l → WalkFormed forms d walk →
-      Result forms d (afterSweep n l walk again)
+  afterSweep-keeps : (n : ℕ) {d : ℕ} {l : List Atom} {walk : Walk} (again : Again) → Keeps forms d again → Every (Formed forms) l → WalkFormed forms d walk
+      → Result forms d (afterSweep n l walk again)
   unfolding open-level
   afterSweep-keeps n again h l it-falls = false-result
   afterSweep-keeps n again h l (are-still ors) = result (alternates-parts (removeImplied-formed n every-none l) ors)
   afterSweep-keeps n {l = atoms} again h l (have-moved {l = new} {ors = children} m ors) = h .back (atoms ++ new) children (every-append l m) ors
 
-  afterRounds-keeps : (n : ℕ) {d : ℕ} {l : List Atom} {outcome : Outcome} {ors : List Formula} (again : Again) → Keeps forms d again → Every (Formed forms) l →
-      OutcomeFormed forms outcome → Every (Child (Formed forms) d) ors → Result forms d (afterRounds n l outcome ors again)
+  afterRounds-keeps : (n : ℕ) {d : ℕ} {l : List Atom} {outcome : Outcome} {ors : List Formula} (again : Again) → Keeps forms d again → Every (Formed forms) l
+      → OutcomeFormed forms outcome → Every (Child (Formed forms) d) ors → Result forms d (afterRounds n l outcome ors again)
   unfolding open-level
   afterRounds-keeps n again h l contradicts ors = false-result
   afterRounds-keeps n again h l (settles {st} s) ors = afterSweep-keeps n again h (carried-formed n (s .board) l (s .atoms)) (sweep-formed n st ors)
 
-  afterTidy-keeps : (n : ℕ) {d : ℕ} {t : Tidied} {ors : List Formula} (again : Again) → Keeps forms d again → TidiedFormed forms t → Every (Child (Formed forms) d) ors →
-      Result forms d (afterTidy n t ors again)
+  afterTidy-keeps : (n : ℕ) {d : ℕ} {t : Tidied} {ors : List Formula} (again : Again) → Keeps forms d again → TidiedFormed forms t → Every (Child (Formed forms) d) ors
+      → Result forms d (afterTidy n t ors again)
   unfolding open-level
   afterTidy-keeps n again h is-broken ors = false-result
   afterTidy-keeps n again h (is-tidied l) ors = afterRounds-keeps n again h l (run-formed n l) ors
 
   module _ (own : (p : Polynomial) → Member p forms → normalForm p ≡ p) where
-    -- the turns after the first find the atoms formed
-    settle-keeps : (n k : ℕ) {d : ℕ} {l : List Atom} {ors : List Formula} → Every (Formed forms) l → Every (Child (Formed forms) d) ors →
-        Result forms d (settle n k l ors)
+    -- The turns after the first find the atoms formed.
+    settle-keeps : (n k : ℕ) {d : ℕ} {l : List Atom} {ors : List Formula} → Every (Formed forms) l → Every (Child (Formed forms) d) ors
+        → Result forms d (settle n k l ors)
     unfolding settle
     settle-keeps n zero l ors = result (alternates-parts l ors)
     settle-keeps n (suc k) l ors =
         afterTidy-keeps n (λ (m : List Atom) (later : List Formula). settle n k m later) (record { back = λ m later hs ks. settle-keeps n k hs ks })
         (tidy-formed (every-wider (formed-given own) l)) ors
 
-    -- the first turn forms them
-    first-turn : (n k : ℕ) {d : ℕ} {l : List Atom} {ors : List Formula} → Every (Given forms) l → Every (Child (Formed forms) d) ors →
-        Result forms d (settle n (suc k) l ors)
+    -- The first turn forms them.
+    first-turn : (n k : ℕ) {d : ℕ} {l : List Atom} {ors : List Formula} → Every (Given forms) l → Every (Child (Formed forms) d) ors
+        → Result forms d (settle n (suc k) l ors)
     unfolding settle
     first-turn n k l ors =
         afterTidy-keeps n (λ (m : List Atom) (later : List Formula). settle n k m later) (record { back = λ m later hs ks. settle-keeps n k hs ks }) (tidy-formed l) ors
 
-    settled-keeps : (n : ℕ) {d : ℕ} {l : List Atom} {ors : List Formula} → Every (Given forms) l → Every (Child (Formed forms) d) ors →
-        Result forms d (settled-down n l ors)
+    settled-keeps : (n : ℕ) {d : ℕ} {l : List Atom} {ors : List Formula} → Every (Given forms) l → Every (Child (Formed forms) d) ors
+        → Result forms d (settled-down n l ors)
     unfolding settled-down
     settled-keeps n {ors = children} l ors = rw (one-add (innerAll children)) (first-turn n (innerAll children) l ors)
 
@@ -231,20 +231,20 @@ module _ {forms : List Polynomial} where
     afterGather-keeps n l (are-still ors) = settled-keeps n l ors
     afterGather-keeps n l (have-moved new ors) = settled-keeps n (every-append l (every-wider (formed-given own) new)) ors
 
-    -- ---- the rules
+    -- ---- The rules.
 
-    -- an OR child that the OR rule made: "false" complemented is true, and joins as nothing
+    -- An OR child that the OR rule made: "false" complemented is true, and joins as nothing.
     enter-result : {d : ℕ} {f : Formula} → Result forms d f → EntryFormed forms (suc d) (enter (dual f))
     unfolding enter dual open-formula joinsIf atomsOf orsOf
     enter-result false-result = it-joins every-none every-none
     enter-result (result h) = enter-formed (alternates-dual formed-complemented h)
 
-    rule-by-children : (n : ℕ) {d : ℕ} {kids : Formula} → ((f : Formula) → Child (Given forms) d f → EntryFormed forms d (enter (dual (andRule n d (dual f))))) →
-        Alternates (Given forms) AND d kids → Result forms d (andRule n (suc d) kids)
+    rule-by-children : (n : ℕ) {d : ℕ} {kids : Formula} → ((f : Formula) → Child (Given forms) d f → EntryFormed forms d (enter (dual (andRule n d (dual f)))))
+        → Alternates (Given forms) AND d kids → Result forms d (andRule n (suc d) kids)
     unfolding andRule
     rule-by-children n {d} h kids = afterGather-keeps n (direct-atoms kids) (gather-formed (λ (f : Formula). dual (andRule n d (dual f))) h (or-children kids))
 
-    -- the AND rule, with a nesting more than there is below, gives such a result
+    -- The AND rule, with a nesting more than there is below, gives such a result.
     pub rule-keeps : (n d : ℕ) {kids : Formula} → Alternates (Given forms) AND d kids → Result forms d (andRule n (suc d) kids)
     rule-keeps n zero kids = rule-by-children n no-child kids
       where
@@ -252,14 +252,14 @@ module _ {forms : List Polynomial} where
         no-child f h = elim h [ ]
     rule-keeps n (suc d) kids = rule-by-children n (λ f h. each-child f h (λ g kept. rule-keeps n d kept)) kids
       where
-        each-child : (f : Formula) → Child (Given forms) (suc d) f → ((g : Formula) → Alternates (Given forms) AND d g → Result forms d (andRule n (suc d) g)) →
-            EntryFormed forms (suc d) (enter (dual (andRule n (suc d) (dual f))))
+        each-child : (f : Formula) → Child (Given forms) (suc d) f → ((g : Formula) → Alternates (Given forms) AND d g → Result forms d (andRule n (suc d) g))
+            → EntryFormed forms (suc d) (enter (dual (andRule n (suc d) (dual f))))
         each-child f (child h) keeps = enter-result (keeps (dual f) (alternates-dual given-complemented h))
 
-    -- ---- step 6 at the root, and the whole tree
+    -- ---- Step 6 at the root, and the whole tree.
 
-    nodeIf-keeps : {d : ℕ} (b : Bool) {one : Node Atom} {kids : Formula} → TreeAlternates (Formed forms) d one → Alternates (Formed forms) AND d kids →
-        TreeAlternates (Formed forms) d (nodeIf b one kids)
+    nodeIf-keeps : {d : ℕ} (b : Bool) {one : Node Atom} {kids : Formula} → TreeAlternates (Formed forms) d one → Alternates (Formed forms) AND d kids
+        → TreeAlternates (Formed forms) d (nodeIf b one kids)
     unfolding nodeIf
     nodeIf-keeps true h k = h
     nodeIf-keeps false h k = one-and k
@@ -271,7 +271,7 @@ module _ {forms : List Polynomial} where
     asNode-keeps (result (an-atom {rest = rest} h hs)) = nodeIf-keeps (isEnd rest) (one-atom h) (an-atom h hs)
     asNode-keeps (result (an-or {rest = rest} kids hs)) = nodeIf-keeps (isEnd rest) (one-or (deeper kids)) (an-or kids hs)
 
-    -- simplifying a tree of a block gives a formed tree of no deeper nesting
+    -- Simplifying a tree of a block gives a formed tree of no deeper nesting.
     pub simplify-keeps : (n : ℕ) {tree : Node Atom} → TreeAlternates (Given forms) 5 tree → TreeAlternates (Formed forms) 5 (simplify n tree)
     unfolding simplify
     simplify-keeps n (one-atom h) = asNode-keeps (rule-keeps n 5 (an-atom h no-parts))

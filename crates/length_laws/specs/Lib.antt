@@ -1,7 +1,5 @@
 pub mod Weight
-pub mod Idle
 pub mod Shorter
-pub mod Lists
 pub mod Alternation
 pub mod Formed
 pub mod RoundsKeep
@@ -9,6 +7,5 @@ pub mod LevelKeeps
 pub mod Pigeonhole
 pub mod Table
 pub mod Blocks
-pub mod Written
 pub mod NeverLonger
 pub mod NewWithin

@@ -9,64 +9,66 @@ use lib.Dec.{lit≤}
 use lib.ListN.{length}
 use Rattle.rules.specs.Polynomial.{Polynomial}
 use Rattle.rules.specs.Formula.{alone, nodes, atoms}
-use Rattle.rules.specs.Block.{Block, writeBody, blockLength}
+use Rattle.rules.specs.Block.{Block, blockLength}
 use Rattle.rules.specs.Limits.{BlockWithin}
 use Rattle.rules.specs.Answer.{lookedUp, formulaOf, used, numbered, blockOf, simplified, newBlock}
+use Rattle.sign_laws.specs.Lists.{Every, every-none}
+use Rattle.block_laws.specs.Sizes.{termCount, no-longer}
 use Rattle.normal_laws.specs.Shape.{normalForm, normalForm-length}
 use Rattle.length_laws.specs.Weight.{weight, weight-nodes, weight-atoms, weight-each-of}
 use Rattle.length_laws.specs.Shorter.{simplify-lighter}
-use Rattle.length_laws.specs.Lists.{Every, every-none}
 use Rattle.length_laws.specs.Alternation.{TreeAlternates, tree-alone}
 use Rattle.length_laws.specs.Formed.{Formed}
 use Rattle.length_laws.specs.LevelKeeps.{simplify-keeps}
 use Rattle.length_laws.specs.Pigeonhole.{Distinct, none-distinct, total, pigeonhole}
 use Rattle.length_laws.specs.Table.{used-distinct, used-every}
 use Rattle.length_laws.specs.Blocks.{formsOf, own-form, tree-given}
-use Rattle.length_laws.specs.Written.{polynomialBits, body-length, bytes-grow}
 
--- ---- atoms and nodes
+-- ---- Atoms and nodes.
 
 simplified-lighter : (w : ℕ) → w ≤ 1 → (given : Block) → weight w (alone (simplified given)) ≤ weight w (alone (given .tree))
 unfolding simplified formulaOf
 simplified-lighter w small given =
     omega (arith, simplify-lighter w small (given .variables) (formulaOf given), weight-each-of w (lookedUp (given .table)) (given .tree))
 
--- the simplified formula has no more atoms than the block's tree
+-- The simplified formula has no more atoms than the block's tree.
 pub atoms-never-more : (given : Block) → atoms (alone (simplified given)) ≤ atoms (alone (given .tree))
 atoms-never-more given =
     omega (arith, simplified-lighter 0 (lit≤ tt) given, weight-atoms (alone (simplified given)), weight-atoms (alone (given .tree)))
 
--- and no more nodes
+-- And no more nodes.
 pub nodes-never-more : (given : Block) → nodes (alone (simplified given)) ≤ nodes (alone (given .tree))
 nodes-never-more given =
     omega (arith, simplified-lighter 1 (lit≤ tt) given, weight-nodes (alone (simplified given)), weight-nodes (alone (given .tree)))
 
--- the new block's tree has the atoms and nodes of the simplified formula
+-- The new block's tree has the atoms and nodes of the simplified formula.
 new-weight : (w : ℕ) (given : Block) → weight w (alone (newBlock given .tree)) ≡ weight w (alone (simplified given))
 unfolding newBlock blockOf
 new-weight w given = weight-each-of w (numbered (used [] (alone (simplified given)))) (simplified given)
 
+-- The new block's tree has no more atoms.
 pub new-atoms : (given : Block) → atoms (alone (newBlock given .tree)) ≤ atoms (alone (given .tree))
 new-atoms given =
     omega (arith, atoms-never-more given, new-weight 0 given, weight-atoms (alone (newBlock given .tree)), weight-atoms (alone (simplified given)))
 
+-- And no more nodes.
 pub new-nodes : (given : Block) → nodes (alone (newBlock given .tree)) ≤ nodes (alone (given .tree))
 new-nodes given =
     omega (arith, nodes-never-more given, new-weight 1 given, weight-nodes (alone (newBlock given .tree)), weight-nodes (alone (simplified given)))
 
--- ---- the table
+-- ---- The table.
 
--- the simplified formula of a block within the limits: atoms in normal forms of the table, AND and OR alternating
+-- The simplified formula of a block within the limits: atoms in normal forms of the table, AND and OR alternating.
 pub simplified-formed : (given : Block) → BlockWithin given → TreeAlternates (Formed (formsOf (given .table))) 5 (simplified given)
 unfolding simplified formulaOf
 simplified-formed given h = simplify-keeps (own-form (given .table)) (given .variables) (tree-given (given .table) (given .tree) (h .tree))
 
--- the new table repeats nothing
+-- The new table repeats nothing.
 pub new-distinct : (given : Block) → Distinct (newBlock given .table)
 unfolding newBlock blockOf
 new-distinct given = used-distinct (alone (simplified given)) none-distinct
 
--- and holds only normal forms of the given table's polynomials
+-- And holds only normal forms of the given table's polynomials.
 pub new-forms : (given : Block) → BlockWithin given → Every (λ (p : Polynomial). Member p (formsOf (given .table))) (newBlock given .table)
 unfolding newBlock blockOf
 new-forms given h = tree-alone (simplified-formed given h) (λ join k. used-every (λ a formed. formed .form) k every-none)
@@ -76,9 +78,9 @@ unfolding total
 total-mapped w f h [] = refl
 total-mapped w f h (p ∷ ps) = ap₂ (λ (j k : ℕ). j + k) (h p) (total-mapped w f h ps)
 
--- by any weight that goes by the number of terms, the new table weighs no more than the given one
-pub table-never-heavier : (w : ℕ → ℕ) (given : Block) → BlockWithin given →
-    total (λ (p : Polynomial). w (length p)) (newBlock given .table) ≤ total (λ (p : Polynomial). w (length p)) (given .table)
+-- By any weight that goes by the number of terms, the new table weighs no more than the given one.
+pub table-never-heavier : (w : ℕ → ℕ) (given : Block) → BlockWithin given
+    → total (λ (p : Polynomial). w (length p)) (newBlock given .table) ≤ total (λ (p : Polynomial). w (length p)) (given .table)
 table-never-heavier w given h =
     let byTerms : Polynomial → ℕ = λ (p : Polynomial). w (length p) in
     omega (arith, pigeonhole byTerms (new-distinct given) (new-forms given h), total-mapped byTerms normalForm (λ p. ap w (normalForm-length p)) (given .table))
@@ -88,31 +90,32 @@ unfolding total
 total-count [] = refl
 total-count (p ∷ ps) = omega (arith, total-count ps)
 
--- the new block has no more polynomials
+-- The new block has no more polynomials.
 pub polynomials-never-more : (given : Block) → BlockWithin given → length (newBlock given .table) ≤ length (given .table)
 polynomials-never-more given h = omega (arith, table-never-heavier (λ terms. 1) given h, total-count (newBlock given .table), total-count (given .table))
 
--- ---- bytes
+-- ---- Bytes.
 
+-- The new block keeps n.
 pub new-variables : (given : Block) → newBlock given .variables ≡ given .variables
 unfolding newBlock blockOf
 new-variables given = refl
 
-body-never-longer : (given : Block) → BlockWithin given → length (writeBody (newBlock given)) ≤ length (writeBody given)
-body-never-longer given h =
-    let lighter = table-never-heavier (polynomialBits (newBlock given .variables)) given h in
-    let same-bits : total (λ (p : Polynomial). polynomialBits (newBlock given .variables) (length p)) (given .table)
-    ≡ total (λ (p : Polynomial). polynomialBits (given .variables) (length p)) (given .table)
-    = ap (λ (n : ℕ). total (λ (p : Polynomial). polynomialBits n (length p)) (given .table)) (new-variables given) in
-    omega (arith, body-length (newBlock given), body-length given, lighter, same-bits, new-nodes given, new-atoms given)
+total-terms : (l : List Polynomial) → total (λ (p : Polynomial). length p) l ≡ termCount l
+unfolding total termCount
+total-terms [] = refl
+total-terms (p ∷ ps) = ap (λ (k : ℕ). length p + k) (total-terms ps)
 
--- the new block has no more bytes
+-- The new block has no more terms.
+pub terms-never-more : (given : Block) → BlockWithin given → termCount (newBlock given .table) ≤ termCount (given .table)
+terms-never-more given h = omega (arith, table-never-heavier (λ terms. terms) given h, total-terms (newBlock given .table), total-terms (given .table))
+
+-- The new block has no more bytes.
 pub bytes-never-more : (given : Block) → BlockWithin given → blockLength (newBlock given) ≤ blockLength given
-unfolding blockLength
 bytes-never-more given h =
-    bytes-grow (40 + length (writeBody (newBlock given))) (40 + length (writeBody given)) (omega (arith, body-never-longer given h))
+    no-longer (newBlock given) given (new-variables given) (polynomials-never-more given h) (terms-never-more given h) (new-nodes given) (new-atoms given)
 
--- ---- the law
+-- ---- The law.
 
 -- The four counts of one block are at most those of another.
 pub record NoLonger (new given : Block) : Type 0 where
@@ -121,7 +124,7 @@ pub record NoLonger (new given : Block) : Type 0 where
   pub polynomials : length (new .table) ≤ length (given .table)
   pub bytes : blockLength new ≤ blockLength given
 
--- the new block is in no count longer than the given one
+-- The new block is in no count longer than the given one.
 pub never-longer : (given : Block) → BlockWithin given → NoLonger (newBlock given) given
 never-longer given h = record {
   atoms = new-atoms given;

@@ -1,24 +1,25 @@
 -- Law new-within: the new block of a block within the limits is within the limits, so it can be written, and read again.
--- And the formula that it holds is the simplified one.
-use mathlib.Core.Path.{_≡_, refl, sym, subst}
+-- Its polynomials are normal forms of the given table, its tree is the simplified formula with the polynomials' numbers.
+use mathlib.Core.Path.{_≡_, sym, subst}
 use mathlib.Core.List.{List, []}
 use mathlib.Core.List.{List·Memᴰ as Member, List·Memᴰ·head as here, List·Memᴰ·tail as later}
 use Prim.Native.Nat.{ℕ}
 use native.Mathlib.Omega.{arith}
 use lib.ListN.{length}
 use Rattle.rules.specs.Polynomial.{Polynomial}
-use Rattle.rules.specs.Formula.{Node, leaf, allOf, anyOf, alone, eachAtom, eachAtomOf, open-formula}
+use Rattle.rules.specs.Formula.{alone}
 use Rattle.rules.specs.Block.{Block}
 use Rattle.rules.specs.Limits.{PolynomialWithin, TableWithin, no-polynomials, polynomials, PartsWithin, BlockWithin}
-use Rattle.rules.specs.Answer.{formulaOf, used, numbered, blockOf, simplified, newBlock}
+use Rattle.rules.specs.Answer.{used, numbered, blockOf, simplified, newBlock}
+use Rattle.sign_laws.specs.Lists.{Every, every-none, every}
+use Rattle.ending_laws.specs.Nestings.{alone-each}
 use Rattle.normal_laws.specs.Shape.{normalForm-within}
-use Rattle.length_laws.specs.Lists.{Every, every-none, every}
 use Rattle.length_laws.specs.Alternation.{Join, AND, OR, other, tree-alone}
-use Rattle.length_laws.specs.Table.{used-all, block-formula}
+use Rattle.length_laws.specs.Table.{used-all}
 use Rattle.length_laws.specs.Blocks.{formsOf, kindOf, parts-numbered}
 use Rattle.length_laws.specs.NeverLonger.{simplified-formed, new-forms, polynomials-never-more, new-nodes}
 
--- ---- the table
+-- ---- The table.
 
 form-within : {n : ℕ} {table : List Polynomial} {p : Polynomial} → TableWithin n table → Member p (formsOf table) → PolynomialWithin n p
 form-within {n} (polynomials {p = q} h hs) (here e) = subst (PolynomialWithin n) (sym e) (normalForm-within q h)
@@ -28,13 +29,7 @@ table-within : {n : ℕ} {given new : List Polynomial} → TableWithin n given �
 table-within h every-none = no-polynomials
 table-within h (every m ms) = polynomials (form-within h m) (table-within h ms)
 
--- ---- the tree
-
-alone-each : {A B : Type 0} (g : A → B) (tree : Node A) → eachAtom g (alone tree) ≡ alone (eachAtomOf g tree)
-unfolding open-formula
-alone-each g (leaf a) = refl
-alone-each g (allOf kids) = refl
-alone-each g (anyOf kids) = refl
+-- ---- The tree.
 
 not-root : (join : Join) → 0 ≡ kindOf join → ⊥
 not-root AND e = omega arith
@@ -47,9 +42,9 @@ tree-within given h =
     subst (PartsWithin 6 (length table) 0) (alone-each (numbered table) (simplified given))
     (tree-alone (simplified-formed given h) (λ join k. parts-numbered table 0 (not-root (other join)) (used-all [] k)))
 
--- ---- the block
+-- ---- The block.
 
--- the new block is within the limits
+-- The new block is within the limits.
 pub new-within : (given : Block) → BlockWithin given → BlockWithin (newBlock given)
 unfolding newBlock blockOf
 new-within given h = record {
@@ -60,8 +55,3 @@ new-within given h = record {
   table = table-within (h .table) (new-forms given h);
   tree = tree-within given h;
 }
-
--- and holds the simplified formula
-pub new-formula : (given : Block) → formulaOf (newBlock given) ≡ simplified given
-unfolding newBlock
-new-formula given = block-formula (given .variables) (simplified given)

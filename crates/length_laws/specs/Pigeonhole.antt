@@ -3,10 +3,13 @@
 use mathlib.Core.Path.{_≡_, sym, ap, _∙_}
 use mathlib.Core.List.{List, [], _∷_, _++_}
 use mathlib.Core.List.{List·Memᴰ as Member, List·Memᴰ·head as here, List·Memᴰ·tail as later}
+use mathlib.Core.List.{List·Memᴰ·append-cases as append-cases, List·Memᴰ·eq-of-singleton as only-member}
+use mathlib.Core.Logic.{⊎-elim}
 use Prim.Native.Nat.{ℕ, _+_, _≤_}
 use native.Mathlib.Omega.{arith}
-use Rattle.length_laws.specs.Lists.{Every, every-none, every}
+use Rattle.sign_laws.specs.Lists.{Every, every-none, every}
 
+-- No element stands there twice.
 pub data Distinct {A : Type 0} : List A → Type 0 where
   none-distinct : Distinct []
   distinct : {a : A} {l : List A} → (Member a l → ⊥) → Distinct l → Distinct (a ∷ l)
@@ -17,16 +20,10 @@ total w [] = 0
 total w (a ∷ l) = w a + total w l
 
 module _ {A : Type 0} where
-  added-cases : {X : Type 0} (l : List A) {a b : A} → Member a (l ++ (b ∷ [])) → (Member a l → X) → (a ≡ b → X) → X
-  added-cases [] (here e) old new = new e
-  added-cases [] (later m) old new = elim m [ ]
-  added-cases (x ∷ l) (here e) old new = old (here e)
-  added-cases (x ∷ l) (later m) old new = added-cases l m (λ k. old (later k)) new
-
-  -- something new at the end repeats nothing
+  -- Something new at the end repeats nothing.
   pub distinct-added : {l : List A} {a : A} → Distinct l → (Member a l → ⊥) → Distinct (l ++ (a ∷ []))
   distinct-added none-distinct h = distinct h none-distinct
-  distinct-added (distinct {l = l} k ks) h = distinct (λ m. added-cases l m k (λ e. h (here (sym e)))) (distinct-added ks (λ m. h (later m)))
+  distinct-added (distinct {l = l} k ks) h = distinct (λ m. ⊎-elim k (λ n. h (here (sym (only-member n)))) (append-cases l m)) (distinct-added ks (λ m. h (later m)))
 
   -- What is left of a list when one of its members is taken out.
   record Left (w : A → ℕ) (a : A) (l : List A) : Type 0 where
@@ -50,12 +47,12 @@ module _ {A : Type 0} where
           others b (here d) ne = here d
           others b (later k) ne = later (left .holds b k ne)
 
-  still-there : {w : A → ℕ} {a : A} {among : List A} (left : Left w a among) {l : List A} → (Member a l → ⊥) → Every (λ (b : A). Member b among) l →
-      Every (λ (b : A). Member b (left .rest)) l
+  still-there : {w : A → ℕ} {a : A} {among : List A} (left : Left w a among) {l : List A} → (Member a l → ⊥) → Every (λ (b : A). Member b among) l
+      → Every (λ (b : A). Member b (left .rest)) l
   still-there left new every-none = every-none
   still-there left new (every {a = b} h hs) = every (left .holds b h (λ e. new (here (sym e)))) (still-there left (λ m. new (later m)) hs)
 
-  -- what has no repeats and stands among others weighs no more than these
+  -- What has no repeats and stands among others weighs no more than these.
   pub pigeonhole : (w : A → ℕ) {l among : List A} → Distinct l → Every (λ (a : A). Member a among) l → total w l ≤ total w among
   unfolding total
   pigeonhole w none-distinct every-none = omega arith

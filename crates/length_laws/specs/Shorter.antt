@@ -18,13 +18,13 @@ use Rattle.rules.specs.Level.{Tidied, broken, tidied, mergedIf, mergeInto, merg
 use Rattle.rules.specs.Level.{unlessDropped, prunedIf, prune, addPruned, sweep, keptUnless, implied, removeImplied, Again, afterSweep, afterRounds}
 use Rattle.rules.specs.Level.{afterTidy, settle}
 use Rattle.rules.specs.Level.{innerAll, afterGather, andRule, nodeIf, asNode, simplify, open-level}
+use Rattle.ending_laws.specs.Rounds.{run-idle}
 use Rattle.length_laws.specs.Weight.{weight, weightOrs, weight-dual, weight-dual-node, weightOrs-append, weight-parts, weight-split}
-use Rattle.length_laws.specs.Idle.{run-idle}
 
--- ---- how long the lists of steps 2, 3 and 5 can be
+-- ---- How long the lists of steps 2, 3 and 5 can be.
 
-mergedIf-shorter : (b : Bool) (a first : Atom) (later merged : List Atom) → length merged ≤ suc (length later) →
-    length (mergedIf b a first later merged) ≤ suc (suc (length later))
+mergedIf-shorter : (b : Bool) (a first : Atom) (later merged : List Atom) → length merged ≤ suc (length later)
+    → length (mergedIf b a first later merged) ≤ suc (suc (length later))
 unfolding mergedIf
 mergedIf-shorter true a first later merged h = omega arith
 mergedIf-shorter false a first later merged h = omega arith
@@ -34,8 +34,8 @@ unfolding mergeInto
 mergeInto-shorter a [] = omega arith
 mergeInto-shorter a (first ∷ later) = mergedIf-shorter (same (a .polynomial) (first .polynomial)) a first later (mergeInto a later) (mergeInto-shorter a later)
 
-carriedOne-length : (o : Option ℕ) (board : Board) (a : Atom) (cut : List Atom) (k : ℕ) (more : List Atom → List Atom) →
-    ((rest : List Atom) → length (more rest) ≡ k) → length (carriedOne o board a cut more) ≡ suc k
+carriedOne-length : (o : Option ℕ) (board : Board) (a : Atom) (cut : List Atom) (k : ℕ) (more : List Atom → List Atom)
+    → ((rest : List Atom) → length (more rest) ≡ k) → length (carriedOne o board a cut more) ≡ suc k
 unfolding carriedOne
 carriedOne-length (some i) board a cut k more h = ap suc (h cut)
 carriedOne-length none board a [] k more h = ap suc (h [])
@@ -59,7 +59,7 @@ removeImplied-shorter n kept (a ∷ later) =
     omega (arith, removeImplied-shorter n (keptUnless (implied n (kept ++ later) a) a kept) later, keptUnless-shorter (implied n (kept ++ later) a) a kept)
 
 module _ (w : ℕ) where
-  -- ---- steps 1 and 4: an OR child that comes back, and the walk over the children
+  -- ---- Steps 1 and 4: an OR child that comes back, and the walk over the children.
 
   weightEntry : Entry → ℕ
   weightEntry fails = w
@@ -71,8 +71,8 @@ module _ (w : ℕ) where
   weightWalk (still ors) = weightOrs w ors
   weightWalk (moved l ors) = length l + weightOrs w ors
 
-  joinsIf-lighter : (b : Bool) (l : List Atom) (ors : List Formula) (child : Formula) → length l + weightOrs w ors ≤ w + weight w child →
-      weightEntry (joinsIf b l ors child) ≤ w + weight w child
+  joinsIf-lighter : (b : Bool) (l : List Atom) (ors : List Formula) (child : Formula) → length l + weightOrs w ors ≤ w + weight w child
+      → weightEntry (joinsIf b l ors child) ≤ w + weight w child
   unfolding weightEntry joinsIf
   joinsIf-lighter true l ors child h = h
   joinsIf-lighter false l ors child h = omega arith
@@ -94,8 +94,8 @@ module _ (w : ℕ) where
   add-lighter (stays child) (still later) = omega arith
   add-lighter (stays child) (moved m later) = omega arith
 
-  gather-lighter : (rule : Formula → Formula) → ((child : Formula) → weight w (rule child) ≤ weight w child) → (ors : List Formula) →
-      weightWalk (gather rule ors) ≤ weightOrs w ors
+  gather-lighter : (rule : Formula → Formula) → ((child : Formula) → weight w (rule child) ≤ weight w child) → (ors : List Formula)
+      → weightWalk (gather rule ors) ≤ weightOrs w ors
   unfolding weightWalk gather weightOrs
   gather-lighter rule h [] = omega arith
   gather-lighter rule h (child ∷ later) =
@@ -105,8 +105,8 @@ module _ (w : ℕ) where
   weightPruned none = 0
   weightPruned (some child) = w + weight w child
 
-  unlessDropped-lighter : (f : Formula → Formula) (k : ℕ) → ((rest : Formula) → weight w (f rest) ≡ k + weight w rest) → (o : Option Formula) →
-      weightPruned (unlessDropped f o) ≤ k + weightPruned o
+  unlessDropped-lighter : (f : Formula → Formula) (k : ℕ) → ((rest : Formula) → weight w (f rest) ≡ k + weight w rest) → (o : Option Formula)
+      → weightPruned (unlessDropped f o) ≤ k + weightPruned o
   unfolding weightPruned unlessDropped
   unlessDropped-lighter f k h none = omega arith
   unlessDropped-lighter f k h (some rest) = omega (arith, h rest)
@@ -140,21 +140,21 @@ module _ (w : ℕ) where
   sweep-lighter n st (child ∷ later) =
       omega (arith, addPruned-lighter (prune n st child) (sweep n st later), prune-lighter n st child, sweep-lighter n st later)
 
-  -- ---- step 2
+  -- ---- Step 2.
 
   weightTidied : Tidied → ℕ
   weightTidied broken = w
   weightTidied (tidied l) = length l
 
   module _ (small : w ≤ 1) where
-    mergeConstant-lighter : (b : Bool) (l : List Atom) (k : ℕ) (more : List Atom → Tidied) → ((m : List Atom) → weightTidied (more m) ≤ length m + k) →
-        weightTidied (mergeConstant b l more) ≤ length l + suc k
+    mergeConstant-lighter : (b : Bool) (l : List Atom) (k : ℕ) (more : List Atom → Tidied) → ((m : List Atom) → weightTidied (more m) ≤ length m + k)
+        → weightTidied (mergeConstant b l more) ≤ length l + suc k
     unfolding weightTidied mergeConstant
     mergeConstant-lighter true l k more h = omega (arith, h l)
     mergeConstant-lighter false l k more h = omega arith
 
-    mergeNormal-lighter : (o : Option ℤ) (a : Atom) (l : List Atom) (k : ℕ) (more : List Atom → Tidied) → ((m : List Atom) → weightTidied (more m) ≤ length m + k) →
-        weightTidied (mergeNormal o a l more) ≤ length l + suc k
+    mergeNormal-lighter : (o : Option ℤ) (a : Atom) (l : List Atom) (k : ℕ) (more : List Atom → Tidied) → ((m : List Atom) → weightTidied (more m) ≤ length m + k)
+        → weightTidied (mergeNormal o a l more) ≤ length l + suc k
     unfolding mergeNormal
     mergeNormal-lighter none a l k more h = omega (arith, h (mergeInto a l), mergeInto-shorter a l)
     mergeNormal-lighter (some c) a l k more h = mergeConstant-lighter (has (signOf c) (a .set)) l k more h
@@ -186,7 +186,7 @@ module _ (w : ℕ) where
     unfolding tidy
     tidy-lighter l = omega (arith, afterMerging-lighter (merge [] l), merge-lighter [] l)
 
-    -- ---- step 3
+    -- ---- Step 3.
 
     weightOutcome : Outcome → ℕ
     weightOutcome contradiction = w
@@ -202,7 +202,7 @@ module _ (w : ℕ) where
     run-lighter n [] = rw (run-idle n) (omega arith)
     run-lighter n (a ∷ l) = omega (arith, outcome-light (run n (a ∷ l)))
 
-    -- ---- the steps in a row, the way back, the rules
+    -- ---- The steps in a row, the way back, the rules.
 
     Lighter : Again → Type 0
     Lighter again = (l : List Atom) (ors : List Formula) → weight w (again l ors) ≤ length l + weightOrs w ors
@@ -213,8 +213,8 @@ module _ (w : ℕ) where
     afterSweep-lighter n l (still ors) again h = omega (arith, weight-parts w (removeImplied n [] l) ors, removeImplied-shorter n [] l)
     afterSweep-lighter n l (moved new ors) again h = omega (arith, h (l ++ new) ors, length-append l new)
 
-    afterRounds-lighter : (n : ℕ) (l : List Atom) (outcome : Outcome) (ors : List Formula) (again : Again) → Lighter again → weightOutcome outcome ≤ length l →
-        weight w (afterRounds n l outcome ors again) ≤ length l + weightOrs w ors
+    afterRounds-lighter : (n : ℕ) (l : List Atom) (outcome : Outcome) (ors : List Formula) (again : Again) → Lighter again → weightOutcome outcome ≤ length l
+        → weight w (afterRounds n l outcome ors again) ≤ length l + weightOrs w ors
     unfolding open-level weight weightOutcome
     afterRounds-lighter n l contradiction ors again h paid = omega arith
     afterRounds-lighter n l (settled st) ors again h paid =
@@ -239,7 +239,7 @@ module _ (w : ℕ) where
     afterGather-lighter n l (still ors) = settle-lighter n (1 + innerAll ors) l ors
     afterGather-lighter n l (moved new ors) = omega (arith, settle-lighter n (1 + innerAll ors) (l ++ new) ors, length-append l new)
 
-    -- the AND rule adds no weight to a formula
+    -- The AND rule adds no weight to a formula.
     pub rule-lighter : (n d : ℕ) (kids : Formula) → weight w (andRule n d kids) ≤ weight w kids
     unfolding andRule
     rule-lighter n zero kids = omega arith
@@ -249,7 +249,7 @@ module _ (w : ℕ) where
         λ child. omega (arith, weight-dual w (andRule n d (dual child)), rule-lighter n d (dual child), weight-dual w child) in
         omega (arith, afterGather-lighter n (atomsOf kids) (gather rule (orsOf kids)), gather-lighter rule lighter (orsOf kids), weight-split w kids)
 
-    -- ---- step 6 at the root, and the whole tree
+    -- ---- Step 6 at the root, and the whole tree.
 
     part-heavy : (f : Formula) → isEnd f ≡ false → w ≤ weight w f
     unfolding isEnd weight
@@ -270,9 +270,9 @@ module _ (w : ℕ) where
     asNode-lighter (and kids rest) = nodeIf-lighter (isEnd rest) (allOf kids) (and kids rest) (omega arith)
     asNode-lighter (or kids rest) = nodeIf-lighter (isEnd rest) (anyOf kids) (or kids rest) (omega arith)
 
-    -- what weighs no more than an atom does so as a node too: it has one part, or only parts that weigh nothing
-    nodeIf-light : (b : Bool) (one : Node Atom) (kids : Formula) → weight w (alone one) ≤ weight w kids → (b ≡ false → w + w ≤ weight w kids) → weight w kids ≤ 1 →
-        weight w (alone (nodeIf b one kids)) ≤ 1
+    -- What weighs no more than an atom does so as a node too: it has one part, or only parts that weigh nothing.
+    nodeIf-light : (b : Bool) (one : Node Atom) (kids : Formula) → weight w (alone one) ≤ weight w kids → (b ≡ false → w + w ≤ weight w kids) → weight w kids ≤ 1
+        → weight w (alone (nodeIf b one kids)) ≤ 1
     unfolding nodeIf open-formula weight
     nodeIf-light true one kids h two light = omega arith
     nodeIf-light false one kids h two light = omega (arith, two refl)
@@ -284,7 +284,7 @@ module _ (w : ℕ) where
     asNode-light (and kids rest) light = nodeIf-light (isEnd rest) (allOf kids) (and kids rest) (omega arith) (λ e. omega (arith, part-heavy rest e)) light
     asNode-light (or kids rest) light = nodeIf-light (isEnd rest) (anyOf kids) (or kids rest) (omega arith) (λ e. omega (arith, part-heavy rest e)) light
 
-    -- simplifying adds no weight to a tree
+    -- Simplifying adds no weight to a tree.
     pub simplify-lighter : (n : ℕ) (tree : Node Atom) → weight w (alone (simplify n tree)) ≤ weight w (alone tree)
     unfolding simplify open-formula weight
     simplify-lighter n (leaf a) = asNode-light (andRule n 6 (atom a end)) (rule-lighter n 6 (atom a end))

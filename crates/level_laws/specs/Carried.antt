@@ -12,27 +12,29 @@ use Rattle.rules.specs.Signs.{Sign, full, intersect}
 use Rattle.rules.specs.Polynomial.{Polynomial, Atom, Board, which}
 use Rattle.rules.specs.Rounds.{State, Outcome, settled, unlessVariable, nonVariable, placed, placedAll, start, run, carriedOne, carried}
 use Rattle.rules.specs.Meaning.{atomHolds}
-use Rattle.sign_laws.specs.Sets.{_In_}
+use Rattle.sign_laws.specs.Booleans.{both-ways}
+use Rattle.sign_laws.specs.Sets.{_In_, PartOf, part-trans, intersect-second}
+use Rattle.ending_laws.specs.Rounds.{placed-length}
 use Rattle.level_laws.specs.Same.{which-variable, which-below}
-use Rattle.level_laws.specs.Holding.{both-ways, atomsHold, atom-in, in-atom, no-atoms, first-holds, others-hold, both-hold}
+use Rattle.level_laws.specs.Holding.{atomsHold, atom-in, in-atom, no-atoms, first-holds, others-hold, both-hold}
 use Rattle.level_laws.specs.Respects.{Fits, Respects}
-use Rattle.level_laws.specs.Narrower.{_Within_, within-both, within-right, BoardWithin, placed-within, placedAll-within, AtomsWithin, one-more, Narrower, Narrows, run-narrows}
+use Rattle.level_laws.specs.Narrower.{BoardWithin, placedAll-within, AtomsWithin, one-more, Narrower, Narrows, run-narrows}
 use Rattle.level_laws.specs.Rounds.{Right, RightOutcome, run-keeps}
 
--- a variable atom with the board's set
+-- A variable atom with the board's set.
 abbrev onBoard : Atom → Board → ℕ → Atom
 onBoard a board i = record { polynomial = a .polynomial; set = getD board i full }
 
--- a variable's set on the board that its atom was placed on lies inside the atom's
+-- A variable's set on the board that its atom was placed on lies inside the atom's.
 placed-set : (n : ℕ) (a : Atom) (i : ℕ) (board : Board) → length board ≡ n → which n (a .polynomial) ≡ some i
-    → getD (placed (which n (a .polynomial)) (a .set) board) i full Within a .set
+    → PartOf (getD (placed (which n (a .polynomial)) (a .set) board) i full) (a .set)
 unfolding placed
 placed-set n a i board long w =
     rw (w, getD-set-same board i (intersect (getD board i full) (a .set)) full (omega (arith, long, which-below n (a .polynomial) i w)))
-    (within-right (getD board i full) (a .set))
+    (intersect-second (getD board i full) (a .set))
 
 module _ (sign : Polynomial → Sign) (n : ℕ) where
-  -- where the list and the cut atoms hold, so do the atoms with the carried sets
+  -- Where the list and the cut atoms hold, so do the atoms with the carried sets.
   carried-hold : (l cut : List Atom) (board : Board) → Fits sign n board → atomsHold sign l ≡ true → atomsHold sign cut ≡ true
       → atomsHold sign (carried n board l cut) ≡ true
   unfolding carried carriedOne
@@ -47,18 +49,18 @@ module _ (sign : Polynomial → Sign) (n : ℕ) where
       by-which none w [] g more = both-hold sign a (carried n board l []) (first-holds sign a l e) (more [] g)
       by-which none w (c ∷ cut) g more = both-hold sign c (carried n board l cut) (first-holds sign c cut g) (more cut (others-hold sign c cut g))
 
-  -- an atom holds if one of its polynomial with a set inside does
-  wider-holds : (a b : Atom) → a .polynomial ≡ b .polynomial → a .set Within b .set → atomHolds sign a ≡ true → atomHolds sign b ≡ true
-  wider-holds a b p f h = in-atom sign b (f .widen (sign (b .polynomial)) (subst (λ (q : Polynomial). sign q In a .set) p (atom-in sign a h)))
+  -- An atom holds if one of its polynomial with a set inside does.
+  wider-holds : (a b : Atom) → a .polynomial ≡ b .polynomial → PartOf (a .set) (b .set) → atomHolds sign a ≡ true → atomHolds sign b ≡ true
+  wider-holds a b p f h = in-atom sign b (f .each (sign (b .polynomial)) (subst (λ (q : Polynomial). sign q In a .set) p (atom-in sign a h)))
 
-  -- and back, where the board lies inside the one that the list's variable atoms were placed on, the cut atoms inside its non-variable ones
+  -- And back, where the board lies inside the one that the list's variable atoms were placed on, the cut atoms inside its non-variable ones.
   carried-back : (l cut : List Atom) (board bare : Board) → length bare ≡ n → BoardWithin board (placedAll n l bare) → AtomsWithin cut (nonVariable n l)
       → atomsHold sign (carried n board l cut) ≡ true → atomsHold sign l ≡ true
   unfolding carried carriedOne nonVariable unlessVariable placedAll
   carried-back [] cut board bare long b c e = no-atoms sign
   carried-back (a ∷ l) cut board bare long b c e =
       by-which (which n (a .polynomial)) refl cut c e
-      (λ rest. carried-back l rest board (placed (which n (a .polynomial)) (a .set) bare) (placed-within (which n (a .polynomial)) (a .set) bare .long ∙ long) b)
+      (λ rest. carried-back l rest board (placed (which n (a .polynomial)) (a .set) bare) (placed-length (which n (a .polynomial)) (a .set) bare ∙ long) b)
     where
       by-which : (o : Option ℕ) → which n (a .polynomial) ≡ o → (cut : List Atom) → AtomsWithin cut (unlessVariable o a (nonVariable n l))
           → atomsHold sign (carriedOne o board a cut (λ (rest : List Atom). carried n board l rest)) ≡ true
@@ -66,15 +68,15 @@ module _ (sign : Polynomial → Sign) (n : ℕ) where
           → atomsHold sign (a ∷ l) ≡ true
       by-which (some i) w cut c e more =
           let then-placed : Board = placed (which n (a .polynomial)) (a .set) bare in
-          let inside-atom : getD board i full Within a .set =
-          within-both (b .at i) (within-both (placedAll-within n l then-placed .at i) (placed-set n a i bare long w)) in
+          let inside-atom : PartOf (getD board i full) (a .set) =
+          part-trans (b .at i) (part-trans (placedAll-within n l then-placed .at i) (placed-set n a i bare long w)) in
           let holds : atomHolds sign (onBoard a board i) ≡ true = first-holds sign (onBoard a board i) (carried n board l cut) e in
           both-hold sign a l (wider-holds (onBoard a board i) a refl inside-atom holds) (more cut c (others-hold sign (onBoard a board i) (carried n board l cut) e))
       by-which none w cut (one-more {a = c} {l = rest} p f t) e more = both-hold sign a l
           (wider-holds c a p f (first-holds sign c (carried n board l rest) e))
           (more rest t (others-hold sign c (carried n board l rest) e))
 
--- all atoms with the carried sets hold exactly when all atoms hold
+-- All atoms with the carried sets hold exactly when all atoms hold.
 pub carried-keeps : {sign : Polynomial → Sign} {n : ℕ} (ok : Respects sign n) (l : List Atom) (st : State) → run n l ≡ settled st
     → atomsHold sign (carried n (st .board) l (st .atoms)) ≡ atomsHold sign l
 unfolding start

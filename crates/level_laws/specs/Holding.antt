@@ -8,48 +8,31 @@ use Rattle.rules.specs.Polynomial.{Polynomial, Atom}
 use Rattle.rules.specs.Formula.{Parts, end, atom, and, or, isEnd}
 use Rattle.rules.specs.Level.{Formula, complemented, dual, atomsOf, orsOf, orParts, parts}
 use Rattle.rules.specs.Meaning.{atomHolds, allHold, someHold}
-use Rattle.sign_laws.specs.Booleans.{and-assoc, and-swap, and-true, and-four, not-and, not-or, and-intro, and-first, and-second}
+use Rattle.sign_laws.specs.Booleans.{and-assoc, and-swap, and-true, and-four, not-and, not-or, and-intro, and-first, and-second, never-true}
 use Rattle.sign_laws.specs.Sets.{_In_, in-full, in-empty, has-complement}
 
--- ---- truth values
+-- ---- Lists and parts.
 
--- two truth values are equal if each holds where the other does
-pub both-ways : (a b : Bool) → (a ≡ true → b ≡ true) → (b ≡ true → a ≡ true) → a ≡ b
-both-ways true b to back = sym (to refl)
-both-ways false true to back = back refl
-both-ways false false to back = refl
-
--- what never holds is false
-pub never-true : (a : Bool) → (a ≡ true → ⊥) → a ≡ false
-never-true true h = absurd (h refl)
-never-true false h = refl
-
--- beside a, two truth values that are equal where a holds may stand for one another
-pub and-under : (a x y : Bool) → (a ≡ true → x ≡ y) → a && x ≡ a && y
-and-under true x y h = h refl
-and-under false x y h = refl
-
--- ---- lists and parts
-
--- each element passes the test
+-- Each element passes the test.
 unfoldable pub every : {A : Type 0} → (A → Bool) → List A → Bool
 every test [] = true
 every test (a ∷ l) = test a && every test l
 
--- of a list put behind another, both do
+-- Of a list put behind another, both do.
 pub every-append : {A : Type 0} (test : A → Bool) (l m : List A) → every test (l ++ m) ≡ every test l && every test m
 unfolding every
 every-append test [] m = refl
 every-append test (a ∷ l) m = rw (every-append test l m) (and-assoc (test a) (every test l) (every test m))
 
--- all atoms of a list hold; in each OR child some part holds
+-- All atoms of a list hold.
 abbrev pub atomsHold : (Polynomial → Sign) → List Atom → Bool
 atomsHold sign l = every (atomHolds sign) l
 
+-- In each OR child some part holds.
 abbrev pub orsHold : (Polynomial → Sign) → List Formula → Bool
 orsHold sign ors = every (someHold sign) ors
 
--- to prove something of `isEnd rest`: the case of no rest, with that fact, and the other
+-- To prove something of `isEnd rest`: the case of no rest, with that fact, and the other.
 pub by-end : {A : Type 0} (P : Bool → Type 0) (rest : Parts A) → (rest ≡ end → P true) → P false → P (isEnd rest)
 unfolding isEnd
 by-end P end alone more = alone refl
@@ -58,51 +41,56 @@ by-end P (and kids rest) alone more = more
 by-end P (or kids rest) alone more = more
 
 module _ (sign : Polynomial → Sign) where
-  -- ---- atoms and lists of atoms
+  -- ---- Atoms and lists of atoms.
 
-  -- the sign is in the set of an atom that holds, and back
+  -- The sign is in the set of an atom that holds.
   pub atom-in : (a : Atom) → atomHolds sign a ≡ true → sign (a .polynomial) In a .set
   unfolding atomHolds
   atom-in a e = record { is = e }
 
+  -- And back.
   pub in-atom : (a : Atom) → sign (a .polynomial) In a .set → atomHolds sign a ≡ true
   unfolding atomHolds
   in-atom a h = h .is
 
-  -- an atom with the empty set does not hold
+  -- An atom with the empty set does not hold.
   pub empty-fails : (a : Atom) → a .set ≡ empty → atomHolds sign a ≡ false
   unfolding atomHolds
   empty-fails a e = never-true (atomHolds sign a) (λ h. in-empty {x = sign (a .polynomial)} (record { is = rw e at h }))
 
-  -- and one with the full set does
+  -- And one with the full set does.
   pub full-holds : (a : Atom) → a .set ≡ full → atomHolds sign a ≡ true
   unfolding atomHolds
   full-holds a e = rw e (in-full (sign (a .polynomial)) .is)
 
-  -- a list of atoms, by its first atom and the others
+  -- A list with no atoms holds.
   pub no-atoms : atomsHold sign [] ≡ true
   unfolding every
   no-atoms = refl
 
+  -- Of a list that holds, the first atom does.
   pub first-holds : (a : Atom) (l : List Atom) → atomsHold sign (a ∷ l) ≡ true → atomHolds sign a ≡ true
   unfolding every
   first-holds a l e = and-first (atomHolds sign a) (atomsHold sign l) e
 
+  -- And so do the others.
   pub others-hold : (a : Atom) (l : List Atom) → atomsHold sign (a ∷ l) ≡ true → atomsHold sign l ≡ true
   unfolding every
   others-hold a l e = and-second (atomHolds sign a) (atomsHold sign l) e
 
+  -- A list holds if its first atom and the others do.
   pub both-hold : (a : Atom) (l : List Atom) → atomHolds sign a ≡ true → atomsHold sign l ≡ true → atomsHold sign (a ∷ l) ≡ true
   unfolding every
   both-hold a l h k = and-intro h k
 
+  -- A list of one atom holds exactly if the atom does.
   pub one-atom : (a : Atom) → atomsHold sign (a ∷ []) ≡ atomHolds sign a
   unfolding every
   one-atom a = and-true (atomHolds sign a)
 
-  -- ---- the parts of an AND
+  -- ---- The parts of an AND.
 
-  -- an AND's parts hold exactly if its direct atoms and its OR children hold
+  -- An AND's parts hold exactly if its direct atoms and its OR children hold.
   pub all-apart : (kids : Formula) → allHold sign kids ≡ atomsHold sign (atomsOf kids) && orsHold sign (orsOf kids)
   unfolding allHold every atomsOf orsOf
   all-apart end = refl
@@ -117,29 +105,30 @@ module _ (sign : Polynomial → Sign) where
   or-parts-hold [] = refl
   or-parts-hold (child ∷ later) = rw (or-parts-hold later)
 
-  -- the same of atoms and ORs put together again (step 6)
+  -- The same of atoms and ORs put together again (step 6).
   pub parts-hold : (l : List Atom) (ors : List Formula) → allHold sign (parts l ors) ≡ atomsHold sign l && orsHold sign ors
   unfolding allHold parts every
   parts-hold [] ors = or-parts-hold ors
   parts-hold (a ∷ l) ors = rw (parts-hold l ors) (and-assoc (atomHolds sign a) (atomsHold sign l) (orsHold sign ors))
 
-  -- ---- complement and exchange
+  -- ---- Complement and exchange.
 
-  -- an atom with the complement of its set holds exactly if the atom does not
+  -- An atom with the complement of its set holds exactly if the atom does not.
   pub complement-holds : (a : Atom) → atomHolds sign (complemented a) ≡ not (atomHolds sign a)
   unfolding atomHolds complemented
   complement-holds a = has-complement (sign (a .polynomial)) (a .set)
 
-  -- the complement of parts of an OR, as parts of an AND, holds exactly if they do not; and the other way round
   mutual
     unfolding allHold dual
 
+    -- The complement of parts of an OR, as parts of an AND, holds exactly if they do not.
     pub all-dual : (kids : Formula) → allHold sign (dual kids) ≡ not (someHold sign kids)
     all-dual end = refl
     all-dual (atom a rest) = rw (complement-holds a, all-dual rest) (sym (not-or (atomHolds sign a) (someHold sign rest)))
     all-dual (and kids rest) = rw (some-dual kids, all-dual rest) (sym (not-or (allHold sign kids) (someHold sign rest)))
     all-dual (or kids rest) = rw (all-dual kids, all-dual rest) (sym (not-or (someHold sign kids) (someHold sign rest)))
 
+    -- And the other way round.
     pub some-dual : (kids : Formula) → someHold sign (dual kids) ≡ not (allHold sign kids)
     some-dual end = refl
     some-dual (atom a rest) = rw (complement-holds a, some-dual rest) (sym (not-and (atomHolds sign a) (allHold sign rest)))

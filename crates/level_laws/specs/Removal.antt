@@ -15,14 +15,14 @@ use Rattle.level_laws.specs.Holding.{every, every-append, atomsHold, in-
 use Rattle.level_laws.specs.Respects.{Respects}
 use Rattle.level_laws.specs.Rounds.{says-right}
 
--- an atom that holds where the others do may be left out
+-- An atom that holds where the others do may be left out.
 leave-out : (kept this later : Bool) → (kept && later ≡ true → this ≡ true) → kept && later ≡ kept && (this && later)
 leave-out true this true h = rw (h refl)
 leave-out true this false h = sym (and-false this)
 leave-out false this later h = refl
 
 module _ {sign : Polynomial → Sign} {n : ℕ} (ok : Respects sign n) where
-  -- an implied atom holds where the others do
+  -- An implied atom holds where the others do.
   implied-holds : (others : List Atom) (a : Atom) → implied n others a ≡ true → atomsHold sign others ≡ true → atomHolds sign a ≡ true
   unfolding implied
   implied-holds others a e h = in-atom sign a (in-inside (says n (run n others) (a .polynomial)) (a .set) e (says-right ok others (a .polynomial) h))
@@ -35,7 +35,7 @@ module _ {sign : Polynomial → Sign} {n : ℕ} (ok : Respects sign n) where
   keptUnless-keeps false kept a later w = rw (every-append (atomHolds sign) kept (a ∷ []), one-atom sign a)
       (sym (and-assoc (atomsHold sign kept) (atomHolds sign a) (atomsHold sign later)))
 
-  -- step 5 keeps the truth of the atoms, those that were kept so far and those to come
+  -- Step 5 keeps the truth of the atoms, those that were kept so far and those to come.
   pub removal-keeps : (kept l : List Atom) → atomsHold sign (removeImplied n kept l) ≡ atomsHold sign kept && atomsHold sign l
   unfolding removeImplied every
   removal-keeps kept [] = sym (and-true (atomsHold sign kept))

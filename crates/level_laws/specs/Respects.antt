@@ -17,6 +17,7 @@ pub record Fits (sign : Polynomial → Sign) (n : ℕ) (board : Board) : Type 0 
   pub long : length board ≡ n
   pub each : (i : ℕ) → sign (variable n i) In getD board i full
 
+-- A board that fits gives only deductions and signs by terms that have the polynomial's sign; a normal form holds where its atom does.
 pub record Respects (sign : Polynomial → Sign) (n : ℕ) : Type 0 where
   pub by-deduction : (board : Board) (p : Polynomial) (q : Atom) → Fits sign n board → atomHolds sign q ≡ true → sign p In deduce board p q
   pub by-terms : (board : Board) (p : Polynomial) → Fits sign n board → sign p In byTerms board p

@@ -1,52 +1,50 @@
 -- The rounds keep what is right: over a list whose atoms all hold no round cuts away a true sign, so there is no contradiction,
 -- and what the list says of a polynomial has its sign.
 use mathlib.Core.Path.{_≡_, refl, sym, _∙_, subst}
-use mathlib.Core.Bool.{Bool, true, false, true≢false}
+use mathlib.Core.Bool.{Bool, true, false}
 use mathlib.Core.List.{List, [], _∷_, _++_}
 use mathlib.Core.Option.{Option, none, some}
-use Prim.Native.Nat.{ℕ, zero, suc}
-use lib.Dec.{eqb}
+use Prim.Native.Nat.{ℕ, suc}
 use lib.ListN.{getD, set, replicate, length-set, length-replicate}
-use borrow.Author.Tests.{eqb-true}
-use Rattle.rules.specs.Signs.{Sign, SignSet, empty, full, intersect}
+use Rattle.rules.specs.Signs.{Sign, SignSet, full, intersect}
 use Rattle.rules.specs.Polynomial.{Polynomial, Atom, Board, same, variable, which}
 use Rattle.rules.specs.Deduce.{deduce, anyEmpty}
-use Rattle.rules.specs.Rounds.{cutBy, turn, turns, cutAtom, cutAtoms, State, round, setsOf, hasEmpty, unchanged, Outcome, contradiction, settled, afterRound, rounds, unlessVariable, nonVariable, placed, placedAll, start, enough, run, orNext, listed, held, saysIn, says}
+use Rattle.rules.specs.Rounds.{cutBy, turn, turns, cutAtom, cutAtoms, State, round, setsOf, hasEmpty, Outcome, contradiction, settled}
+use Rattle.rules.specs.Rounds.{unlessVariable, nonVariable, placed, placedAll, start, run, orNext, listed, held, saysIn, says}
 use Rattle.rules.specs.Meaning.{atomHolds}
-use Rattle.sign_laws.specs.Booleans.{and-intro}
-use Rattle.sign_laws.specs.Sets.{_In_, in-full, in-empty, in-intersect}
+use Rattle.sign_laws.specs.Booleans.{and-intro, never-true, never-both}
+use Rattle.sign_laws.specs.Lists.{every-replicate, every-getD}
+use Rattle.sign_laws.specs.Sets.{_In_, in-full, not-empty, in-intersect}
+use Rattle.ending_laws.specs.Cuts.{along-turns}
+use Rattle.ending_laws.specs.Rounds.{along-run, run-ends}
 use Rattle.level_laws.specs.Same.{same-equal, which-variable}
-use Rattle.level_laws.specs.Holding.{never-true, every-append, atomsHold, atom-in, in-atom, no-atoms, first-holds, others-hold, both-hold, one-atom}
+use Rattle.level_laws.specs.Holding.{every-append, atomsHold, atom-in, in-atom, no-atoms, first-holds, others-hold, both-hold, one-atom}
 use Rattle.level_laws.specs.Respects.{Fits, Respects}
 use Rattle.level_laws.specs.Narrower.{each-set}
 
--- A state is right if its board fits and all its atoms hold; an outcome, if it is such a state and no contradiction.
+-- A state is right if its board fits and all its atoms hold.
 pub record Right (sign : Polynomial → Sign) (n : ℕ) (st : State) : Type 0 where
   pub fits : Fits sign n (st .board)
   pub hold : atomsHold sign (st .atoms) ≡ true
 
+-- An outcome is right if it is such a state and no contradiction.
 abbrev pub RightOutcome : (Polynomial → Sign) → ℕ → Outcome → Type 0
 RightOutcome sign n contradiction = ⊥
 RightOutcome sign n (settled st) = Right sign n st
 
--- ---- boards that fit
+-- ---- Boards that fit.
 
--- a set that has the variable's sign may take its place
+-- A set that has the variable's sign may take its place.
 fits-set : {sign : Polynomial → Sign} {n : ℕ} (board : Board) (i : ℕ) (s : SignSet) → Fits sign n board → sign (variable n i) In s → Fits sign n (set board i s)
 fits-set {sign} {n} board i s f h = record { long = length-set board i s ∙ f .long; each = each-set (λ j t. sign (variable n j) In t) board i s h (f .each) }
 
-full-board : (k i : ℕ) → getD (replicate k full) i full ≡ full
-full-board zero i = refl
-full-board (suc k) zero = refl
-full-board (suc k) (suc i) = full-board k i
-
 fits-full : (sign : Polynomial → Sign) (n : ℕ) → Fits sign n (replicate n full)
-fits-full sign n = record { long = length-replicate n full; each = λ i. rw (full-board n i) (in-full (sign (variable n i))) }
+fits-full sign n = record {
+  long = length-replicate n full;
+  each = λ i. every-getD {P = λ s. sign (variable n i) In s} i full (in-full _) (every-replicate n full (in-full _));
+}
 
-not-empty : {x : Sign} (s : SignSet) → x In s → eqb s empty ≡ false
-not-empty {x} s h = never-true (eqb s empty) (λ e. in-empty {x = x} (subst (λ (t : SignSet). x In t) (eqb-true s empty e) h))
-
--- a board or a list of atoms that has true signs everywhere has no empty set, and so a right state has none
+-- A board or a list of atoms that has true signs everywhere has no empty set, and so a right state has none.
 board-full : (x : ℕ → Sign) (board : Board) → ((i : ℕ) → x i In getD board i full) → anyEmpty board ≡ false
 unfolding anyEmpty
 board-full x [] h = refl
@@ -62,9 +60,9 @@ unfolding hasEmpty
 right-full {sign} {n} st r = rw (board-full (λ i. sign (variable n i)) (st .board) (r .fits .each), atoms-full sign (st .atoms) (r .hold))
 
 module _ {sign : Polynomial → Sign} {n : ℕ} (ok : Respects sign n) where
-  -- ---- a round
+  -- ---- A round.
 
-  -- deductions from atoms that hold do not cut a polynomial's sign away
+  -- Deductions from atoms that hold do not cut a polynomial's sign away.
   pub cutBy-keeps : (board : Board) (p : Polynomial) (atoms : List Atom) (s : SignSet) → Fits sign n board → atomsHold sign atoms ≡ true → sign p In s
       → sign p In cutBy board p atoms s
   unfolding cutBy
@@ -73,10 +71,9 @@ module _ {sign : Polynomial → Sign} {n : ℕ} (ok : Respects sign n) where
       cutBy-keeps board p qs (intersect s (deduce board p q)) f (others-hold sign q qs e) (in-intersect h (ok .by-deduction board p q f (first-holds sign q qs e)))
 
   turns-keep : (atoms : List Atom) (board : Board) (i k : ℕ) → Fits sign n board → atomsHold sign atoms ≡ true → Fits sign n (turns n atoms board i k)
-  unfolding turns turn
-  turns-keep atoms board i zero f e = f
-  turns-keep atoms board i (suc k) f e = turns-keep atoms (turn n atoms board i) (suc i) k
-      (fits-set board i _ f (cutBy-keeps board (variable n i) atoms (getD board i full) f e (f .each i))) e
+  unfolding turn
+  turns-keep atoms board i k f e = along-turns (Fits sign n) n atoms
+      (λ b j g. fits-set b j _ g (cutBy-keeps b (variable n j) atoms (getD b j full) g e (g .each j))) board i k f
 
   cutAtoms-keep : (board : Board) (before l : List Atom) → Fits sign n board → atomsHold sign before ≡ true → atomsHold sign l ≡ true
       → atomsHold sign (cutAtoms board before l) ≡ true
@@ -92,30 +89,14 @@ module _ {sign : Polynomial → Sign} {n : ℕ} (ok : Respects sign n) where
       cutBy-keeps board (a .polynomial) (before ++ later) _ f others (in-intersect (atom-in sign a holds) (ok .by-terms board (a .polynomial) f)) in
       both-hold sign cut (cutAtoms board (before ++ (a ∷ [])) later) (in-atom sign cut right) (cutAtoms-keep board (before ++ (a ∷ [])) later f next hold)
 
-  -- a right state stays right under a round
+  -- A right state stays right under a round.
   pub round-keeps : (st : State) → Right sign n st → Right sign n (round n st)
   unfolding round
   round-keeps st r =
       let f : Fits sign n (turns n (st .atoms) (st .board) 0 n) = turns-keep (st .atoms) (st .board) 0 n (r .fits) (r .hold) in
       record { fits = f; hold = cutAtoms-keep (turns n (st .atoms) (st .board) 0 n) [] (st .atoms) f (no-atoms sign) (r .hold) }
 
-  -- ---- all rounds of a run
-
-  after-round : (fails still : Bool) (su : State) (further : Outcome) → fails ≡ false → Right sign n su → RightOutcome sign n further
-      → RightOutcome sign n (afterRound fails still su further)
-  unfolding afterRound
-  after-round true still su further e now later = absurd (true≢false e)
-  after-round false true su further e now later = now
-  after-round false false su further e now later = later
-
-  -- a right state stays right under rounds, and they find no contradiction
-  pub rounds-keep : (k : ℕ) (st : State) → Right sign n st → RightOutcome sign n (rounds n k st)
-  unfolding rounds
-  rounds-keep zero st r = r
-  rounds-keep (suc k) st r =
-      let s : Right sign n (round n st) = round-keeps st r in
-      after-round (hasEmpty (round n st)) (unchanged st (round n st)) (round n st) (rounds n k (round n st)) (right-full (round n st) s) s
-      (rounds-keep k (round n st) s)
+  -- ---- A run.
 
   placed-fits : (l : List Atom) (board : Board) → atomsHold sign l ≡ true → Fits sign n board → Fits sign n (placedAll n l board)
   unfolding placedAll placed
@@ -136,17 +117,17 @@ module _ {sign : Polynomial → Sign} {n : ℕ} (ok : Respects sign n) where
       by-which none h = both-hold sign a (nonVariable n l) (first-holds sign a l e) h
       by-which (some i) h = h
 
-  -- a run over atoms that all hold ends in a right state
+  -- A run over atoms that all hold ends in a right state.
   pub run-keeps : (l : List Atom) → atomsHold sign l ≡ true → RightOutcome sign n (run n l)
-  unfolding run start
-  run-keeps l e = rounds-keep (enough (start n l)) (start n l)
+  unfolding start
+  run-keeps l e = along-run (RightOutcome sign n) (λ st r e. never-both e (right-full (round n st) (round-keeps st r))) round-keeps (run-ends n l)
       (record { fits = placed-fits l (replicate n full) e (fits-full sign n); hold = non-variable-hold l e })
 
-  -- so a contradiction comes only from a list that does not hold
+  -- So a contradiction comes only from a list that does not hold.
   pub contradiction-false : (l : List Atom) → run n l ≡ contradiction → atomsHold sign l ≡ false
   contradiction-false l e = never-true (atomsHold sign l) (λ h. subst (RightOutcome sign n) e (run-keeps l h))
 
-  -- ---- what a list says
+  -- ---- What a list says.
 
   listed-right : (p : Polynomial) (l : List Atom) → atomsHold sign l ≡ true → sign p In listed p l
   unfolding listed orNext
@@ -165,7 +146,7 @@ module _ {sign : Polynomial → Sign} {n : ℕ} (ok : Respects sign n) where
       by-which none w = listed-right p (st .atoms) (r .hold)
       by-which (some i) w = subst (λ (q : Polynomial). sign q In getD (st .board) i full) (sym (which-variable n p i w)) (r .fits .each i)
 
-  -- what a right state says of a polynomial has its sign
+  -- What a right state says of a polynomial has its sign.
   pub saysIn-right : (st : State) (p : Polynomial) → Right sign n st → sign p In saysIn n st p
   unfolding saysIn
   saysIn-right st p r =
@@ -176,6 +157,6 @@ module _ {sign : Polynomial → Sign} {n : ℕ} (ok : Respects sign n) where
   outcome-right contradiction p h = absurd h
   outcome-right (settled st) p h = saysIn-right st p h
 
-  -- what a list whose atoms all hold says of a polynomial has its sign
+  -- What a list whose atoms all hold says of a polynomial has its sign.
   pub says-right : (l : List Atom) (p : Polynomial) → atomsHold sign l ≡ true → sign p In says n (run n l) p
   says-right l p e = outcome-right (run n l) p (run-keeps l e)

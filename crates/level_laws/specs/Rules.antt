@@ -8,11 +8,12 @@ use Rattle.rules.specs.Signs.{Sign}
 use Rattle.rules.specs.Polynomial.{Polynomial, Atom}
 use Rattle.rules.specs.Rounds.{Outcome, contradiction, settled, run, carried}
 use Rattle.rules.specs.Formula.{end, atom, and, or, Node, leaf, allOf, anyOf, isEnd}
-use Rattle.rules.specs.Level.{Formula, dual, dualNode, atomsOf, orsOf, Walk, falls, still, moved, gather, Tidied, broken, tidied, tidy, sweep, removeImplied, never, Again, afterSweep, afterRounds, afterTidy, settle, innerAll, settled-down, afterGather, andRule, orRule, nodeIf, asNode, simplify}
+use Rattle.rules.specs.Level.{Formula, dual, dualNode, atomsOf, orsOf, Walk, falls, still, moved, gather, Tidied, broken, tidied, tidy, sweep, removeImplied, never}
+use Rattle.rules.specs.Level.{Again, afterSweep, afterRounds, afterTidy, settle, innerAll, settled-down, afterGather, andRule, orRule, nodeIf, asNode, simplify}
 use Rattle.rules.specs.Meaning.{atomHolds, allHold, someHold, holds}
 use Rattle.rules.specs.Answer.{Verdict, formula, always, unsatisfiable, ifEnd, verdictOf}
-use Rattle.sign_laws.specs.Booleans.{and-assoc, and-true, and-false, not-not}
-use Rattle.level_laws.specs.Holding.{and-under, every-append, atomsHold, orsHold, by-end, no-atoms, all-apart, parts-hold, complement-holds, all-dual, some-dual}
+use Rattle.sign_laws.specs.Booleans.{and-assoc, and-true, and-false, not-not, and-under}
+use Rattle.level_laws.specs.Holding.{every-append, atomsHold, orsHold, by-end, no-atoms, all-apart, parts-hold, complement-holds, all-dual, some-dual}
 use Rattle.level_laws.specs.Respects.{Respects}
 use Rattle.level_laws.specs.Rounds.{RightOutcome, run-keeps, contradiction-false}
 use Rattle.level_laws.specs.Tidy.{tidiedHolds, tidy-keeps}
@@ -29,12 +30,12 @@ module _ (sign : Polynomial → Sign) where
   never-behind : (l : List Atom) → allHold sign never ≡ atomsHold sign l && false
   never-behind l = never-holds ∙ sym (and-false (atomsHold sign l))
 
-  -- atoms that joined count with the list that they joined
+  -- Atoms that joined count with the list that they joined.
   joined : (l new : List Atom) (ors : List Formula) → atomsHold sign (l ++ new) && orsHold sign ors ≡ atomsHold sign l && (atomsHold sign new && orsHold sign ors)
   joined l new ors = rw (every-append (atomHolds sign) l new) (sym (and-assoc (atomsHold sign l) (atomsHold sign new) (orsHold sign ors)))
 
 module _ {sign : Polynomial → Sign} {n : ℕ} (ok : Respects sign n) where
-  -- ---- steps 2 to 6, if the way back to step 2 keeps the truth
+  -- ---- Steps 2 to 6, if the way back to step 2 keeps the truth.
   module _ (again : Again) (again-keeps : (l : List Atom) (ors : List Formula) → allHold sign (again l ors) ≡ atomsHold sign l && orsHold sign ors) where
     afterSweep-keeps : (l : List Atom) (walk : Walk) → allHold sign (afterSweep n l walk again) ≡ atomsHold sign l && walkHolds sign walk
     unfolding afterSweep walkHolds
@@ -70,14 +71,14 @@ module _ {sign : Polynomial → Sign} {n : ℕ} (ok : Respects sign n) where
   afterGather-keeps l (still ors) = settle-keeps (1 + innerAll ors) l ors
   afterGather-keeps l (moved new ors) = settle-keeps (1 + innerAll ors) (l ++ new) ors ∙ joined sign l new ors
 
-  -- ---- the rules
+  -- ---- The rules.
 
-  -- what keeps the truth of AND parts keeps, between complement and exchange, that of OR parts
+  -- What keeps the truth of AND parts keeps, between complement and exchange, that of OR parts.
   by-dual : (rule : Formula → Formula) → ((kids : Formula) → allHold sign (rule kids) ≡ allHold sign kids)
       → (kids : Formula) → someHold sign (dual (rule (dual kids))) ≡ someHold sign kids
   by-dual rule keeps kids = some-dual sign (rule (dual kids)) ∙ ap not (keeps (dual kids) ∙ all-dual sign kids) ∙ not-not (someHold sign kids)
 
-  -- the AND rule keeps the truth
+  -- The AND rule keeps the truth.
   pub andRule-keeps : (d : ℕ) (kids : Formula) → allHold sign (andRule n d kids) ≡ allHold sign kids
   unfolding andRule
   andRule-keeps zero kids = refl
@@ -87,12 +88,12 @@ module _ {sign : Polynomial → Sign} {n : ℕ} (ok : Respects sign n) where
       (gather-keeps sign (λ (child : Formula). dual (andRule n d (dual child))) (by-dual (andRule n d) (andRule-keeps d)) (orsOf kids))
       ∙ sym (all-apart sign kids)
 
-  -- the OR rule keeps the truth
+  -- The OR rule keeps the truth.
   pub orRule-keeps : (d : ℕ) (kids : Formula) → someHold sign (orRule n d kids) ≡ someHold sign kids
   unfolding orRule
   orRule-keeps d kids = by-dual (andRule n d) (andRule-keeps d) kids
 
--- ---- the whole tree
+-- ---- The whole tree.
 
 module _ (sign : Polynomial → Sign) where
   nodeIf-keeps : (rest kids : Formula) (one : Node Atom) → (rest ≡ end → holds sign one ≡ allHold sign kids)
@@ -115,7 +116,7 @@ module _ (sign : Polynomial → Sign) where
   node-dual (anyOf kids) = all-dual sign kids
 
 module _ {sign : Polynomial → Sign} {n : ℕ} (ok : Respects sign n) where
-  -- a simplified formula holds exactly when the formula does
+  -- A simplified formula holds exactly when the formula does.
   pub simplify-keeps : (tree : Node Atom) → holds sign (simplify n tree) ≡ holds sign tree
   unfolding simplify holds allHold
   simplify-keeps (leaf a) = asNode-keeps sign (andRule n 6 (atom a end)) ∙ andRule-keeps ok 6 (atom a end) ∙ and-true (atomHolds sign a)
@@ -123,15 +124,15 @@ module _ {sign : Polynomial → Sign} {n : ℕ} (ok : Respects sign n) where
   simplify-keeps (anyOf kids) = node-dual sign (asNode (andRule n 6 (dual kids)))
       ∙ ap not (asNode-keeps sign (andRule n 6 (dual kids)) ∙ andRule-keeps ok 6 (dual kids) ∙ all-dual sign kids) ∙ not-not (someHold sign kids)
 
--- ---- the verdicts
+-- ---- The verdicts.
 
--- what a verdict tells of the truth of a formula
+-- What a verdict tells of the truth of a formula.
 abbrev pub Tells : Verdict → Bool → Type 0
 Tells formula b = Unit {0}
 Tells always b = b ≡ true
 Tells unsatisfiable b = b ≡ false
 
--- what the verdict on a node tells is so
+-- What the verdict on a node tells is so.
 verdict-tells : (sign : Polynomial → Sign) (node : Node Atom) → Tells (verdictOf node) (holds sign node)
 unfolding verdictOf ifEnd holds allHold
 verdict-tells sign (leaf a) = tt
@@ -142,10 +143,10 @@ module _ {sign : Polynomial → Sign} {n : ℕ} (ok : Respects sign n) where
   verdict-right : (tree : Node Atom) → Tells (verdictOf (simplify n tree)) (holds sign tree)
   verdict-right tree = subst (Tells (verdictOf (simplify n tree))) (simplify-keeps ok tree) (verdict-tells sign (simplify n tree))
 
-  -- a formula with the verdict ALWAYS holds
+  -- A formula with the verdict ALWAYS holds.
   pub verdict-always : (tree : Node Atom) → verdictOf (simplify n tree) ≡ always → holds sign tree ≡ true
   verdict-always tree e = subst (λ (verdict : Verdict). Tells verdict (holds sign tree)) e (verdict-right tree)
 
-  -- a formula with the verdict UNSATISFIABLE does not
+  -- A formula with the verdict UNSATISFIABLE does not.
   pub verdict-unsatisfiable : (tree : Node Atom) → verdictOf (simplify n tree) ≡ unsatisfiable → holds sign tree ≡ false
   verdict-unsatisfiable tree e = subst (λ (verdict : Verdict). Tells verdict (holds sign tree)) e (verdict-right tree)

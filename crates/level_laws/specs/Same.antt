@@ -27,7 +27,7 @@ number-itself (negsuc a) = eq-eqb a a refl
 abbrev term : ℤ → ℕ → Term
 term coefficient monomial = record { coefficient = coefficient; monomial = monomial }
 
--- polynomials that pass the test are equal
+-- Polynomials that pass the test are equal.
 pub same-equal : (p q : Polynomial) → same p q ≡ true → p ≡ q
 unfolding same
 same-equal [] [] e = refl
@@ -41,7 +41,7 @@ same-equal (t ∷ ts) (u ∷ us) e =
     (eqb-true (t .monomial) (u .monomial) (and-first monomials coefficients terms)) in
     ap₂ (λ (x : Term) (l : Polynomial). x ∷ l) equal (same-equal ts us (and-second (monomials && coefficients) (same ts us) e))
 
--- a polynomial passes the test with itself
+-- A polynomial passes the test with itself.
 pub same-itself : (p : Polynomial) → same p p ≡ true
 unfolding same
 same-itself [] = refl
@@ -59,12 +59,12 @@ found-among n (suc k) p i e = by-test (same p (variable n k)) refl e (found-amon
         (subst (λ (j : ℕ). p ≡ variable n j) k-is (same-equal p (variable n k) w), omega (arith, k-is))
     by-test false w e earlier = let found = earlier e in (found .0, omega (arith, found .1))
 
--- a polynomial for which a variable is found is that variable
+-- A polynomial for which a variable is found is that variable.
 pub which-variable : (n : ℕ) (p : Polynomial) (i : ℕ) → which n p ≡ some i → p ≡ variable n i
 unfolding which
 which-variable n p i e = found-among n n p i e .0
 
--- and the variable is one of the n
+-- And the variable is one of the n.
 pub which-below : (n : ℕ) (p : Polynomial) (i : ℕ) → which n p ≡ some i → i < n
 unfolding which
 which-below n p i e = found-among n n p i e .1

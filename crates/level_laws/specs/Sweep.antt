@@ -11,7 +11,8 @@ use Rattle.rules.specs.Signs.{Sign, SignSet, empty, intersect, inside}
 use Rattle.rules.specs.Polynomial.{Polynomial, Atom}
 use Rattle.rules.specs.Rounds.{State, saysIn}
 use Rattle.rules.specs.Formula.{end, atom, and, or, isEnd}
-use Rattle.rules.specs.Level.{Formula, atomsOf, orsOf, Entry, fails, joins, stays, joinsIf, enter, Walk, falls, still, moved, add, gather, unlessDropped, prunedIf, prune, addPruned, sweep}
+use Rattle.rules.specs.Level.{Formula, atomsOf, orsOf, Entry, fails, joins, stays, joinsIf, enter, Walk, falls, still, moved, add, gather, unlessDropped, prunedIf}
+use Rattle.rules.specs.Level.{prune, addPruned, sweep}
 use Rattle.rules.specs.Meaning.{atomHolds, allHold, someHold}
 use Rattle.sign_laws.specs.Booleans.{and-assoc, and-swap, and-true, and-false, and-four, or-false}
 use Rattle.sign_laws.specs.Sets.{_In_, has-intersect, in-inside}
@@ -19,24 +20,25 @@ use Rattle.level_laws.specs.Holding.{every, every-append, atomsHold, ors
 use Rattle.level_laws.specs.Respects.{Respects}
 use Rattle.level_laws.specs.Rounds.{Right, saysIn-right}
 
--- what an OR child that comes back, and what a walk over the OR children, asks for
+-- What an OR child that comes back asks for.
 unfoldable pub entryHolds : (Polynomial → Sign) → Entry → Bool
 entryHolds sign fails = false
 entryHolds sign (joins l ors) = atomsHold sign l && orsHold sign ors
 entryHolds sign (stays child) = someHold sign child
 
+-- What a walk over the OR children asks for.
 unfoldable pub walkHolds : (Polynomial → Sign) → Walk → Bool
 walkHolds sign falls = false
 walkHolds sign (still ors) = orsHold sign ors
 walkHolds sign (moved l ors) = atomsHold sign l && orsHold sign ors
 
--- what is left of an OR child; a dropped one is true
+-- What is left of an OR child; a dropped one is true.
 unfoldable pub prunedHolds : (Polynomial → Sign) → Option Formula → Bool
 prunedHolds sign none = true
 prunedHolds sign (some child) = someHold sign child
 
 module _ (sign : Polynomial → Sign) where
-  -- ---- entering
+  -- ---- Entering.
 
   joinsIf-keeps : (rest : Formula) (l : List Atom) (ors : List Formula) (child : Formula)
       → (rest ≡ end → atomsHold sign l && orsHold sign ors ≡ someHold sign child) → entryHolds sign (joinsIf (isEnd rest) l ors child) ≡ someHold sign child
@@ -66,7 +68,7 @@ module _ (sign : Polynomial → Sign) where
   enters : (child : Formula) (walk : Walk) → walkHolds sign (add (enter child) walk) ≡ someHold sign child && walkHolds sign walk
   enters child walk = add-keeps (enter child) walk ∙ ap (λ (x : Bool). x && walkHolds sign walk) (enter-keeps child)
 
-  -- step 1 keeps the truth of the OR children, if the OR rule does
+  -- Step 1 keeps the truth of the OR children, if the OR rule does.
   pub gather-keeps : (orRule : Formula → Formula) → ((child : Formula) → someHold sign (orRule child) ≡ someHold sign child) → (ors : List Formula)
       → walkHolds sign (gather orRule ors) ≡ orsHold sign ors
   unfolding gather walkHolds every
@@ -74,7 +76,7 @@ module _ (sign : Polynomial → Sign) where
   gather-keeps orRule keeps (child ∷ later) = enters (orRule child) (gather orRule later)
       ∙ ap₂ (λ (x y : Bool). x && y) (keeps child) (gather-keeps orRule keeps later)
 
-  -- ---- pruning
+  -- ---- Pruning.
 
   unlessDropped-keeps : (f : Formula → Formula) (b : Bool) → ((rest : Formula) → someHold sign (f rest) ≡ b || someHold sign rest) → (rest : Option Formula)
       → prunedHolds sign (unlessDropped f rest) ≡ b || prunedHolds sign rest
@@ -91,7 +93,7 @@ module _ (sign : Polynomial → Sign) where
   prunedIf-keeps false true a cut rest f g e = rw (← e, g refl)
   prunedIf-keeps false false a cut rest f g e = unlessDropped-keeps (atom cut) (atomHolds sign a) (λ q. rw e) rest
 
-  -- an atom keeps its truth when it is cut by a set that has the sign of its polynomial
+  -- An atom keeps its truth when it is cut by a set that has the sign of its polynomial.
   cut-holds : (a : Atom) (s : SignSet) → sign (a .polynomial) In s
       → atomHolds sign (record { polynomial = a .polynomial; set = intersect (a .set) s }) ≡ atomHolds sign a
   unfolding atomHolds
@@ -119,7 +121,7 @@ module _ {sign : Polynomial → Sign} {n : ℕ} (ok : Respects sign n) (st : Sta
   addPruned-keeps none walk = refl
   addPruned-keeps (some child) walk = enters sign child walk
 
-  -- step 4 keeps the truth of the OR children where the atoms' state is right
+  -- Step 4 keeps the truth of the OR children where the atoms' state is right.
   pub sweep-keeps : (ors : List Formula) → walkHolds sign (sweep n st ors) ≡ orsHold sign ors
   unfolding sweep walkHolds every
   sweep-keeps [] = refl

@@ -18,15 +18,15 @@ use Rattle.level_laws.specs.Same.{same-equal}
 use Rattle.level_laws.specs.Holding.{every, atomsHold, empty-fails, full-holds}
 use Rattle.level_laws.specs.Respects.{Respects}
 
--- what a tidied list says; "the node is false" where it is broken
+-- What a tidied list says; "the node is false" where it is broken.
 unfoldable pub tidiedHolds : (Polynomial → Sign) → Tidied → Bool
 tidiedHolds sign broken = false
 tidiedHolds sign (tidied l) = atomsHold sign l
 
 module _ (sign : Polynomial → Sign) where
-  -- ---- one atom for each polynomial
+  -- ---- One atom for each polynomial.
 
-  -- two atoms of one polynomial hold exactly if the atom with the intersected set does
+  -- Two atoms of one polynomial hold exactly if the atom with the intersected set does.
   merged-holds : (a first : Atom) → a .polynomial ≡ first .polynomial
       → atomHolds sign (record { polynomial = first .polynomial; set = intersect (first .set) (a .set) }) ≡ atomHolds sign first && atomHolds sign a
   unfolding atomHolds
@@ -44,7 +44,7 @@ module _ (sign : Polynomial → Sign) where
           ∙ and-swap (atomHolds sign first) (atomHolds sign a) (atomsHold sign later)
       by-test false w h = rw h (and-swap (atomHolds sign first) (atomHolds sign a) (atomsHold sign later))
 
-  -- ---- full and empty sets
+  -- ---- Full and empty sets.
 
   keptIf-keeps : (isEmpty isFull : Bool) (a : Atom) (rest : Tidied) → (isEmpty ≡ true → atomHolds sign a ≡ false) → (isFull ≡ true → atomHolds sign a ≡ true)
       → tidiedHolds sign (keptIf isEmpty isFull a rest) ≡ atomHolds sign a && tidiedHolds sign rest
@@ -68,7 +68,7 @@ module _ (sign : Polynomial → Sign) where
   afterMerging-keeps (tidied l) = withoutFull-keeps l
 
 module _ {sign : Polynomial → Sign} {n : ℕ} (ok : Respects sign n) where
-  -- ---- the whole step
+  -- ---- The whole step.
 
   mergeConstant-keeps : (b : Bool) (l later : List Atom) → tidiedHolds sign (merge l later) ≡ atomsHold sign l && atomsHold sign later
       → tidiedHolds sign (mergeConstant b l (λ (m : List Atom). merge m later)) ≡ atomsHold sign l && (b && atomsHold sign later)
@@ -91,7 +91,7 @@ module _ {sign : Polynomial → Sign} {n : ℕ} (ok : Respects sign n) where
   merge-keeps l (a ∷ later) = mergeNormal-keeps (normal a) l later (λ m. merge-keeps m later) (constant (normal a .polynomial)) refl
       ∙ ap (λ (x : Bool). atomsHold sign l && (x && atomsHold sign later)) (ok .by-normal a)
 
-  -- step 2 keeps the truth of a list
+  -- Step 2 keeps the truth of a list.
   pub tidy-keeps : (l : List Atom) → tidiedHolds sign (tidy l) ≡ atomsHold sign l
   unfolding tidy every
   tidy-keeps l = afterMerging-keeps sign (merge [] l) ∙ merge-keeps [] l

@@ -17,9 +17,9 @@ use Rattle.level_laws.specs.Same.{same-equal, same-itself}
 use Rattle.level_laws.specs.Respects.{Respects}
 use Rattle.level_laws.specs.Rules.{simplify-keeps}
 
--- ---- the table
+-- ---- The table.
 
--- a polynomial that a table knows is found by its number
+-- A polynomial that a table knows is found by its number.
 number-found : (table : List Polynomial) (p : Polynomial) → knows table p ≡ true → getD table (numberIn table p) [] ≡ p
 unfolding knows numberIn hereOr
 number-found [] p e = absurd (false≢true e)
@@ -30,31 +30,32 @@ number-found (q ∷ qs) p e = by-test (same p q) refl e (number-found qs p)
     by-test true w e later = sym (same-equal p q w)
     by-test false w e later = later e
 
--- what a table knows, a longer one knows
+-- What a table knows, a longer one knows.
 knows-longer : (table more : List Polynomial) (p : Polynomial) → knows table p ≡ true → knows (table ++ more) p ≡ true
 unfolding knows
 knows-longer [] more p e = absurd (false≢true e)
 knows-longer (q ∷ qs) more p e = or-cases (same p q) (knows qs p) e (or-first (knows (qs ++ more) p)) (λ h. or-second (same p q) (knows-longer qs more p h))
 
--- and a table knows its last polynomial
+-- And a table knows its last polynomial.
 knows-last : (table : List Polynomial) (p : Polynomial) → knows (table ++ (p ∷ [])) p ≡ true
 unfolding knows
 knows-last [] p = or-first false (same-itself p)
 knows-last (q ∷ qs) p = or-second (same p q) (knows-last qs p)
 
--- a polynomial that is added unless known is known then, and all that was
+-- What a table knows, it knows when a polynomial has been added unless known.
 added-keeps : (b : Bool) (table : List Polynomial) (q p : Polynomial) → knows table p ≡ true → knows (addedUnless b q table) p ≡ true
 unfolding addedUnless
 added-keeps true table q p e = e
 added-keeps false table q p e = knows-longer table (q ∷ []) p e
 
-added-knows : (b : Bool) (table : List Polynomial) (p : Polynomial) → knows table p ≡ b → knows (addedUnless b p table) p ≡ true
+-- And it knows that polynomial.
+pub added-knows : (b : Bool) (table : List Polynomial) (p : Polynomial) → knows table p ≡ b → knows (addedUnless b p table) p ≡ true
 unfolding addedUnless
 added-knows true table p e = e
 added-knows false table p e = knows-last table p
 
--- what a table knows, it knows when the parts have been walked
-used-keeps : (table : List Polynomial) (kids : Formula) (p : Polynomial) → knows table p ≡ true → knows (used table kids) p ≡ true
+-- What a table knows, it knows when the parts have been walked.
+pub used-keeps : (table : List Polynomial) (kids : Formula) (p : Polynomial) → knows table p ≡ true → knows (used table kids) p ≡ true
 unfolding used
 used-keeps table end p e = e
 used-keeps table (atom a rest) p e = used-keeps (addedUnless (knows table (a .polynomial)) (a .polynomial) table) rest p
@@ -62,18 +63,18 @@ used-keeps table (atom a rest) p e = used-keeps (addedUnless (knows table (a .po
 used-keeps table (and kids rest) p e = used-keeps (used table kids) rest p (used-keeps table kids p e)
 used-keeps table (or kids rest) p e = used-keeps (used table kids) rest p (used-keeps table kids p e)
 
--- ---- the tree
+-- ---- The tree.
 
 abbrev atomOf : SignSet → Polynomial → Atom
 atomOf set p = record { polynomial = p; set = set }
 
 module _ (table : List Polynomial) where
-  -- an atom whose polynomial the table knows is looked up again as it was
+  -- An atom whose polynomial the table knows is looked up again as it was.
   atom-looked-up : (a : Atom) → knows table (a .polynomial) ≡ true → lookedUp table (numbered table a) ≡ a
   unfolding lookedUp numbered
   atom-looked-up a e = ap (atomOf (a .set)) (number-found table (a .polynomial) e)
 
-  -- a table that knows all that the parts use, beside what was used before them, gives the parts back
+  -- A table that knows all that the parts use, beside what was used before them, gives the parts back.
   parts-looked-up : (sofar : List Polynomial) (kids : Formula) → ((p : Polynomial) → knows (used sofar kids) p ≡ true → knows table p ≡ true)
       → eachAtom (lookedUp table) (eachAtom (numbered table) kids) ≡ kids
   unfolding eachAtom used
@@ -87,15 +88,20 @@ module _ (table : List Polynomial) where
   parts-looked-up sofar (or kids rest) h =
       ap₂ or (parts-looked-up sofar kids (λ p e. h p (used-keeps (used sofar kids) rest p e))) (parts-looked-up (used sofar kids) rest h)
 
--- the block of a tree holds the tree
+-- The block of a tree holds the tree.
 pub looked-up : (n : ℕ) (tree : Node Atom) → formulaOf (blockOf n tree) ≡ tree
 unfolding formulaOf blockOf eachAtomOf alone before used
 looked-up n (leaf a) = ap leaf (atom-looked-up (used [] (atom a end)) a (added-knows (knows [] (a .polynomial)) [] (a .polynomial) refl))
 looked-up n (allOf kids) = ap allOf (parts-looked-up (used [] kids) [] kids (λ p e. e))
 looked-up n (anyOf kids) = ap anyOf (parts-looked-up (used [] kids) [] kids (λ p e. e))
 
--- so the new block of an answer holds exactly when the given block does
+-- The new block of an answer holds the simplified formula.
+pub new-formula : (given : Block) → formulaOf (newBlock given) ≡ simplified given
+unfolding newBlock
+new-formula given = looked-up (given .variables) (simplified given)
+
+-- So it is true exactly when the given block is.
 pub newBlock-keeps : (given : Block) {sign : Polynomial → Sign} → Respects sign (given .variables)
     → holds sign (formulaOf (newBlock given)) ≡ holds sign (formulaOf given)
-unfolding newBlock simplified
-newBlock-keeps given {sign} ok = ap (holds sign) (looked-up (given .variables) (simplified given)) ∙ simplify-keeps ok (formulaOf given)
+unfolding simplified
+newBlock-keeps given {sign} ok = ap (holds sign) (new-formula given) ∙ simplify-keeps ok (formulaOf given)

@@ -9,14 +9,15 @@ use native.Mathlib.Omega.{arith}
 use lib.IntN.{pos, negℤ, natAbs}
 use lib.ListN.{length}
 use lib.Signed.{quotZ}
-use Rattle.rules.specs.Signs.{SignSet, full, has, mirrorOfSign, mirror}
+use Rattle.rules.specs.Signs.{SignSet, full}
 use Rattle.rules.specs.Polynomial.{Term, Polynomial, Atom, eachCoefficient, divided, firstIsNegative, turned, normal}
 use Rattle.rules.specs.Limits.{TermWithin, TermsWithin, no-terms, terms, PolynomialWithin}
-use Rattle.sign_laws.specs.Sets.{setOf-small}
-use Rattle.normal_laws.specs.Gcd.{DividesAll, divides-none, divides, divisor-divides}
+use Rattle.sign_laws.specs.Sets.{mirror-below}
+use Rattle.ending_laws.specs.Gcd.{DividesEach, content-divides}
+use Rattle.ending_laws.specs.Gcd.{no-terms as divides-none, terms as divides-terms}
 use Rattle.normal_laws.specs.Twice.{magnitude-negated, magnitude-quotient, normal-twice}
 
--- ---- the shape of a polynomial
+-- ---- The shape of a polynomial.
 
 -- The second term has the monomial of the first; its coefficient is not 0 unless the first's is, and no larger.
 pub record TermShape (t u : Term) : Type 0 where
@@ -55,10 +56,10 @@ with-quotient t g h = record {
   no-larger = rw (magnitude-quotient (t .coefficient) g) (div-le-self (natAbs (t .coefficient)) g);
 }
 
-divided-shape : {g : ℕ} {p : Polynomial} → DividesAll g p → Shape p (eachCoefficient (λ c. quotZ c (pos g)) p)
+divided-shape : {g : ℕ} {p : Polynomial} → DividesEach g p → Shape p (eachCoefficient (λ c. quotZ c (pos g)) p)
 unfolding eachCoefficient
 divided-shape divides-none = shape-end
-divided-shape {g} (divides {t} h hs) = shape (with-quotient t g h) (divided-shape hs)
+divided-shape {g} (divides-terms {t} h hs) = shape (with-quotient t g h) (divided-shape hs)
 
 with-negation : (t : Term) → TermShape t (record { coefficient = negℤ (t .coefficient); monomial = t .monomial })
 with-negation t = record {
@@ -77,15 +78,16 @@ unfolding turned
 turned-shape true p s = negated-shape p
 turned-shape false p s = shape-same p
 
--- the normal form has the shape of the atom's polynomial
+-- The normal form has the shape of the atom's polynomial.
 pub normal-shape : (a : Atom) → Shape (a .polynomial) (normal a .polynomial)
 unfolding normal divided
 normal-shape a =
-    shape-trans (divided-shape (divisor-divides (a .polynomial)))
+    shape-trans (divided-shape (content-divides (a .polynomial)))
     (turned-shape (firstIsNegative (divided (a .polynomial))) (divided (a .polynomial)) (a .set))
 
--- ---- what the shape gives
+-- ---- What the shape gives.
 
+-- As many terms.
 pub shape-length : {p q : Polynomial} → Shape p q → length q ≡ length p
 shape-length shape-end = refl
 shape-length (shape x xs) = ap suc (shape-length xs)
@@ -101,25 +103,26 @@ shape-terms : {above : ℕ} {p q : Polynomial} → Shape p q → TermsWithin abo
 shape-terms shape-end no-terms = no-terms
 shape-terms (shape {us = us} x xs) (terms h hs) = terms (shape-term x h) (subst (λ (m : ℕ). TermsWithin m us) (sym (x .monomial)) (shape-terms xs hs))
 
+-- And the limits of a block, if the first is within them.
 pub shape-within : {n : ℕ} {p q : Polynomial} → Shape p q → PolynomialWithin n p → PolynomialWithin n q
 shape-within s h = record { not-none = rw (shape-length s) (h .not-none); at-most = rw (shape-length s) (h .at-most); each = shape-terms s (h .each) }
 
--- the normal form has as many terms as the polynomial
+-- The normal form has as many terms as the polynomial.
 pub normal-length : (a : Atom) → length (normal a .polynomial) ≡ length (a .polynomial)
 normal-length a = shape-length (normal-shape a)
 
--- the normal form of a polynomial within the limits is within the limits
+-- The normal form of a polynomial within the limits is within the limits.
 pub normal-within : {n : ℕ} (a : Atom) → PolynomialWithin n (a .polynomial) → PolynomialWithin n (normal a .polynomial)
 normal-within a h = shape-within (normal-shape a) h
 
--- ---- the set of a normal form, and the normal form of a polynomial alone
+-- ---- The set of a normal form, and the normal form of a polynomial alone.
 
 turned-small : (b : Bool) (p : Polynomial) (s : SignSet) → s < 8 → turned b p s .set < 8
-unfolding turned mirror
-turned-small true p s h = setOf-small (λ x. has (mirrorOfSign x) s)
+unfolding turned
+turned-small true p s h = mirror-below s
 turned-small false p s h = h
 
--- the set of a normal form is one of the eight if the atom's is
+-- The set of a normal form is one of the eight if the atom's is.
 pub normal-small : (a : Atom) → a .set < 8 → normal a .set < 8
 unfolding normal
 normal-small a h = turned-small (firstIsNegative (divided (a .polynomial))) (divided (a .polynomial)) (a .set) h
@@ -133,20 +136,23 @@ unfolding turned
 turned-alike true p s t = refl
 turned-alike false p s t = refl
 
--- the polynomial of an atom's normal form does not depend on the atom's set
+-- The polynomial of an atom's normal form does not depend on the atom's set.
 pub normal-alike : (a : Atom) → normal a .polynomial ≡ normalForm (a .polynomial)
 unfolding normal normalForm
 normal-alike a = turned-alike (firstIsNegative (divided (a .polynomial))) (divided (a .polynomial)) (a .set) full
 
+-- The normal form of a normal form is itself.
 pub normalForm-twice : (p : Polynomial) → normalForm (normalForm p) ≡ normalForm p
 unfolding normalForm
 normalForm-twice p =
     sym (normal-alike (normal (record { polynomial = p; set = full }))) ∙ ap (λ (a : Atom). a .polynomial) (normal-twice (record { polynomial = p; set = full }))
 
+-- It has as many terms as the polynomial.
 pub normalForm-length : (p : Polynomial) → length (normalForm p) ≡ length p
 unfolding normalForm
 normalForm-length p = normal-length (record { polynomial = p; set = full })
 
+-- And is within the limits if the polynomial is.
 pub normalForm-within : {n : ℕ} (p : Polynomial) → PolynomialWithin n p → PolynomialWithin n (normalForm p)
 unfolding normalForm
 normalForm-within p h = normal-within (record { polynomial = p; set = full }) h

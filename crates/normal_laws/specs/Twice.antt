@@ -9,15 +9,17 @@ use lib.IntN.{ℤ, pos, negsuc, negℤ, natAbs}
 use lib.Signed.{quotZ, nonNeg}
 use Rattle.rules.specs.Signs.{SignSet}
 use Rattle.rules.specs.Polynomial.{Polynomial, Atom, gcd, contentFrom, orOne, content, eachCoefficient, divided, firstIsNegative, turned, normal}
-use Rattle.normal_laws.specs.Gcd.{DividesAll, divides-none, divides, content-divides, content-greatest}
+use Rattle.ending_laws.specs.Gcd.{DividesEach, no-terms, terms, contentFrom-divides, contentFrom-greatest}
 
--- ---- magnitudes
+-- ---- Magnitudes.
 
+-- A negation keeps the magnitude.
 pub magnitude-negated : (z : ℤ) → natAbs (negℤ z) ≡ natAbs z
 magnitude-negated (pos zero) = refl
 magnitude-negated (pos (suc n)) = refl
 magnitude-negated (negsuc n) = refl
 
+-- The magnitude of a quotient is the quotient of the magnitude.
 pub magnitude-quotient : (c : ℤ) (g : ℕ) → natAbs (quotZ c (pos g)) ≡ natAbs c / g
 magnitude-quotient (pos a) g = refl
 magnitude-quotient (negsuc a) g = magnitude-negated (pos (suc a / g))
@@ -38,13 +40,13 @@ same-coefficients f h [] = refl
 same-coefficients f h (t ∷ ts) =
     ap₂ (λ (c : ℤ) (l : Polynomial). record { coefficient = c; monomial = t .monomial } ∷ l) (h (t .coefficient)) (same-coefficients f h ts)
 
--- ---- the divided polynomial has the content 1
+-- ---- The divided polynomial has the content 1.
 
-quotients-divide : {g : ℕ} (h : ℕ) {p : Polynomial} → DividesAll g p → DividesAll h (eachCoefficient (λ c. quotZ c (pos g)) p) → DividesAll (g * h) p
+quotients-divide : {g : ℕ} (h : ℕ) {p : Polynomial} → DividesEach g p → DividesEach h (eachCoefficient (λ c. quotZ c (pos g)) p) → DividesEach (g * h) p
 unfolding eachCoefficient
-quotients-divide h divides-none divides-none = divides-none
-quotients-divide {g} h (divides {t} x xs) (divides y ys) =
-    divides (rw (mul-div-cancel' g x) at (mul-dvd-mul-left h g (rw (magnitude-quotient (t .coefficient) g) at y))) (quotients-divide h xs ys)
+quotients-divide h no-terms no-terms = no-terms
+quotients-divide {g} h (terms {t} x xs) (terms y ys) =
+    terms (rw (mul-div-cancel' g x) at (mul-dvd-mul-left h g (rw (magnitude-quotient (t .coefficient) g) at y))) (quotients-divide h xs ys)
 
 one-within : (p : Polynomial) (g : ℕ) → contentFrom 0 p ≡ g → orOne (contentFrom 0 (eachCoefficient (λ c. quotZ c (pos (orOne g))) p)) ≡ 1
 unfolding orOne
@@ -52,9 +54,9 @@ one-within p zero e = rw (same-magnitudes (λ c. quotZ c (pos 1)) (λ c. ap natA
 one-within p (suc n) e =
     let q = eachCoefficient (λ c. quotZ c (pos (suc n))) p in
     let h = contentFrom 0 q in
-    let x : DividesAll (suc n) p = rw e at (content-divides p) in
-    let y : DividesAll (suc n * h) p = quotients-divide h x (content-divides q) in
-    let z : suc n * h ∣ suc n = rw e at (content-greatest y) in
+    let x : DividesEach (suc n) p = rw e at (contentFrom-divides p) in
+    let y : DividesEach (suc n * h) p = quotients-divide h x (contentFrom-divides q) in
+    let z : suc n * h ∣ suc n = rw e at (contentFrom-greatest p (suc n * h) y) in
     let u : suc n * h ∣ suc n * 1 = rw (mul-one (suc n)) z in
     let v : h ≡ 1 = eq-one-of-dvd-one (dvd-of-mul-dvd-mul-left h (zero-lt-suc n) u) in
     rw v
@@ -67,7 +69,7 @@ divided-by-one : (q : Polynomial) → content q ≡ 1 → divided q ≡ q
 unfolding divided
 divided-by-one q e = rw e (same-coefficients (λ c. quotZ c (pos 1)) by-one q)
 
--- ---- turned, the first coefficient is not negative
+-- ---- Turned, the first coefficient is not negative.
 
 first-turned : (q : Polynomial) → firstIsNegative q ≡ true → firstIsNegative (eachCoefficient negℤ q) ≡ false
 unfolding firstIsNegative eachCoefficient
@@ -85,7 +87,7 @@ turned-twice true q s l o =
     rw (divided-by-one (eachCoefficient negℤ q) one, first-turned q l)
 turned-twice false q s l o = rw (divided-by-one q o, l)
 
--- the normal form of a normal form is itself
+-- The normal form of a normal form is itself.
 pub normal-twice : (a : Atom) → normal (normal a) ≡ normal a
 unfolding normal
 normal-twice a = turned-twice (firstIsNegative (divided (a .polynomial))) (divided (a .polynomial)) (a .set) refl (content-divided (a .polynomial))

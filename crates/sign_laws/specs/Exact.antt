@@ -1,15 +1,13 @@
 -- The sign algebra is exact, not only sound: each sign of a sum, product or square of sets is taken by whole numbers with signs in these sets.
 -- 01, "Signs": "all signs that a sum of whole numbers with such signs can have".
 use mathlib.Core.Path.{_≡_, refl, sym, ap₂, _∙_, subst}
-use mathlib.Core.Bool.{Bool, true, false, false≢true}
 use mathlib.Core.Logic.{_↔_}
-use Prim.Native.Nat.{ℕ, zero, suc}
 use lib.IntN.{ℤ, pos, negsuc, _+ℤ_, _*ℤ_}
 use Rattle.rules.specs.Signs.{Sign, negative, nought, positive, signOf, SignSet, only, has, sumOfSigns, sum, productOfSigns, product, square}
 use Rattle.sign_laws.specs.Sets.{_In_, only-one, from-all, from-square}
-use Rattle.sign_laws.specs.Whole.{_∈_, ∈-sum, ∈-product, ∈-square, sign-product}
+use Rattle.sign_laws.specs.Whole.{_∈_, ∈-sum, ∈-product, ∈-square, by-sign, sign-product}
 
--- a whole number of each sign, and a larger one of the same sign
+-- A whole number of each sign, and a larger one of the same sign.
 abbrev sample : Sign → ℤ
 sample negative = negsuc 0
 sample nought = pos 0
@@ -32,11 +30,9 @@ larger-sign negative = refl
 larger-sign nought = refl
 larger-sign positive = refl
 
-with-sign : {z : ℤ} {x : Sign} {a : SignSet} → signOf z ≡ x → x In a → z ∈ a
-with-sign {a = a} e h = record { sign = subst (λ (t : Sign). t In a) (sym e) h }
+-- ---- Sums: one of three samples has the sign, the two as they are, or one of them larger.
 
--- ---- sums: one of three samples has the sign, the two as they are, or one of them larger
-
+-- Two whole numbers of these signs, and a sum of that sign.
 pub record Summed (x y s : Sign) : Type 0 where
   pub first : ℤ
   pub second : ℤ
@@ -66,35 +62,35 @@ summed nought positive s h = plain nought positive s (sym (only-one h))
 summed positive nought s h = plain positive nought s (sym (only-one h))
 summed positive positive s h = plain positive positive s (sym (only-one h))
 
--- a sign is in the sum of two sets exactly if two whole numbers with signs in these sets have a sum of that sign
+-- A sign is in the sum of two sets exactly if two whole numbers with signs in these sets have a sum of that sign.
 pub sum-exact : (s : Sign) (a b : SignSet) → (s In sum a b) ↔ ((x : ℤ) × (y : ℤ) × (x ∈ a) × (y ∈ b) × (signOf (x +ℤ y) ≡ s))
 unfolding sum
 sum-exact s a b = (
   λ h. from-all sumOfSigns a b h (λ x y p q r. let w = summed x y s r in
-      (w .first, w .second, with-sign (w .first-sign) p, with-sign (w .second-sign) q, w .sum-sign)),
+      (w .first, w .second, by-sign x (w .first-sign) (p .is), by-sign y (w .second-sign) (q .is), w .sum-sign)),
   (λ h. subst (λ (t : Sign). t In sum a b) (h .4) (∈-sum {a = a} {b = b} (h .2) (h .3) .sign)),
 )
 
--- ---- products and squares: the samples do
+-- ---- Products and squares: the samples do.
 
--- the same of a product
+-- The same of a product.
 pub product-exact : (s : Sign) (a b : SignSet) → (s In product a b) ↔ ((x : ℤ) × (y : ℤ) × (x ∈ a) × (y ∈ b) × (signOf (x *ℤ y) ≡ s))
 unfolding product
 product-exact s a b = (
   λ h. from-all (λ x y. only (productOfSigns x y)) a b h (λ x y p q r. (
     sample x,
     sample y,
-    with-sign (sample-sign x) p,
-    with-sign (sample-sign y) q,
+    by-sign x (sample-sign x) (p .is),
+    by-sign y (sample-sign y) (q .is),
     sign-product (sample x) (sample y) ∙ ap₂ productOfSigns (sample-sign x) (sample-sign y) ∙ sym (only-one r),
   )),
   (λ h. subst (λ (t : Sign). t In product a b) (h .4) (∈-product {a = a} {b = b} (h .2) (h .3) .sign)),
 )
 
--- and of a square
+-- And of a square.
 pub square-exact : (s : Sign) (a : SignSet) → (s In square a) ↔ ((x : ℤ) × (x ∈ a) × (signOf (x *ℤ x) ≡ s))
 square-exact s a = (
   λ h. from-square a h (λ x p e.
-      (sample x, with-sign (sample-sign x) p, sign-product (sample x) (sample x) ∙ ap₂ productOfSigns (sample-sign x) (sample-sign x) ∙ sym e)),
+      (sample x, by-sign x (sample-sign x) (p .is), sign-product (sample x) (sample x) ∙ ap₂ productOfSigns (sample-sign x) (sample-sign x) ∙ sym e)),
   (λ h. subst (λ (t : Sign). t In square a) (h .2) (∈-square {a = a} (h .1) .sign)),
 )

@@ -1,4 +1,5 @@
 pub mod Booleans
+pub mod Lists
 pub mod Sets
 pub mod Whole
 pub mod Exact

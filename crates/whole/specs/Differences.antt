@@ -9,9 +9,9 @@ use lib.IntN.{ℤ, pos, negsuc, negℤ, subℕ, one, _+ℤ_, _*ℤ_, _-ℤ_, *�
 use lib.Signed.{leZ, ltZ, nonNeg}
 use borrow.Author.Tests.{ltb-true, ltb-false, le-leb, lt-leb}
 
--- ---- z is a less b
+-- ---- A whole number as a difference.
 
--- the part of z above 0 and the part below 0: z is the one less the other
+-- The part of z above 0 and the part below 0: z is the one less the other.
 abbrev pub above : ℤ → ℕ
 above (pos n) = n
 above (negsuc n) = 0
@@ -20,13 +20,16 @@ abbrev pub below : ℤ → ℕ
 below (pos n) = 0
 below (negsuc n) = suc n
 
+-- z is a less b.
 pub record Difference (z : ℤ) (a b : ℕ) : Type 0 where
   pub balance : above z + b ≡ below z + a
 
+-- Each number is the difference of its parts.
 pub own : (z : ℤ) → Difference z (above z) (below z)
 own (pos n) = record { balance = omega arith }
 own (negsuc n) = record { balance = omega arith }
 
+-- A negation exchanges the two.
 pub negated : {z : ℤ} {a b : ℕ} → Difference z a b → Difference (negℤ z) b a
 negated {z = pos zero} r = record { balance = omega (arith, r .balance) }
 negated {z = pos (suc n)} r = record { balance = omega (arith, r .balance) }
@@ -42,12 +45,14 @@ subtracted u v a b h = by-test (ltb u v) (negsuc (v - suc u)) (pos (u - v)) a b
 
 infixl 6 _plus_ _minus_
 infixl 7 _times_
+-- Differences are added part by part.
 pub _plus_ : {x y : ℤ} {a b c d : ℕ} → Difference x a b → Difference y c d → Difference (x +ℤ y) (a + c) (b + d)
 _plus_ {x = pos m} {y = pos n} r s = record { balance = omega (arith, r .balance, s .balance) }
 _plus_ {x = pos m} {y = negsuc n} {a} {b} {c} {d} r s = subtracted m (suc n) (a + c) (b + d) (omega (arith, r .balance, s .balance))
 _plus_ {x = negsuc m} {y = pos n} {a} {b} {c} {d} r s = subtracted n (suc m) (a + c) (b + d) (omega (arith, r .balance, s .balance))
 _plus_ {x = negsuc m} {y = negsuc n} r s = record { balance = omega (arith, r .balance, s .balance) }
 
+-- And taken away.
 pub _minus_ : {x y : ℤ} {a b c d : ℕ} → Difference x a b → Difference y c d → Difference (x -ℤ y) (a + d) (b + c)
 r minus s = r plus negated s
 
@@ -59,6 +64,7 @@ negative : (k a b : ℕ) → b ≡ k + a → Difference (negℤ (pos k)) a b
 negative zero a b h = record { balance = omega arith }
 negative (suc k) a b h = record { balance = omega arith }
 
+-- A product of differences is multiplied out.
 pub _times_ : {x y : ℤ} {a b c d : ℕ} → Difference x a b → Difference y c d → Difference (x *ℤ y) (a * c + b * d) (a * d + b * c)
 _times_ {x = pos m} {y = pos n} {a} {b} {c} {d} r s =
     record { balance = omega (arith, multiplied m n b d a c (omega (arith, r .balance)) (omega (arith, s .balance))) }
@@ -69,34 +75,40 @@ _times_ {x = negsuc m} {y = pos n} {a} {b} {c} {d} r s =
 _times_ {x = negsuc m} {y = negsuc n} {a} {b} {c} {d} r s =
     record { balance = omega (arith, multiplied (suc m) (suc n) a c b d (omega (arith, r .balance)) (omega (arith, s .balance))) }
 
--- numbers with equal differences are equal
+-- Numbers with equal differences are equal.
 pub equal : {x y : ℤ} {a b c d : ℕ} → Difference x a b → Difference y c d → a + d ≡ c + b → x ≡ y
 equal {x = pos m} {y = pos n} r s h = ap pos (omega (arith, r .balance, s .balance))
 equal {x = pos m} {y = negsuc n} r s h = absurd (omega (arith, r .balance, s .balance))
 equal {x = negsuc m} {y = pos n} r s h = absurd (omega (arith, r .balance, s .balance))
 equal {x = negsuc m} {y = negsuc n} r s h = ap negsuc (omega (arith, r .balance, s .balance))
 
--- ---- the ring laws
+-- ---- The ring laws.
 
+-- Times 1.
 pub one-*ℤ : (x : ℤ) → one *ℤ x ≡ x
 one-*ℤ x = *ℤ-comm one x ∙ *ℤ-one x
 
+-- A product of three is bracketed either way.
 pub *ℤ-assoc : (x y z : ℤ) → x *ℤ y *ℤ z ≡ x *ℤ (y *ℤ z)
 *ℤ-assoc x y z = equal (own x times own y times own z) (own x times (own y times own z)) (omega arith)
 
+-- A product goes over a sum on its right.
 pub *ℤ-+ℤ : (x y z : ℤ) → x *ℤ (y +ℤ z) ≡ x *ℤ y +ℤ x *ℤ z
 *ℤ-+ℤ x y z = equal (own x times (own y plus own z)) (own x times own y plus own x times own z) (omega arith)
 
+-- And over one on its left.
 pub +ℤ-*ℤ : (x y z : ℤ) → (x +ℤ y) *ℤ z ≡ x *ℤ z +ℤ y *ℤ z
 +ℤ-*ℤ x y z = equal ((own x plus own y) times own z) (own x times own z plus own y times own z) (omega arith)
 
+-- The first two of three summands may change places.
 pub +ℤ-left-comm : (x y z : ℤ) → x +ℤ (y +ℤ z) ≡ y +ℤ (x +ℤ z)
 +ℤ-left-comm x y z = equal (own x plus (own y plus own z)) (own y plus (own x plus own z)) (omega arith)
 
+-- And the first two of three factors.
 pub *ℤ-left-comm : (x y z : ℤ) → x *ℤ (y *ℤ z) ≡ y *ℤ (x *ℤ z)
 *ℤ-left-comm x y z = equal (own x times (own y times own z)) (own y times (own x times own z)) (omega arith)
 
--- ---- the order
+-- ---- The order.
 
 in-order : {z : ℤ} {a b : ℕ} → Difference z a b → leb b a ≡ nonNeg z
 in-order {z = pos n} {a} {b} r = le-leb b a (omega (arith, r .balance))
@@ -109,7 +121,7 @@ turned m n = by (ltb m n) refl
     by true e = sym (ap not (lt-leb n m (ltb-true m n e)))
     by false e = sym (ap not (le-leb n m (ltb-false m n e)))
 
--- x is at most y exactly if y less x is not negative
+-- x is at most y exactly if y less x is not negative.
 pub order-by-difference : (x y : ℤ) → leZ x y ≡ nonNeg (y -ℤ x)
 order-by-difference x y = by-parts x y ∙ in-order (own y minus own x)
   where
@@ -119,7 +131,7 @@ order-by-difference x y = by-parts x y ∙ in-order (own y minus own x)
     by-parts (negsuc m) (pos n) = sym (le-leb (0 + 0) (n + suc m) (omega arith))
     by-parts (negsuc m) (negsuc n) = sym (leb·suc-suc n m) ∙ ap₂ leb {x = suc n} {y = suc n + 0} {u = suc m} {v = 0 + suc m} (omega arith) (omega arith)
 
--- x is below y exactly if y is not at most x
+-- x is below y exactly if y is not at most x.
 pub below-by-order : (x y : ℤ) → ltZ x y ≡ not (leZ y x)
 below-by-order (pos m) (pos n) = turned m n
 below-by-order (pos m) (negsuc n) = refl

@@ -6,24 +6,28 @@ use mathlib.Core.List.{List, [], _∷_}
 use Prim.Native.Nat.{ℕ, zero, suc, compare, Ordering, Ordering·lt, Ordering·eq, Ordering·gt}
 use native.Mathlib.Omega.{arith}
 use lib.Dec.{T, leb, isEq, eqb→eq}
+use lib.Ieee.Fits.{and-l, and-r}
 use lib.IntN.{ℤ, pos, negsuc, negℤ, one, _+ℤ_, _*ℤ_, _-ℤ_, +ℤ-idl, +ℤ-idr, +ℤ-assoc, -ℤ-+ℤ-cancel, *ℤ-zero, zero-*ℤ}
 use Rattle.whole.specs.Differences.{own, _plus_, _times_, negated, equal, one-*ℤ, *ℤ-+ℤ, +ℤ-*ℤ, *ℤ-assoc, *ℤ-left-comm, +ℤ-left-comm}
 
--- ---- the two sides as they are written
+-- ---- The two sides as they are written.
 
 infixl 6 _:+_ _:-_
 infixl 7 _:*_
+-- Variables by their numbers, constants, sums, differences, products and negations.
 pub data Expression : Type 0 where
   # : ℕ → Expression
   con : ℤ → Expression
   _:+_ _:-_ _:*_ : Expression → Expression → Expression
   neg : Expression → Expression
 
+-- The variable of a number.
 abbrev pub variable : List ℤ → ℕ → ℤ
 variable [] i = pos 0
 variable (x ∷ xs) zero = x
 variable (x ∷ xs) (suc i) = variable xs i
 
+-- The value of a side.
 abbrev pub value : List ℤ → Expression → ℤ
 value xs (# i) = variable xs i
 value xs (con z) = z
@@ -32,15 +36,17 @@ value xs (e :- f) = value xs e -ℤ value xs f
 value xs (e :* f) = value xs e *ℤ value xs f
 value xs (neg e) = negℤ (value xs e)
 
--- ---- multiplied out: terms in order, each a coefficient and the numbers of its variables in order
+-- ---- Multiplied out: terms in order, each a coefficient and the numbers of its variables in order.
 
 abbrev Factors : Type 0
 Factors = List ℕ
 
+-- A coefficient times its factors.
 pub record Term : Type 0 where
   pub coefficient : ℤ
   pub factors : Factors
 
+-- How two lists of factors stand to one another.
 pub data Order : Type 0 where
   before same behind : Order
 
@@ -100,18 +106,11 @@ abbrev allZero : List Term → Bool
 allZero [] = true
 allZero (t ∷ ts) = isZero (t .coefficient) && allZero ts
 
+-- The difference of the two sides multiplies out to nothing.
 abbrev pub agree : Expression → Expression → Bool
 agree e f = allZero (multipliedOut (e :- f))
 
--- ---- the value of what is multiplied out
-
-left : (a b : Bool) → T (a && b) → T a
-left true b t = tt
-left false b t = t
-
-right : (a b : Bool) → T (a && b) → T b
-right true b t = t
-right false b t = absurd t
+-- ---- The value of what is multiplied out.
 
 by-test : {A : Type 0} (P : A → Type 0) (b : Bool) (x y : A) → P x → P y → P (elim b [ true ↦ x | false ↦ y ])
 by-test P true x y f g = f
@@ -212,10 +211,10 @@ module _ (xs : List ℤ) where
   unfolding total
   all-zero [] h = refl
   all-zero (t ∷ ts) h =
-      rw (is-zero (t .coefficient) (left (isZero (t .coefficient)) (allZero ts) h), all-zero ts (right (isZero (t .coefficient)) (allZero ts) h))
+      rw (is-zero (t .coefficient) (and-l (isZero (t .coefficient)) (allZero ts) h), all-zero ts (and-r (isZero (t .coefficient)) (allZero ts) h))
       (+ℤ-idr (pos 0 *ℤ product xs (t .factors)) ∙ zero-*ℤ (product xs (t .factors)))
 
-  -- two expressions whose difference multiplies out to nothing have the same value, whatever the variables are
+  -- Two expressions whose difference multiplies out to nothing have the same value, whatever the variables are.
   pub solve : (e f : Expression) → T (agree e f) → value xs e ≡ value xs f
   solve e f t = sym (-ℤ-+ℤ-cancel (value xs e) (value xs f))
       ∙ ap (λ x. x +ℤ value xs f) (sym (multiplied-out (e :- f)) ∙ all-zero (multipliedOut (e :- f)) t) ∙ +ℤ-idl (value xs f)
