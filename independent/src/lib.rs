@@ -41,3 +41,6 @@ pub mod edge;
 
 // The claims that the book is held to
 pub mod book;
+
+// Deductions and lists of atoms, for the inner functions
+pub mod engine;

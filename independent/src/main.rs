@@ -6,11 +6,11 @@ use std::process::ExitCode;
 
 use independent::answer::{read_report, report, MOST_READ};
 use independent::cases::cases;
-use independent::{block, book, check, corpus, edge};
+use independent::{block, book, check, corpus, edge, engine};
 
 const USAGE: &str =
-    "usage: independent [many | read | describe | corpus KIND SEED COUNT | book SEED COUNT | check SEED COUNT]\n\
-                     KIND is valid, damaged, edge or cases\n";
+    "usage: independent [many | read | describe | deductions | lists | corpus KIND SEED COUNT | book SEED COUNT | check SEED COUNT]\n\
+                     KIND is valid, damaged, edge, cases, deductions or lists\n";
 
 fn main() -> ExitCode {
     let arguments: Vec<String> = std::env::args().skip(1).collect();
@@ -20,6 +20,8 @@ fn main() -> ExitCode {
         ["many"] => each_block(|_, block| report(block)),
         ["read"] => each_block(|_, block| read_report(block)),
         ["describe"] => each_block(|index, block| format!("{index} {}", read_report(block))),
+        ["deductions"] => each_block(|_, block| engine::deduction_line(block)),
+        ["lists"] => each_block(|_, block| engine::list_line(block)),
         ["corpus", kind, seed, count] => match (seed.parse(), count.parse()) {
             (Ok(seed), Ok(count)) => write_corpus(kind, seed, count),
             _ => usage(),
@@ -87,6 +89,8 @@ fn write_corpus(kind: &str, seed: u64, count: usize) -> io::Result<ExitCode> {
         "valid" => corpus::valid(seed, count),
         "damaged" => corpus::damaged(seed, count),
         "edge" => edge::blocks().into_iter().map(|edge| edge.bytes).collect(),
+        "deductions" => engine::deductions(seed, count),
+        "lists" => engine::lists(seed, count),
         "cases" => cases().iter().map(|case| block::write(&case.formula)).collect(),
         _ => return usage(),
     };
