@@ -1,0 +1,77 @@
+-- What the code does for each sign set, by its number: the cuts of L and U, strictness, and the sets that say nothing.
+-- The code matches on the number; the book goes by the kind of that number.
+use mathlib.Core.Path.{_≡_, refl}
+use mathlib.Core.Bool.{Bool, true, false}
+use mathlib.Core.List.{[], _∷_}
+use mathlib.Core.Logic.{inl, inr}
+use Prim.Native.Nat.{ℕ, zero, suc}
+use lib.IntN.{ℤ}
+use types.Run.{OneOf}
+use Rattle.rules.specs.Signs.{Kind, ∅, >0, =0, ≥0, <0, ≠0, ≤0, any, kind}
+use Rattle.rules.specs.Deduce.{Interval, cutNotNegative, cutNotPositive, cutL, cutU, isStrict, finding}
+
+-- what holds of each kind under its number holds of each number
+by-kind : (P : ℕ → Kind → Type 0) → P 0 ∅ → P 1 >0 → P 2 =0 → P 3 ≥0 → P 4 <0 → P 5 ≠0 → P 6 ≤0 → ((k : ℕ) → P (suc (suc (suc (suc (suc (suc (suc k))))))) any)
+    → (k : ℕ) → P k (kind k)
+unfolding kind
+by-kind P a b c d e f g h zero = a
+by-kind P a b c d e f g h (suc zero) = b
+by-kind P a b c d e f g h (suc (suc zero)) = c
+by-kind P a b c d e f g h (suc (suc (suc zero))) = d
+by-kind P a b c d e f g h (suc (suc (suc (suc zero)))) = e
+by-kind P a b c d e f g h (suc (suc (suc (suc (suc zero))))) = f
+by-kind P a b c d e f g h (suc (suc (suc (suc (suc (suc zero)))))) = g
+by-kind P a b c d e f g h (suc (suc (suc (suc (suc (suc (suc zero))))))) = h zero
+by-kind P a b c d e f g h (suc (suc (suc (suc (suc (suc (suc (suc k)))))))) = h (suc k)
+
+-- ---- strict
+
+pub strict-one : (k : ℕ) → OneOf (1 ∷ 4 ∷ []) k → isStrict (kind k) ≡ true
+unfolding kind isStrict
+strict-one k (inl e) = rw e
+strict-one k (inr e) = rw e
+
+pub strict-none : (k : ℕ) → (OneOf (1 ∷ 4 ∷ []) k → ⊥) → isStrict (kind k) ≡ false
+unfolding isStrict
+strict-none = by-kind (λ k s. (OneOf (1 ∷ 4 ∷ []) k → ⊥) → isStrict s ≡ false)
+    (λ f. refl) (λ f. absurd (f (inl refl))) (λ f. refl) (λ f. refl) (λ f. absurd (f (inr refl))) (λ f. refl) (λ f. refl) (λ k f. refl)
+
+-- ---- the cuts of L and U
+
+module _ (k : ℕ) (a b : ℤ) (r : Interval) where
+  -- > and ≥
+  pub cut-positive : OneOf (1 ∷ 3 ∷ []) k → (cutL (kind k) a b r ≡ cutNotNegative a b r) × (cutU (kind k) a b r ≡ cutNotPositive a b r)
+  unfolding kind cutL cutU
+  cut-positive (inl e) = rw e (refl, refl)
+  cut-positive (inr e) = rw e (refl, refl)
+
+  -- < and ≤
+  pub cut-negative : OneOf (4 ∷ 6 ∷ []) k → (cutL (kind k) a b r ≡ cutNotPositive a b r) × (cutU (kind k) a b r ≡ cutNotNegative a b r)
+  unfolding kind cutL cutU
+  cut-negative (inl e) = rw e (refl, refl)
+  cut-negative (inr e) = rw e (refl, refl)
+
+  -- =
+  pub cut-none : OneOf (0 ∷ 2 ∷ []) k → (cutL (kind k) a b r ≡ r) × (cutU (kind k) a b r ≡ r)
+  unfolding kind cutL cutU
+  cut-none (inl e) = rw e (refl, refl)
+  cut-none (inr e) = rw e (refl, refl)
+
+-- ≠ and full
+pub cut-both : (a b : ℤ) (r : Interval) (k : ℕ) → (OneOf (1 ∷ 3 ∷ []) k → ⊥) → (OneOf (4 ∷ 6 ∷ []) k → ⊥) → (OneOf (0 ∷ 2 ∷ []) k → ⊥)
+    → (cutL (kind k) a b r ≡ cutNotNegative a b (cutNotPositive a b r)) × (cutU (kind k) a b r ≡ cutNotNegative a b (cutNotPositive a b r))
+unfolding cutL cutU
+cut-both a b r = by-kind
+    (λ k s. (OneOf (1 ∷ 3 ∷ []) k → ⊥) → (OneOf (4 ∷ 6 ∷ []) k → ⊥) → (OneOf (0 ∷ 2 ∷ []) k → ⊥)
+    → (cutL s a b r ≡ cutNotNegative a b (cutNotPositive a b r)) × (cutU s a b r ≡ cutNotNegative a b (cutNotPositive a b r)))
+    (λ f g h. absurd (h (inl refl))) (λ f g h. absurd (f (inl refl))) (λ f g h. absurd (h (inr refl))) (λ f g h. absurd (f (inr refl)))
+    (λ f g h. absurd (g (inl refl))) (λ f g h. (refl, refl)) (λ f g h. absurd (g (inr refl))) (λ k f g h. (refl, refl))
+
+-- ---- the sets of q that say nothing
+
+-- ≠ and full
+pub finding-none : (st : Bool) (l u : Interval) (k : ℕ) → (k ≡ 0 → ⊥) → (k ≡ 1 → ⊥) → (k ≡ 2 → ⊥) → (k ≡ 3 → ⊥) → (k ≡ 4 → ⊥) → (k ≡ 6 → ⊥) → 7 ≡ finding (kind k) st l u
+unfolding finding
+finding-none st l u = by-kind (λ k s. (k ≡ 0 → ⊥) → (k ≡ 1 → ⊥) → (k ≡ 2 → ⊥) → (k ≡ 3 → ⊥) → (k ≡ 4 → ⊥) → (k ≡ 6 → ⊥) → 7 ≡ finding s st l u)
+    (λ o a b c d e. absurd (o refl)) (λ o a b c d e. absurd (a refl)) (λ o a b c d e. absurd (b refl)) (λ o a b c d e. absurd (c refl))
+    (λ o a b c d e. absurd (d refl)) (λ o a b c d e. refl) (λ o a b c d e. absurd (e refl)) (λ k o a b c d e. refl)

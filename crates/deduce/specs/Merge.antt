@@ -1,0 +1,80 @@
+-- The merge of two runs of terms, row by row: L, U and strict in one walk over the book's rows.
+-- `Next` says what one step of the merge takes off, `Told` what the whole walk tells.
+use mathlib.Core.Path.{_≡_}
+use mathlib.Core.Bool.{Bool, false, not, _&&_, _||_}
+use mathlib.Core.List.{List, [], _∷_}
+use Prim.Native.Nat.{ℕ, _+_, _<_, _≤_}
+use lib.IntN.{ℤ}
+use lib.ListN.{length}
+use Rattle.rules.specs.Signs.{SignSet, Kind, kind}
+use Rattle.rules.specs.Polynomial.{Board}
+use Rattle.rules.specs.Deduce.{Interval, cutL, cutU, Row, rows, everyT, isStrict, isZero, finding, findingOf}
+use Rattle.terms.specs.View.{termsOf}
+use Rattle.terms.specs.Signed.{Signed}
+use Rattle.deduce.specs.Ends.{intervalOf}
+use Rattle.deduce.specs.declared.merge.Cuts.{Cuts}
+use Rattle.deduce.specs.declared.merge.Step.{Step}
+use Rattle.deduce.specs.declared.Run.{Run}
+use Rattle.deduce.specs.Runs.{polynomialOf}
+
+-- L, U and strict
+pub record Gathered : Type 0 where
+  pub l : Interval
+  pub u : Interval
+  pub strict : Bool
+
+abbrev pub gatheredOf : Cuts → Gathered
+gatheredOf c = record { l = intervalOf (c .l); u = intervalOf (c .u); strict = c .strict }
+
+-- before the first row
+unfoldable pub nothing : Gathered
+nothing = record { l = everyT; u = everyT; strict = false }
+
+-- after one more row, and after all of some rows
+unfoldable pub gatherRow : Kind → ℤ → ℤ → Gathered → Gathered
+gatherRow s a b g = record { l = cutL s a b (g .l); u = cutU s a b (g .u); strict = g .strict || (isStrict s && not (isZero a && isZero b)) }
+
+unfoldable pub gather : Gathered → List Row → Gathered
+gather g [] = g
+gather g (x ∷ xs) = gather (gatherRow (x .s) (x .a) (x .b) g) xs
+
+-- after all rows of the terms at i..p and j..q
+abbrev pub gatherRest : Board → List ℤ → List ℕ → ℕ → ℕ → ℕ → ℕ → Gathered → Gathered
+gatherRest board cs ms i p j q g = gather g (rows board (termsOf cs ms i p) (termsOf cs ms j q))
+
+-- the places i..p and j..q are places of the three slices, and not both runs are at their end
+pub record Left (cs : List ℤ) (ms : List ℕ) (ss : List SignSet) (i p j q : ℕ) : Type 0 where
+  pub first : i ≤ p
+  pub second : j ≤ q
+  pub more : i + j < p + q
+  pub first-coefficients : p ≤ length cs
+  pub first-monomials : p ≤ length ms
+  pub first-signs : p ≤ length ss
+  pub second-coefficients : q ≤ length cs
+  pub second-monomials : q ≤ length ms
+  pub second-signs : q ≤ length ss
+
+-- a place that was at i₀ has come to i, and not past p
+pub record On (i₀ i p : ℕ) : Type 0 where
+  pub on : i₀ ≤ i
+  pub within : i ≤ p
+
+-- a row is taken off the two runs
+pub record Next (cs : List ℤ) (ms : List ℕ) (ss : List SignSet) (i p j q : ℕ) (r : Step) : Type 0 where
+  pub row : {board : Board} → Signed board ms ss i p → Signed board ms ss j q → (g : Gathered)
+      → gatherRest board cs ms i p j q g ≡ gatherRest board cs ms (r .i) p (r .j) q (gatherRow (kind (r .s)) (r .a) (r .b) g)
+  pub first : On i (r .i) p
+  pub second : On j (r .j) q
+  pub less-left : i + j < r .i + r .j
+
+-- the run's places are places of the three slices
+pub record Within (cs : List ℤ) (ms : List ℕ) (ss : List SignSet) (run : Run) : Type 0 where
+  pub ordered : run .from ≤ run .to
+  pub coefficients : run .to ≤ length cs
+  pub monomials : run .to ≤ length ms
+  pub signs : run .to ≤ length ss
+
+-- the walk tells what is found, for each set of q, on each board whose signs these are
+pub record Told (cs : List ℤ) (ms : List ℕ) (ss : List SignSet) (p q : Run) (r : Cuts) : Type 0 where
+  pub found : {board : Board} → Signed board ms ss (p .from) (p .to) → Signed board ms ss (q .from) (q .to) → (k : Kind)
+      → finding k (r .strict) (intervalOf (r .l)) (intervalOf (r .u)) ≡ findingOf k (rows board (polynomialOf cs ms p) (polynomialOf cs ms q))

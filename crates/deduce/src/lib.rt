@@ -1,0 +1,71 @@
+// Deducing p from q, 01 "Deducing p from q": what an atom of q says of p, on a board of the variables' sign sets.
+// p and q are runs of places of lent slices; the sign of each monomial on the board is lent beside them.
+mod interval; // the t for which p + tq has a sign
+mod merge; // L, U and strict, from the monomials of p or q
+mod finding; // what L, U and strict say of p
+
+ghost use mathlib.Core.Path.{_≡_};
+ghost use Rattle.rules.specs.Deduce.{anyEmpty, deduce as deduceFrom};
+ghost use Rattle.terms.specs.View.{setsOf};
+ghost use Rattle.deduce.specs.Runs.{polynomialOf, atomOf, HeldAt};
+use crate::finding::finding;
+use crate::merge::merged;
+use signs::SignSet;
+use terms::Board;
+use terms::few;
+
+// The terms of a polynomial: the places from..to.
+pub struct Run {
+    pub from: usize,
+    pub to: usize,
+}
+
+// Whether some variable's set is empty.
+pub fn any_empty(board: Board) -> bool
+    ensures { λ r. ⌜ r ≡ anyEmpty (setsOf board) ⌝ }
+{
+    let n = few(board.variables);
+    let mut i = 0;
+    while i < n {
+        let set = board.sets[i];
+        i += 1;
+        if set == 0 {
+            return true;
+        }
+    }
+    false
+}
+
+// What the atom of q with this set says of p. Where a set is empty the finding is the empty set; ≠ and the full set say nothing.
+pub fn deduce(
+    coefficient: &[i32],
+    monomial: &[u64],
+    sign: &[u8],
+    board: Board,
+    p: Run,
+    q: Run,
+    set: SignSet,
+) -> SignSet
+    requires { ⌜ HeldAt (setsOf board) (now coefficient) (now monomial) (now sign) p ⌝ }
+    requires { ⌜ HeldAt (setsOf board) (now coefficient) (now monomial) (now sign) q ⌝ }
+    ensures { λ r. let cs = now (coefficient .entry) in let ms = now (monomial .entry) in
+        ⌜ r .0 ≡ deduceFrom (setsOf board) (polynomialOf cs ms p) (atomOf cs ms q (set .0)) ⌝ }
+{
+    let k = set.0;
+    if k == 0 {
+        return SignSet::EMPTY;
+    }
+    if any_empty(board) {
+        return SignSet::EMPTY;
+    }
+    if k == 5 {
+        return SignSet::FULL;
+    }
+    if 7 <= k {
+        return SignSet::FULL;
+    }
+    let c = merged(coefficient, monomial, sign, p, q);
+    let l = c.l;
+    let u = c.u;
+    finding(k, c.strict, l, u)
+}

@@ -1,0 +1,169 @@
+// The merge of p's and q's terms: the monomials of p or q, the greatest first, each cuts L and U.
+// The signs of the monomials are lent; they were worked out once for the board.
+ghost use mathlib.Core.Path.{_≡_};
+ghost use mathlib.Core.Bool.{not, _&&_, _||_};
+ghost use Rattle.rules.specs.Signs.{kind};
+ghost use Rattle.rules.specs.Deduce.{isStrict, isZero};
+ghost use Rattle.deduce.specs.Merge.{gatheredOf, gatherRow, Left, Next, Within, Told};
+use crate::Run;
+use crate::interval::Interval;
+
+// L and U so far, and whether they are strict.
+pub struct Cuts {
+    pub l: Interval,
+    pub u: Interval,
+    pub strict: bool,
+}
+
+// A monomial of p or q: its coefficients in p and in q, its sign set, and where the terms after it begin.
+pub struct Step {
+    pub a: i32,
+    pub b: i32,
+    pub s: u8,
+    pub i: usize,
+    pub j: usize,
+}
+
+// "Strict means that some s is > or <." A monomial with both coefficients 0 is none of p or q.
+pub fn strict_with(before: bool, a: i32, b: i32, s: u8) -> bool
+    ensures { λ r. ⌜ r ≡ (before || (isStrict (kind s) && not (isZero a && isZero b))) ⌝ }
+{
+    if before {
+        return true;
+    }
+    match s {
+        1 | 4 => { if a == 0 { b != 0 } else { true } }
+        _ => false,
+    }
+}
+
+impl Cuts {
+    // Cuts L and U by a monomial.
+    pub fn by(self, a: i32, b: i32, s: u8) -> Cuts
+        ensures { λ r. ⌜ gatheredOf r ≡ gatherRow (kind s) a b (gatheredOf self) ⌝ }
+    {
+        let strict = strict_with(self.strict, a, b, s);
+        let l = self.l;
+        let u = self.u;
+        match s {
+            1 | 3 => {
+                let l = l.cut_not_negative(a, b);
+                let u = u.cut_not_positive(a, b);
+                Cuts { l, u, strict }
+            }
+            4 | 6 => {
+                let l = l.cut_not_positive(a, b);
+                let u = u.cut_not_negative(a, b);
+                Cuts { l, u, strict }
+            }
+            0 | 2 => Cuts { l, u, strict },
+            _ => {
+                let l = l.cut_not_positive(a, b).cut_not_negative(a, b);
+                let u = u.cut_not_positive(a, b).cut_not_negative(a, b);
+                Cuts { l, u, strict }
+            }
+        }
+    }
+
+    // Whether no t is left in either, whatever comes after.
+    pub fn is_void(self) -> bool
+        ensures { λ r. ⌜ r ≡ (self .l .void && self .u .void) ⌝ }
+    {
+        let l = self.l;
+        let u = self.u;
+        if l.void { u.void } else { false }
+    }
+}
+
+// The greatest monomial of p's terms at i..m and q's at j..n.
+pub fn next(
+    coefficient: &[i32],
+    monomial: &[u64],
+    sign: &[u8],
+    i: usize,
+    m: usize,
+    j: usize,
+    n: usize,
+) -> Step
+    requires { ⌜ Left (now coefficient) (now monomial) (now sign) i m j n ⌝ }
+    ensures { λ r. ⌜ Next (now (coefficient .entry)) (now (monomial .entry)) (now (sign .entry)) i m j n r ⌝ }
+{
+    if i < m {
+        let a = coefficient[i];
+        let s = sign[i];
+        if j < n {
+            let mine = monomial[i];
+            let its = monomial[j];
+            let b = coefficient[j];
+            if mine == its {
+                return Step {
+                    a,
+                    b,
+                    s,
+                    i: i + 1,
+                    j: j + 1,
+                };
+            }
+            if its < mine {
+                return Step {
+                    a,
+                    b: 0,
+                    s,
+                    i: i + 1,
+                    j,
+                };
+            }
+            let s = sign[j];
+            return Step {
+                a: 0,
+                b,
+                s,
+                i,
+                j: j + 1,
+            };
+        }
+        return Step {
+            a,
+            b: 0,
+            s,
+            i: i + 1,
+            j,
+        };
+    }
+    let b = coefficient[j];
+    let s = sign[j];
+    Step {
+        a: 0,
+        b,
+        s,
+        i,
+        j: j + 1,
+    }
+}
+
+// L, U and strict over all monomials of p or q; no further than where L and U are void.
+pub fn merged(coefficient: &[i32], monomial: &[u64], sign: &[u8], p: Run, q: Run) -> Cuts
+    requires { ⌜ Within (now coefficient) (now monomial) (now sign) p ⌝ }
+    requires { ⌜ Within (now coefficient) (now monomial) (now sign) q ⌝ }
+    ensures { λ r. ⌜ Told (now (coefficient .entry)) (now (monomial .entry)) (now (sign .entry)) p q r ⌝ }
+{
+    let p_to = p.to;
+    let q_to = q.to;
+    let mut c = Cuts {
+        l: Interval::EVERY_T,
+        u: Interval::EVERY_T,
+        strict: false,
+    };
+    let mut i = p.from;
+    let mut j = q.from;
+    while i + j < p_to + q_to {
+        let step = next(coefficient, monomial, sign, i, p_to, j, q_to);
+        i = step.i;
+        j = step.j;
+        c = c.by(step.a, step.b, step.s);
+        if c.is_void() {
+            return c;
+        }
+    }
+    c
+}

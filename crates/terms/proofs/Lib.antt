@@ -1,0 +1,2 @@
+pub mod Monomials
+pub mod Places

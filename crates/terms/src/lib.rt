@@ -1,0 +1,95 @@
+// The signs of terms, 01 "Signs": the sign of a monomial on a board, and the sign of a polynomial by its terms.
+// A polynomial is a run of places of lent slices, a coefficient and a monomial at each; a monomial's exponents have four bits each.
+ghost use mathlib.Core.Path.{_≡_};
+ghost use Prim.Native.Nat.{_≤_};
+ghost use lib.ListN.{length};
+ghost use Rattle.rules.specs.Signs.{only, signOf};
+ghost use Rattle.rules.specs.Polynomial.{multiplied as multipliedBy, monomialSign};
+ghost use Rattle.terms.specs.View.{few as fewOf, setsOf};
+ghost use Rattle.terms.specs.Signed.{signed, bySigns};
+use signs::SignSet;
+
+// The sign sets of the variables, in order; a count above sixteen counts as sixteen.
+pub struct Board {
+    pub variables: usize,
+    pub sets: [u8; 16],
+}
+
+// The number itself, or sixteen if it is above.
+pub fn few(n: usize) -> usize
+    ensures { λ r. ⌜ r ≡ fewOf n ⌝ }
+{
+    if n < 16 { n } else { 16 }
+}
+
+// The product so far, multiplied by a variable's set if its exponent is odd, by the square of the set if even.
+// Exponent 0 is even and multiplies nothing: the monomial 1 stays positive.
+fn multiplied(exponent: u64, set: SignSet, sofar: SignSet) -> SignSet
+    ensures { λ r. ⌜ r .0 ≡ multipliedBy exponent (set .0) (sofar .0) ⌝ }
+{
+    if exponent == 0 {
+        return sofar;
+    }
+    if exponent % 2 == 1 {
+        return sofar.product(set);
+    }
+    sofar.product(set.square())
+}
+
+// "Sign of a monomial: start from {positive}." The first variable's exponent is foremost.
+pub fn monomial_sign(b: Board, m: u64) -> SignSet
+    ensures { λ r. ⌜ r .0 ≡ monomialSign (setsOf b) m ⌝ }
+{
+    let n = few(b.variables);
+    let mut sofar = SignSet(1);
+    let mut i = 0;
+    while i < n {
+        let set = b.sets[i];
+        i += 1;
+        let exponent = (m >> (4 * (n - i))) % 16;
+        sofar = multiplied(exponent, SignSet(set), sofar);
+    }
+    sofar
+}
+
+// Works out the signs at the places from..to, once for a board.
+pub fn sign_terms(b: Board, monomial: &[u64], sign: &mut [u8], from: usize, to: usize)
+    requires { ⌜ (to ≤ length (now monomial)) × (to ≤ length (now sign)) ⌝ }
+    ensures { λ r. ⌜ now (sign .exit) ≡ signed (setsOf b) (now (monomial .entry)) (now (sign .entry)) from to ⌝ }
+{
+    let mut i = from;
+    while i < to {
+        let s = monomial_sign(b, monomial[i]);
+        sign[i] = s.0;
+        i += 1;
+    }
+}
+
+// The sign of a coefficient.
+pub fn sign_of(x: i32) -> SignSet
+    ensures { λ r. ⌜ r .0 ≡ only (signOf x) ⌝ }
+{
+    if x < 0 {
+        return SignSet(4);
+    }
+    if 0 < x {
+        return SignSet(1);
+    }
+    SignSet(2)
+}
+
+// The sign by terms of the polynomial at the places from..to, from the signs of its monomials.
+pub fn by_terms(coefficient: &[i32], sign: &[u8], from: usize, to: usize) -> SignSet
+    requires { ⌜ (to ≤ length (now coefficient)) × (to ≤ length (now sign)) ⌝ }
+    ensures { λ r. ⌜ r .0 ≡ bySigns (now (coefficient .entry)) (now (sign .entry)) from to ⌝ }
+{
+    let mut sofar = SignSet(2);
+    let mut i = from;
+    while i < to {
+        let c = coefficient[i];
+        let s = sign[i];
+        i += 1;
+        sofar = sofar.sum(sign_of(c).product(SignSet(s)));
+    }
+    sofar
+}
