@@ -1,0 +1,6 @@
+pub mod Stores
+pub mod Normal
+pub mod Slots
+pub mod Working
+pub mod Holding
+pub mod Tokens

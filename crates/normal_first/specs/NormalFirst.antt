@@ -1,0 +1,132 @@
+-- 01, "A level", step 2: "Bring atoms to normal form". It may be done first, to all atoms of the tree: the rules give the same result.
+-- So a simplifier may number the normal forms of a block's table once, and never bring an atom to normal form again.
+use mathlib.Core.Path.{_≡_, refl, sym, ap, ap₂, _∙_, fun-ext}
+use mathlib.Core.Bool.{Bool, true, false, not}
+use mathlib.Core.List.{List, [], _∷_, _++_, map, map-append, append-nil, append-assoc}
+use Prim.Native.Nat.{ℕ, zero, suc, _+_, _<_, _≤_}
+use native.Mathlib.Nat.{le-refl}
+use native.Mathlib.Omega.{arith}
+use Rattle.rules.specs.Signs.{SignSet, setOf, mirrorOfSign, complement, mirror}
+use Rattle.rules.specs.Polynomial.{Polynomial, Atom, divided, firstIsNegative, turned, normal, constant}
+use Rattle.rules.specs.Formula.{Parts, end, atom, and, or, Node, leaf, allOf, anyOf, before, eachAtom, eachAtomOf, alone}
+use Rattle.rules.specs.Level.{Formula, complemented, dual, dualNode, atomsOf, orsOf, Walk, falls, still, moved, add, enter, gather, Tidied, mergeNormal, merge}
+use Rattle.rules.specs.Level.{afterMerging, tidy, afterTidy, settle, innerAll, settled-down, afterGather, andRule, asNode, simplify}
+use Rattle.rules.specs.Block.{Block}
+use Rattle.rules.specs.Limits.{BlockWithin}
+use Rattle.rules.specs.Answer.{lookedUp, formulaOf, simplified}
+use Rattle.sign_laws.specs.Sets.{has-complement, has-mirror}
+use Rattle.normal_laws.specs.Twice.{normal-twice}
+use Rattle.ending_laws.specs.Nestings.{nesting, dual-nesting, formula-nesting}
+
+-- ---- The complement of a normal form is the normal form of the complement.
+
+mirror-complement : (s : SignSet) → mirror (complement s) ≡ complement (mirror s)
+unfolding mirror complement
+mirror-complement s = ap setOf (fun-ext (λ x. has-complement (mirrorOfSign x) s ∙ ap not (sym (has-mirror x s))))
+
+turned-complemented : (b : Bool) (p : Polynomial) (s : SignSet) → turned b p (complement s) ≡ complemented (turned b p s)
+unfolding turned complemented
+turned-complemented true p s = rw (mirror-complement s)
+turned-complemented false p s = refl
+
+normal-complemented : (a : Atom) → normal (complemented a) ≡ complemented (normal a)
+unfolding normal complemented
+normal-complemented a = turned-complemented (firstIsNegative (divided (a .polynomial))) (divided (a .polynomial)) (a .set)
+
+-- The dual of normal forms has the normal forms of the dual.
+pub dual-normal : (kids : Formula) → dual (eachAtom normal kids) ≡ eachAtom normal (dual kids)
+unfolding dual eachAtom
+dual-normal end = refl
+dual-normal (atom a rest) = ap₂ atom (sym (normal-complemented a)) (dual-normal rest)
+dual-normal (and kids rest) = ap₂ or (dual-normal kids) (dual-normal rest)
+dual-normal (or kids rest) = ap₂ and (dual-normal kids) (dual-normal rest)
+
+-- ---- Step 2 brings normal forms to themselves.
+
+merge-normal : (l new later : List Atom) → merge l (map normal new ++ later) ≡ merge l (new ++ later)
+unfolding merge
+merge-normal l [] later = refl
+merge-normal l (a ∷ new) later =
+    ap₂ (λ (b : Atom) (more : List Atom → Tidied). mergeNormal (constant (b .polynomial)) b l more) (normal-twice a) (fun-ext (λ m. merge-normal m new later))
+
+settle-normal : (n : ℕ) (l new : List Atom) (ors : List Formula) → settled-down n (map normal l ++ new) ors ≡ settled-down n (l ++ new) ors
+unfolding settled-down settle tidy
+settle-normal n l new ors =
+    let one-turn : 1 + innerAll ors ≡ suc (innerAll ors) = omega arith in
+    rw one-turn (ap (λ (t : Tidied). afterTidy n (afterMerging t) ors (λ (m : List Atom) (later : List Formula). settle n (innerAll ors) m later))
+    (merge-normal [] l new))
+
+gathered-normal : (n : ℕ) (l : List Atom) (walk : Walk) → afterGather n (map normal l) walk ≡ afterGather n l walk
+unfolding afterGather
+gathered-normal n l falls = refl
+gathered-normal n l (still ors) =
+    ap (λ (m : List Atom). settled-down n m ors) (sym (append-nil (map normal l))) ∙ settle-normal n l [] ors
+    ∙ ap (λ (m : List Atom). settled-down n m ors) (append-nil l)
+gathered-normal n l (moved new ors) = settle-normal n l new ors
+
+-- ---- The AND rule.
+
+atoms-normal : (kids : Formula) → atomsOf (eachAtom normal kids) ≡ map normal (atomsOf kids)
+unfolding atomsOf eachAtom
+atoms-normal end = refl
+atoms-normal (atom a rest) = ap (λ (l : List Atom). normal a ∷ l) (atoms-normal rest)
+atoms-normal (and kids rest) = ap₂ _++_ (atoms-normal kids) (atoms-normal rest) ∙ sym (map-append normal (atomsOf kids) (atomsOf rest))
+atoms-normal (or kids rest) = atoms-normal rest
+
+-- The OR children, by a rule that gives the same for normal forms first on what is nested lower.
+children-normal : (m : ℕ) (rule : Formula → Formula) → ((child : Formula) → nesting child < m → rule (eachAtom normal child) ≡ rule child)
+    → (kids : Formula) → nesting kids ≤ m → (later also : List Formula) → gather rule later ≡ gather rule also
+    → gather rule (orsOf (eachAtom normal kids) ++ later) ≡ gather rule (orsOf kids ++ also)
+unfolding nesting eachAtom orsOf gather
+children-normal m rule agree end h later also e = e
+children-normal m rule agree (atom a rest) h later also e = children-normal m rule agree rest h later also e
+children-normal m rule agree (and kids rest) h later also e =
+    rw (append-assoc (orsOf (eachAtom normal kids)) (orsOf (eachAtom normal rest)) later, append-assoc (orsOf kids) (orsOf rest) also)
+    (children-normal m rule agree kids (omega arith) (orsOf (eachAtom normal rest) ++ later) (orsOf rest ++ also)
+    (children-normal m rule agree rest (omega arith) later also e))
+children-normal m rule agree (or kids rest) h later also e =
+    ap₂ (λ (found : Formula) (walk : Walk). add (enter found) walk) (agree kids (omega arith)) (children-normal m rule agree rest (omega arith) later also e)
+
+-- The AND rule gives the same for atoms in normal form.
+pub andRule-normal-first : (n d : ℕ) (kids : Formula) → nesting kids < d → andRule n d (eachAtom normal kids) ≡ andRule n d kids
+unfolding andRule
+andRule-normal-first n zero kids h = absurd (omega arith)
+andRule-normal-first n (suc d) kids h =
+    let rule : Formula → Formula = λ child. dual (andRule n d (dual child)) in
+    let agree : (child : Formula) → nesting child < nesting kids → rule (eachAtom normal child) ≡ rule child
+    = λ child lower. ap dual (ap (andRule n d) (dual-normal child) ∙ andRule-normal-first n d (dual child) (omega (arith, dual-nesting child))) in
+    let children = children-normal (nesting kids) rule agree kids (le-refl (nesting kids)) [] [] refl in
+    ap₂ (afterGather n) (atoms-normal kids) (rw (append-nil (orsOf (eachAtom normal kids)), append-nil (orsOf kids)) at children)
+    ∙ gathered-normal n (atomsOf kids) (gather rule (orsOf kids))
+
+-- ---- The whole tree.
+
+-- A tree of at most 6 nestings is simplified to the same whether or not its atoms are brought to normal form first.
+pub simplify-normal-first : (n : ℕ) (tree : Node Atom) → nesting (alone tree) ≤ 6 → simplify n (eachAtomOf normal tree) ≡ simplify n tree
+unfolding nesting alone before eachAtomOf eachAtom simplify
+simplify-normal-first n (leaf a) h = ap asNode (andRule-normal-first n 6 (atom a end) (omega arith))
+simplify-normal-first n (allOf kids) h = ap asNode (andRule-normal-first n 6 kids (omega arith))
+simplify-normal-first n (anyOf kids) h =
+    ap (λ (k : Formula). dualNode (asNode k))
+    (ap (andRule n 6) (dual-normal kids) ∙ andRule-normal-first n 6 (dual kids) (omega (arith, dual-nesting kids)))
+
+each-after : {A B C : Type 0} (f : B → C) (g : A → B) (kids : Parts A) → eachAtom f (eachAtom g kids) ≡ eachAtom (λ a. f (g a)) kids
+unfolding eachAtom
+each-after f g end = refl
+each-after f g (atom a rest) = ap (atom (f (g a))) (each-after f g rest)
+each-after f g (and kids rest) = ap₂ and (each-after f g kids) (each-after f g rest)
+each-after f g (or kids rest) = ap₂ or (each-after f g kids) (each-after f g rest)
+
+each-after-of : {A B C : Type 0} (f : B → C) (g : A → B) (tree : Node A) → eachAtomOf f (eachAtomOf g tree) ≡ eachAtomOf (λ a. f (g a)) tree
+unfolding eachAtomOf
+each-after-of f g (leaf a) = refl
+each-after-of f g (allOf kids) = ap allOf (each-after f g kids)
+each-after-of f g (anyOf kids) = ap anyOf (each-after f g kids)
+
+-- A block within the limits is simplified from the normal forms of its table.
+pub block-normal-first : (block : Block) → BlockWithin block
+    → simplify (block .variables) (eachAtomOf (λ a. normal (lookedUp (block .table) a)) (block .tree)) ≡ simplified block
+unfolding simplified formulaOf
+block-normal-first block within =
+    ap (simplify (block .variables)) (sym (each-after-of normal (lookedUp (block .table)) (block .tree)))
+    ∙ simplify-normal-first (block .variables) (formulaOf block) (formula-nesting block within)
