@@ -1,0 +1,5 @@
+pub mod Stores
+pub mod Fields
+pub mod Bytes
+pub mod Packing
+mod Turns

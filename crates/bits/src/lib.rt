@@ -1,0 +1,83 @@
+// 01, "The block": "Bit fields, most significant bit first, no gaps." A field is read or stored anywhere in a run of bytes.
+// A run of bytes is seen as its bits (`unpack`). A byte is handled as a whole, so 64 bits take at most nine turns.
+ghost use mathlib.Core.Path.{_≡_};
+ghost use Prim.Native.Nat.{min, _+_, _-_, _*_, _^_, _≤_, _<_};
+ghost use lib.ListN.{length, take, drop};
+ghost use lib.Seq.{sets};
+ghost use Rattle.rules.specs.Bits.{field, value, unpack};
+
+// A byte as a word.
+fn wide(byte: u8) -> u64
+    ensures { λ r. ⌜ (r ≡ byte) × (r < 2 ^ 8) ⌝ }
+{
+    byte as u64
+}
+
+fn power(k: usize) -> u64
+    requires { ⌜ k < 64 ⌝ }
+    ensures { λ r. ⌜ r ≡ 2 ^ k ⌝ }
+{
+    1u64 << k
+}
+
+fn least(a: usize, b: usize) -> usize
+    ensures { λ r. ⌜ r ≡ min a b ⌝ }
+{
+    if a < b { a } else { b }
+}
+
+// The first `count` of a byte's last `room` bits.
+fn part(byte: u8, room: usize, count: usize) -> u64
+    requires { ⌜ (count ≤ room) × (room ≤ 8) ⌝ }
+    ensures { λ r. ⌜ r ≡ value (take count (drop (8 - room) (field 8 byte))) ⌝ }
+{
+    (wide(byte) >> (room - count)) % power(count)
+}
+
+// The byte with the last `count` bits of v in their place; its other bits are kept.
+fn with_part(byte: u8, room: usize, count: usize, v: u64) -> u8
+    requires { ⌜ (count ≤ room) × (room ≤ 8) ⌝ }
+    ensures { λ r. ⌜ field 8 r ≡ sets (field 8 byte) (8 - room) (field count v) ⌝ }
+{
+    let x = wide(byte);
+    let above = power(room);
+    let below = power(room - count);
+    let own = v % power(count);
+    (x / above * above + own * below + x % below) as u8
+}
+
+// The field of k bits at the bit `at`.
+pub fn get(src: &[u8], at: usize, k: usize) -> u64
+    requires { ⌜ (k ≤ 64) × (at + k ≤ 8 * length (now src)) ⌝ }
+    ensures { λ r. ⌜ r ≡ value (take k (drop at (unpack (now (src .entry))))) ⌝ }
+{
+    let mut sofar: u64 = 0;
+    let mut left = k;
+    let mut byte = at / 8;
+    let mut room = 8 - at % 8;
+    while 0 < left {
+        let count = least(room, left);
+        sofar = (sofar << count) + part(src[byte], room, count);
+        left -= count;
+        byte += 1;
+        room = 8;
+    }
+    sofar
+}
+
+// Stores the last k bits of v at the bit `at`; every other bit keeps its value.
+pub fn put(dst: &mut [u8], at: usize, k: usize, v: u64)
+    requires { ⌜ (k ≤ 64) × (at + k ≤ 8 * length (now dst)) ⌝ }
+    ensures { λ _. ⌜ unpack (now (dst .exit)) ≡ sets (unpack (now (dst .entry))) at (field k v) ⌝ }
+{
+    let mut left = k;
+    let mut byte = at / 8;
+    let mut room = 8 - at % 8;
+    while 0 < left {
+        let count = least(room, left);
+        left -= count;
+        dst[byte] = with_part(dst[byte], room, count, v >> left);
+        byte += 1;
+        room = 8;
+    }
+}

@@ -1,0 +1,12 @@
+mod Signed
+pub mod Steps
+pub mod ReadingTerms
+pub mod ReadingTable
+pub mod ReadingTree
+pub mod ReadingEnd
+pub mod ReadingHead
+pub mod ReadingWhole
+pub mod Writing
+pub mod WritingTree
+pub mod WritingWhole
+pub mod Holding

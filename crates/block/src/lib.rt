@@ -1,0 +1,704 @@
+// 01, "The block" and "Refusal numbers": the reader, from bytes to arrays or to the first refusal, and the writer, from arrays to bytes.
+// Each function reads or writes what the definition of the same name in the book does, and tries the refusals in its order.
+ghost use mathlib.Core.Bool.{_||_};
+ghost use mathlib.Core.Path.{_≡_};
+ghost use Prim.Native.Nat.{_+_, _-_, _*_, _^_, _≤_, _<_};
+ghost use lib.Dec.{ltb};
+ghost use lib.IntN.{natAbs};
+ghost use lib.ListN.{length, getD};
+ghost use lib.Seq.{sets};
+ghost use Rattle.rules.specs.Bits.{field};
+ghost use Rattle.rules.specs.Formula.{Parts, children};
+ghost use Rattle.rules.specs.Block.{NumberedAtom, Block, signed, readTerm, readTerms, readPolynomial, readTable, readNode, readParts, readEnd, readBlock};
+ghost use Rattle.rules.specs.Block.{minusBit, writeTerm, writeTerms, writePolynomial, writeTable, blockLength, writeBlock};
+ghost use Rattle.block.specs.Held.{nothing, outcomeOf};
+ghost use Rattle.block.specs.Steps.{streamAt, Inside, Left, Reads, ceiling, TermStored, TermsStored, PolynomialStored, TableStored};
+ghost use Rattle.block.specs.Steps.{Opened, NodeStored, PartsStored, Ends, RootFound, HeadHeld, HeadFound};
+ghost use Rattle.block.specs.Written.{termsAt, tableAt, TermsInside, PartsHeld, PartsAhead, PartsWrote, Writable, SomeWritable};
+ghost use Rattle.block.specs.Written.{Room, Wrote, atomBits, joinBits, headBits};
+use bits::get;
+use bits::put;
+
+// What a block holds, in arrays that are 0 wherever nothing is stored.
+pub struct Held {
+    pub variables: usize,
+    pub polynomials: usize,
+    // the kind of the tree's root: 0 is an atom, 1 is AND, 2 is OR
+    pub root: u8,
+    // how many tokens there are
+    pub tokens: usize,
+    // polynomial i has its terms in the slot of sixteen places from 16 * i on
+    pub coefficient: [i32; 1024],
+    pub monomial: [u64; 1024],
+    // how many terms polynomial i has
+    pub terms: [u8; 64],
+    // the tree, parent before children: an atom is its polynomial's number * 8 + its set, an AND or OR is 16777216 + its number of children
+    pub token: [u32; 255],
+}
+
+// What reading gives: a refusal's number and nothing held, or 0 and what the block holds.
+pub struct Outcome {
+    pub refusal: u8,
+    pub held: Held,
+}
+
+// Where the reader stands: the next bit, and how many nodes the head still allows.
+struct Place {
+    at: usize,
+    allowed: usize,
+}
+
+// What a step finds: a refusal's number, or the place behind what it read.
+enum Step {
+    Refused(u8),
+    Read(Place),
+}
+
+// ---- the table of polynomials
+
+// How many bits are left from a place on.
+fn left(src: &[u8], place: Place) -> usize
+    requires { ⌜ Inside (now src) place ⌝ }
+    ensures { λ r. ⌜ Left (now (src .entry)) place r ⌝ }
+{
+    src.len() * 8 - place.at
+}
+
+// The coefficient of a minus bit and a magnitude.
+fn coefficient_of(minus: u64, magnitude: u64) -> i32
+    requires { ⌜ magnitude < 2 ^ 31 ⌝ }
+    ensures { λ r. ⌜ r ≡ signed minus magnitude ⌝ }
+{
+    if minus == 0 {
+        return magnitude as i32;
+    }
+    0 - (magnitude as i32)
+}
+
+// "Exponent lists fall strictly from term to term"; the first term has none before it.
+fn falls(exponents: u64, first: bool, above: u64) -> bool
+    ensures { λ r. ⌜ r ≡ (first || ltb exponents above) ⌝ }
+{
+    if first { true } else { exponents < above }
+}
+
+// A term of n variables, stored at the place k.
+fn read_term(
+    src: &[u8],
+    coefficient: &mut [i32],
+    monomial: &mut [u64],
+    place: Place,
+    n: usize,
+    k: usize,
+    first: bool,
+    above: u64,
+) -> Step
+    requires { ⌜ Inside (now src) place × (n ≤ 16) × (k < length (now coefficient)) × (k < length (now monomial)) ⌝ }
+    ensures { λ r. ⌜ Reads (now (src .entry)) (readTerm n (ceiling first n above) (streamAt (now (src .entry)) place))
+        (TermStored place k (now (coefficient .entry)) (now (coefficient .exit)) (now (monomial .entry)) (now (monomial .exit))) r ⌝ }
+{
+    let at = place.at;
+    if left(src, place) < 32 + 4 * n {
+        return Step::Refused(6);
+    }
+    let magnitude = get(src, at + 1, 31);
+    if magnitude == 0 {
+        return Step::Refused(8);
+    }
+    let exponents = get(src, at + 32, 4 * n);
+    if !falls(exponents, first, above) {
+        return Step::Refused(9);
+    }
+    coefficient[k] = coefficient_of(get(src, at, 1), magnitude);
+    monomial[k] = exponents;
+    Step::Read(Place {
+        at: at + (32 + 4 * n),
+        allowed: place.allowed,
+    })
+}
+
+// So many terms, one after the other, stored from the place k on.
+fn read_terms(
+    src: &[u8],
+    coefficient: &mut [i32],
+    monomial: &mut [u64],
+    place: Place,
+    n: usize,
+    k: usize,
+    count: u64,
+    first: bool,
+    above: u64,
+) -> Step
+    requires { ⌜ Inside (now src) place × (n ≤ 16) × (k + count ≤ length (now coefficient)) × (k + count ≤ length (now monomial)) × (count ≤ 16) ⌝ }
+    ensures { λ r. ⌜ Reads (now (src .entry)) (readTerms count n (ceiling first n above) (streamAt (now (src .entry)) place))
+        (TermsStored place k (now (coefficient .entry)) (now (coefficient .exit)) (now (monomial .entry)) (now (monomial .exit))) r ⌝ }
+{
+    if count == 0 {
+        return Step::Read(place);
+    }
+    let step = read_term(src, coefficient, monomial, place, n, k, first, above);
+    match step {
+        Step::Refused(number) => Step::Refused(number),
+        Step::Read(after) => {
+            let exponents = monomial[k];
+            read_terms(
+                src,
+                coefficient,
+                monomial,
+                after,
+                n,
+                k + 1,
+                count - 1,
+                false,
+                exponents,
+            )
+        }
+    }
+}
+
+// A polynomial of n variables, stored as number i.
+fn read_polynomial(
+    src: &[u8],
+    coefficient: &mut [i32],
+    monomial: &mut [u64],
+    counts: &mut [u8],
+    place: Place,
+    n: usize,
+    i: usize,
+) -> Step
+    requires { ⌜ Inside (now src) place × (n ≤ 16)
+        × (16 * i + 16 ≤ length (now coefficient)) × (16 * i + 16 ≤ length (now monomial)) × (i < length (now counts)) × (i < 64) ⌝ }
+    ensures { λ r. ⌜ Reads (now (src .entry)) (readPolynomial n (streamAt (now (src .entry)) place))
+        (PolynomialStored place i (now (coefficient .entry)) (now (coefficient .exit)) (now (monomial .entry)) (now (monomial .exit))
+        (now (counts .entry)) (now (counts .exit))) r ⌝ }
+{
+    let at = place.at;
+    if left(src, place) < 5 {
+        return Step::Refused(6);
+    }
+    let count = get(src, at, 5);
+    if count == 0 {
+        return Step::Refused(7);
+    }
+    if 16 < count {
+        return Step::Refused(7);
+    }
+    counts[i] = count as u8;
+    let first = Place {
+        at: at + 5,
+        allowed: place.allowed,
+    };
+    read_terms(src, coefficient, monomial, first, n, 16 * i, count, true, 0)
+}
+
+// The polynomials from number i on, up to number m.
+fn read_table(
+    src: &[u8],
+    coefficient: &mut [i32],
+    monomial: &mut [u64],
+    counts: &mut [u8],
+    place: Place,
+    n: usize,
+    i: usize,
+    m: usize,
+) -> Step
+    requires { ⌜ Inside (now src) place × (n ≤ 16) × (i ≤ m) × (m ≤ 64)
+        × (16 * m ≤ length (now coefficient)) × (16 * m ≤ length (now monomial)) × (m ≤ length (now counts)) ⌝ }
+    ensures { λ r. ⌜ Reads (now (src .entry)) (readTable (m - i) n (streamAt (now (src .entry)) place))
+        (TableStored place i (now (coefficient .entry)) (now (coefficient .exit)) (now (monomial .entry)) (now (monomial .exit))
+        (now (counts .entry)) (now (counts .exit))) r ⌝ }
+{
+    if i == m {
+        return Step::Read(place);
+    }
+    let step = read_polynomial(src, coefficient, monomial, counts, place, n, i);
+    match step {
+        Step::Refused(number) => Step::Refused(number),
+        Step::Read(after) => read_table(src, coefficient, monomial, counts, after, n, i + 1, m),
+    }
+}
+
+// ---- the tree
+
+// What a node begins with: a refusal's number, an atom, or the kind and the number of children of an AND or OR.
+enum Opening {
+    Refused(u8),
+    Atom { number: u64, set: u64 },
+    Join { kind: u64, children: u64 },
+}
+
+// What the node at a place begins with, under a parent of that kind (0 at the root), where so many nestings are still allowed.
+fn open_node(src: &[u8], place: Place, nesting: usize, parent: u64, m: u64) -> Opening
+    requires { ⌜ Inside (now src) place ⌝ }
+    ensures { λ r. ⌜ Opened (now (src .entry)) place nesting m parent r ⌝ }
+{
+    let at = place.at;
+    let rest = left(src, place);
+    if place.allowed == 0 {
+        return Opening::Refused(14);
+    }
+    if rest < 2 {
+        return Opening::Refused(6);
+    }
+    let kind = get(src, at, 2);
+    if kind == 3 {
+        return Opening::Refused(10);
+    }
+    if kind == 0 {
+        if rest < 11 {
+            return Opening::Refused(6);
+        }
+        let number = get(src, at + 2, 6);
+        if m <= number {
+            return Opening::Refused(11);
+        }
+        let set = get(src, at + 8, 3);
+        return Opening::Atom { number, set };
+    }
+    if rest < 10 {
+        return Opening::Refused(6);
+    }
+    if kind == parent {
+        return Opening::Refused(12);
+    }
+    if nesting == 0 {
+        return Opening::Refused(13);
+    }
+    let children = get(src, at + 2, 8);
+    Opening::Join { kind, children }
+}
+
+// The node at a place: its tokens go behind those of the nodes read so far, of the `count` that the head gives.
+fn read_node(
+    src: &[u8],
+    token: &mut [u32],
+    place: Place,
+    count: usize,
+    nesting: usize,
+    parent: u64,
+    m: u64,
+) -> Step
+    requires { ⌜ Inside (now src) place × (place .allowed ≤ count) × (count ≤ length (now token)) ⌝ }
+    ensures { λ r. ⌜ Reads (now (src .entry)) (readNode nesting m parent (streamAt (now (src .entry)) place))
+        (NodeStored place count (now (token .entry)) (now (token .exit))) r ⌝ }
+{
+    let at = place.at;
+    let allowed = place.allowed;
+    let opening = open_node(src, place, nesting, parent, m);
+    match opening {
+        Opening::Refused(number) => Step::Refused(number),
+        Opening::Atom { number, set } => {
+            token[count - allowed] = (number * 8 + set) as u32;
+            Step::Read(Place {
+                at: at + 11,
+                allowed: allowed - 1,
+            })
+        }
+        Opening::Join { kind, children } => {
+            token[count - allowed] = (16777216 + children) as u32;
+            let first = Place {
+                at: at + 10,
+                allowed: allowed - 1,
+            };
+            read_parts(src, token, first, count, nesting - 1, kind, m, children)
+        }
+    }
+}
+
+// So many nodes, one after the other.
+fn read_parts(
+    src: &[u8],
+    token: &mut [u32],
+    place: Place,
+    count: usize,
+    nesting: usize,
+    parent: u64,
+    m: u64,
+    children: u64,
+) -> Step
+    requires { ⌜ Inside (now src) place × (place .allowed ≤ count) × (count ≤ length (now token)) × (children < 256) ⌝ }
+    ensures { λ r. ⌜ Reads (now (src .entry)) (readParts (readNode nesting m parent) children (streamAt (now (src .entry)) place))
+        (PartsStored place count (now (token .entry)) (now (token .exit))) r ⌝ }
+{
+    if children == 0 {
+        return Step::Read(place);
+    }
+    let step = read_node(src, token, place, count, nesting, parent, m);
+    match step {
+        Step::Refused(number) => Step::Refused(number),
+        Step::Read(after) => read_parts(src, token, after, count, nesting, parent, m, children - 1),
+    }
+}
+
+// "At the end 14, then 15."
+fn read_end(src: &[u8], place: Place) -> Step
+    requires { ⌜ Inside (now src) place ⌝ }
+    ensures { λ r. ⌜ ((block : Block) → Reads (now (src .entry)) (readEnd block (streamAt (now (src .entry)) place)) (Ends block place) r) ⌝ }
+{
+    let at = place.at;
+    if place.allowed != 0 {
+        return Step::Refused(14);
+    }
+    let rest = left(src, place);
+    if 8 <= rest {
+        return Step::Refused(15);
+    }
+    if get(src, at, rest) != 0 {
+        return Step::Refused(15);
+    }
+    Step::Read(place)
+}
+
+// What reading the tree finds: a refusal's number, or the kind of the root.
+enum Root {
+    Refused(u8),
+    Kind(u8),
+}
+
+// The tree and the end.
+fn read_tree(src: &[u8], token: &mut [u32], place: Place, count: usize, m: u64) -> Root
+    requires { ⌜ Inside (now src) place × (place .allowed ≤ count) × (count ≤ length (now token)) ⌝ }
+    ensures { λ r. ⌜ RootFound (now (src .entry)) place count m (now (token .entry)) (now (token .exit)) r ⌝ }
+{
+    let at = place.at;
+    let step = read_node(src, token, place, count, 6, 0, m);
+    match step {
+        Step::Refused(number) => Root::Refused(number),
+        Step::Read(after) => {
+            let last = read_end(src, after);
+            match last {
+                Step::Refused(number) => Root::Refused(number),
+                Step::Read(_) => Root::Kind(get(src, at, 2) as u8),
+            }
+        }
+    }
+}
+
+// ---- the whole block
+
+// What the head holds: a refusal's number, or the variable count, the polynomial count and the node count.
+enum Head {
+    Refused(u8),
+    Numbers {
+        variables: usize,
+        polynomials: usize,
+        nodes: usize,
+    },
+}
+
+// "1 to 5 are tried in that order; 5 in field order." (1 is about the output.)
+fn read_head(src: &[u8]) -> Head
+    ensures { λ r. ⌜ HeadFound (now (src .entry)) r ⌝ }
+{
+    if src.len() < 5 {
+        return Head::Refused(2);
+    }
+    if get(src, 0, 4) != 1 {
+        return Head::Refused(3);
+    }
+    if get(src, 24, 16) != src.len() as u64 {
+        return Head::Refused(4);
+    }
+    let variables = get(src, 4, 5) as usize;
+    if variables == 0 {
+        return Head::Refused(5);
+    }
+    if 16 < variables {
+        return Head::Refused(5);
+    }
+    let polynomials = get(src, 9, 7) as usize;
+    if 64 < polynomials {
+        return Head::Refused(5);
+    }
+    let nodes = get(src, 16, 8) as usize;
+    if nodes == 0 {
+        return Head::Refused(5);
+    }
+    Head::Numbers {
+        variables,
+        polynomials,
+        nodes,
+    }
+}
+
+// Nothing but a refusal's number.
+fn refusal(number: u8) -> Outcome
+    ensures { λ r. ⌜ r ≡ record { refusal = number; held = nothing } ⌝ }
+{
+    let held = Held {
+        variables: 0,
+        polynomials: 0,
+        root: 0,
+        tokens: 0,
+        coefficient: [0; 1024],
+        monomial: [0; 1024],
+        terms: [0; 64],
+        token: [0; 255],
+    };
+    Outcome {
+        refusal: number,
+        held,
+    }
+}
+
+// What stands behind the head.
+fn read_body(src: &[u8], variables: usize, polynomials: usize, nodes: usize) -> Outcome
+    requires { ⌜ HeadHeld (now src) variables polynomials nodes ⌝ }
+    ensures { λ r. ⌜ r ≡ outcomeOf (readBlock (now (src .entry))) ⌝ }
+{
+    let mut coefficient = [0i32; 1024];
+    let mut monomial = [0u64; 1024];
+    let mut terms = [0u8; 64];
+    let mut token = [0u32; 255];
+    let start = Place {
+        at: 40,
+        allowed: nodes,
+    };
+    let step = read_table(
+        src,
+        &mut coefficient,
+        &mut monomial,
+        &mut terms,
+        start,
+        variables,
+        0,
+        polynomials,
+    );
+    match step {
+        Step::Refused(number) => refusal(number),
+        Step::Read(after) => {
+            let root = read_tree(src, &mut token, after, nodes, polynomials as u64);
+            match root {
+                Root::Refused(number) => refusal(number),
+                Root::Kind(kind) => {
+                    let held = Held {
+                        variables,
+                        polynomials,
+                        root: kind,
+                        tokens: nodes,
+                        coefficient,
+                        monomial,
+                        terms,
+                        token,
+                    };
+                    Outcome { refusal: 0, held }
+                }
+            }
+        }
+    }
+}
+
+// Reads a block.
+pub fn read(src: &[u8]) -> Outcome
+    ensures { λ r. ⌜ r ≡ outcomeOf (readBlock (now (src .entry))) ⌝ }
+{
+    let numbers = read_head(src);
+    match numbers {
+        Head::Refused(number) => refusal(number),
+        Head::Numbers {
+            variables,
+            polynomials,
+            nodes,
+        } => read_body(src, variables, polynomials, nodes),
+    }
+}
+
+// ---- writing
+
+// How far the writer is: the next bit, and the next token.
+struct Spot {
+    at: usize,
+    k: usize,
+}
+
+// A coefficient's minus bit.
+fn minus_of(coefficient: i32) -> u64
+    ensures { λ r. ⌜ r ≡ minusBit coefficient ⌝ }
+{
+    if coefficient < 0 { 1 } else { 0 }
+}
+
+// A coefficient's magnitude.
+fn magnitude_of(coefficient: i32) -> u64
+    ensures { λ r. ⌜ r ≡ natAbs coefficient ⌝ }
+{
+    let long = coefficient as i64;
+    if long < 0 {
+        (0 - long) as u64
+    } else {
+        long as u64
+    }
+}
+
+// Writes a field of k bits. Of each step of the writer the result is the bit behind what it wrote.
+fn write_field(out: &mut [u8], at: usize, k: usize, v: u64) -> usize
+    requires { ⌜ (k ≤ 64) × Room (length (now out)) at (field k v) ⌝ }
+    ensures { λ r. ⌜ Wrote (now (out .entry)) (now (out .exit)) at (field k v) r ⌝ }
+{
+    put(out, at, k, v);
+    at + k
+}
+
+// A term of n variables.
+fn write_term(out: &mut [u8], at: usize, n: usize, coefficient: i32, monomial: u64) -> usize
+    requires { ⌜ (n ≤ 16) × Room (length (now out)) at (writeTerm n (record { coefficient = coefficient; monomial = monomial })) ⌝ }
+    ensures { λ r. ⌜ Wrote (now (out .entry)) (now (out .exit)) at (writeTerm n (record { coefficient = coefficient; monomial = monomial })) r ⌝ }
+{
+    let sign = write_field(out, at, 1, minus_of(coefficient));
+    let size = write_field(out, sign, 31, magnitude_of(coefficient));
+    write_field(out, size, 4 * n, monomial)
+}
+
+// So many terms from the place k on.
+fn write_terms(
+    out: &mut [u8],
+    coefficient: &[i32],
+    monomial: &[u64],
+    at: usize,
+    n: usize,
+    k: usize,
+    count: usize,
+) -> usize
+    requires { ⌜ (n ≤ 16) × (k + count ≤ length (now coefficient)) × (k + count ≤ length (now monomial))
+        × Room (length (now out)) at (writeTerms n (termsAt (now coefficient) (now monomial) k count)) ⌝ }
+    ensures { λ r. ⌜ Wrote (now (out .entry)) (now (out .exit)) at
+        (writeTerms n (termsAt (now (coefficient .entry)) (now (monomial .entry)) k count)) r ⌝ }
+{
+    if count == 0 {
+        return at;
+    }
+    let value = coefficient[k];
+    let next = write_term(out, at, n, value, monomial[k]);
+    write_terms(out, coefficient, monomial, next, n, k + 1, count - 1)
+}
+
+// The polynomial number i.
+fn write_polynomial(
+    out: &mut [u8],
+    coefficient: &[i32],
+    monomial: &[u64],
+    counts: &[u8],
+    at: usize,
+    n: usize,
+    i: usize,
+) -> usize
+    requires { ⌜ (n ≤ 16) × (i < 64) × (i < length (now counts)) × (16 * i + getD (now counts) i 0 ≤ length (now coefficient))
+        × (16 * i + getD (now counts) i 0 ≤ length (now monomial))
+        × Room (length (now out)) at (writePolynomial n (termsAt (now coefficient) (now monomial) (16 * i) (getD (now counts) i 0))) ⌝ }
+    ensures { λ r. ⌜ Wrote (now (out .entry)) (now (out .exit)) at
+        (writePolynomial n (termsAt (now (coefficient .entry)) (now (monomial .entry)) (16 * i) (getD (now (counts .entry)) i 0))) r ⌝ }
+{
+    let count = counts[i] as usize;
+    let next = write_field(out, at, 5, count as u64);
+    write_terms(out, coefficient, monomial, next, n, 16 * i, count)
+}
+
+// The polynomials from number i on, up to number m.
+fn write_table(
+    out: &mut [u8],
+    coefficient: &[i32],
+    monomial: &[u64],
+    counts: &[u8],
+    at: usize,
+    n: usize,
+    i: usize,
+    m: usize,
+) -> usize
+    requires { ⌜ (n ≤ 16) × (i ≤ m) × (m ≤ 64) × (m ≤ length (now counts)) × TermsInside (now coefficient) (now monomial) (now counts) m
+        × Room (length (now out)) at (writeTable n (tableAt (now coefficient) (now monomial) (now counts) i (m - i))) ⌝ }
+    ensures { λ r. ⌜ Wrote (now (out .entry)) (now (out .exit)) at
+        (writeTable n (tableAt (now (coefficient .entry)) (now (monomial .entry)) (now (counts .entry)) i (m - i))) r ⌝ }
+{
+    if i == m {
+        return at;
+    }
+    let next = write_polynomial(out, coefficient, monomial, counts, at, n, i);
+    write_table(out, coefficient, monomial, counts, next, n, i + 1, m)
+}
+
+// An atom by its token.
+fn write_atom(out: &mut [u8], at: usize, token: u32) -> usize
+    requires { ⌜ Room (length (now out)) at (atomBits token) ⌝ }
+    ensures { λ r. ⌜ Wrote (now (out .entry)) (now (out .exit)) at (atomBits token) r ⌝ }
+{
+    let kind = write_field(out, at, 2, 0);
+    let number = write_field(out, kind, 6, (token / 8) as u64);
+    write_field(out, number, 3, (token % 8) as u64)
+}
+
+// The kind and the number of children of an AND or OR.
+fn write_join(out: &mut [u8], at: usize, kind: u64, children: u64) -> usize
+    requires { ⌜ Room (length (now out)) at (joinBits kind children) ⌝ }
+    ensures { λ r. ⌜ Wrote (now (out .entry)) (now (out .exit)) at (joinBits kind children) r ⌝ }
+{
+    let next = write_field(out, at, 2, kind);
+    write_field(out, next, 8, children)
+}
+
+// So many nodes from the token k on; those of them that are an AND or OR are of that kind, and their children of the other.
+fn write_parts(out: &mut [u8], token: &[u32], at: usize, k: usize, count: usize, kind: u64) -> Spot
+    requires { ⌜ PartsAhead (now token) kind k count (length (now out)) at ⌝ }
+    ensures { λ r. ⌜ ((parts : Parts NumberedAtom) → PartsHeld (now (token .entry)) kind k parts → children parts ≡ count
+        → PartsWrote (now (out .entry)) (now (out .exit)) at parts k r) ⌝ }
+{
+    if count == 0 {
+        return Spot { at, k };
+    }
+    let first = token[k];
+    if first < 16777216 {
+        let next = write_atom(out, at, first);
+        return write_parts(out, token, next, k + 1, count - 1, kind);
+    }
+    let children = first - 16777216;
+    let next = write_join(out, at, kind, children as u64);
+    let inner = write_parts(out, token, next, k + 1, children as usize, 3 - kind);
+    write_parts(out, token, inner.at, inner.k, count - 1, kind)
+}
+
+// "edition, variables n, polynomials m, tree nodes, block length in bytes"
+fn write_head(out: &mut [u8], variables: u64, polynomials: u64, nodes: u64, size: u64) -> usize
+    requires { ⌜ 5 ≤ length (now out) ⌝ }
+    ensures { λ r. ⌜ Wrote (now (out .entry)) (now (out .exit)) 0 (headBits variables polynomials nodes size) r ⌝ }
+{
+    let edition = write_field(out, 0, 4, 1);
+    let first = write_field(out, edition, 5, variables);
+    let second = write_field(out, first, 7, polynomials);
+    let third = write_field(out, second, 8, nodes);
+    write_field(out, third, 16, size)
+}
+
+// Writes the block that the arrays hold to the output's first bytes, and gives its length; the rest of the output keeps its values.
+pub fn write(held: Held, out: &mut [u8]) -> usize
+    requires { ⌜ SomeWritable held (length (now out)) ⌝ }
+    ensures { λ r. ⌜ ((block : Block) → Writable held (length (now (out .entry))) block
+        → (r ≡ blockLength block) × (now (out .exit) ≡ sets (now (out .entry)) 0 (writeBlock block))) ⌝ }
+{
+    let variables = held.variables;
+    let polynomials = held.polynomials;
+    let coefficient = held.coefficient;
+    let monomial = held.monomial;
+    let terms = held.terms;
+    let token = held.token;
+    let tree = write_table(
+        out,
+        &coefficient,
+        &monomial,
+        &terms,
+        40,
+        variables,
+        0,
+        polynomials,
+    );
+    let last = write_parts(out, &token, tree, 0, 1, held.root as u64);
+    let end = last.at;
+    let size = (end + 7) / 8;
+    write_field(out, end, size * 8 - end, 0);
+    write_head(
+        out,
+        variables as u64,
+        polynomials as u64,
+        held.tokens as u64,
+        size as u64,
+    );
+    size
+}

@@ -1,0 +1,17 @@
+-- `read_vectors::one` hands the reader the frame that was read, which lies within the buffer. Assumes nothing.
+use borrow.Author.Needs.{needs}
+use mathlib.Core.Path.{sym}
+use lib.Seq.{length-take-le}
+use Rattle.read_vectors.proofs.one.Statement.{statement}
+use Rattle.read_vectors.proofs.one.Tie as tie
+
+slice-aggregate-read : tie.Need-slice-aggregate-read
+slice-aggregate-read c =
+    sym (length-take-le (c .before .before .before .before .before .next .result .length) (c .before .before .before .before .before .next .last .0) (c .before .before .before .before .before .next .ensures))
+
+pub one-spec : {M : Type 1} → statement M
+one-spec =
+    tie.close
+    (tie.spec (λ c κs. search needs) (λ c. search needs) (λ c. search needs) slice-aggregate-read (λ c κs. search needs) (λ c κs. search needs)
+    (λ c. search needs) (λ c. search needs) (λ c κs. search needs) (λ c. search needs) (λ c. search needs) (λ c. search needs) (λ c. search needs)
+    (λ c. search needs) (λ c. search needs) (λ c. search needs))
