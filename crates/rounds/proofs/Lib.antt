@@ -1,0 +1,10 @@
+pub mod Variables
+pub mod SignedSlots
+pub mod Over
+pub mod Walks
+pub mod Boards
+pub mod Ends
+pub mod Starts
+pub mod Said
+pub mod Carrying
+pub mod Removing

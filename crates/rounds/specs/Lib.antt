@@ -1,0 +1,5 @@
+pub mod Views
+pub mod Signing
+pub mod Round
+pub mod Start
+pub mod Run

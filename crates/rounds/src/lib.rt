@@ -1,0 +1,308 @@
+// Rounds over a list of atoms joined by AND, 01 "Rounds": the run of the rounds, what a list says of a polynomial after them,
+// the sets that its atoms then carry, and which of its atoms the others imply. The table of forms is lent as three slices.
+ghost use mathlib.Core.Path.{_≡_};
+ghost use mathlib.Core.List.{[]};
+ghost use mathlib.Core.Option.{none};
+ghost use Prim.Native.Nat.{_+_, _<_, _≤_};
+ghost use lib.ListN.{length};
+ghost use Rattle.rules.specs.Rounds.{held as heldOf, saysIn, carried as carriedOf};
+ghost use Rattle.rules.specs.Level.{implied as impliedOf, removeImplied};
+ghost use Rattle.terms.specs.View.{setsOf};
+ghost use Rattle.terms.specs.Signed.{Signed};
+ghost use Rattle.table.specs.Table.{Table, Forms, formAt, atomsOf};
+ghost use Rattle.rounds.specs.Views.{lentTable, variableOf, Below, stateOf};
+ghost use Rattle.rounds.specs.Signing.{SignedSlot, Ready};
+ghost use Rattle.rounds.specs.Run.{RunOf, NonVariable, Carried, carriedSet, carriedNext, KeptUnless, RemainingOf};
+use crate::list::joined;
+use crate::list::listed;
+use crate::list::many;
+use crate::list::push;
+use crate::round::cut_by;
+use crate::settle::rounds;
+use crate::slots::Holds;
+use crate::slots::places;
+use crate::slots::sign_list;
+use crate::slots::sign_slot;
+use crate::slots::which;
+use crate::start::start;
+use signs::SignSet;
+use table::Atoms;
+use terms::Board;
+use terms::by_terms;
+
+pub mod list; // lists of atoms
+pub mod slots; // the slots of the table, and the signs in them
+pub mod round; // one round
+pub mod settle; // the rounds to their end
+pub mod start; // where they start
+
+// What the rounds work on: the board, and the atoms that are no variable's.
+pub struct State {
+    pub board: Board,
+    pub atoms: Atoms,
+}
+
+// How the rounds ended, how many were begun, and the state that the last one left.
+pub struct Ran {
+    pub contradiction: bool,
+    pub begun: usize,
+    pub state: State,
+}
+
+pub fn run(
+    coefficient: &[i32],
+    monomial: &[u64],
+    terms: &[u8],
+    variables: usize,
+    list: Atoms,
+) -> Ran
+    requires { ⌜ Forms (lentTable coefficient monomial terms variables) ⌝ }
+    ensures { λ r. ⌜ RunOf (lentTable (coefficient .entry) (monomial .entry) (terms .entry) variables) list r ⌝ }
+{
+    rounds(
+        coefficient,
+        monomial,
+        terms,
+        start(coefficient, monomial, terms, variables, list),
+    )
+}
+
+// ---- what a list says of a polynomial
+
+// The set that a state holds for the polynomial in slot number: the variable's, or that of its atom, or the full set.
+fn held(state: State, holds: Holds, number: usize) -> SignSet
+    requires { ⌜ (number < 64) × ((state .board .variables ≤ 16) × Below (state .board .variables) holds) ⌝ }
+    ensures { λ r. ⌜ ((t : Table) → Forms t → r .0 ≡ heldOf (variableOf holds) (stateOf t state) (formAt t number)) ⌝ }
+{
+    let board = state.board;
+    let atoms = state.atoms;
+    match holds {
+        Holds::Form => listed(atoms, number),
+        Holds::Variable(i) => {
+            let set = board.sets[i];
+            SignSet(set)
+        }
+    }
+}
+
+// What a settled state says of the polynomial in slot number, where only the signs that this takes are worked out.
+fn says_at(
+    coefficient: &[i32],
+    monomial: &[u64],
+    terms: &[u8],
+    sign: &[u8],
+    variables: usize,
+    state: State,
+    number: usize,
+) -> SignSet
+    requires { let t = lentTable coefficient monomial terms variables in
+        ⌜ Ready t (setsOf (state .board)) (state .atoms) (now sign) × ((state .board .variables ≡ variables) × (number < 64)) ⌝ }
+    requires { ⌜ SignedSlot (lentTable coefficient monomial terms variables) (setsOf (state .board)) (now sign) number ⌝ }
+    ensures { λ r.
+        let t = lentTable (coefficient .entry) (monomial .entry) (terms .entry) variables in
+        ⌜ r .0 ≡ saysIn variables (stateOf t state) (formAt t number) ⌝ }
+{
+    let board = state.board;
+    let atoms = state.atoms;
+    let end = many(atoms.count);
+    let holds = which(coefficient, monomial, terms, variables, number);
+    let run = places(terms, number);
+    let by = by_terms(coefficient, sign, run.from, run.to);
+    let own = held(state, holds, number).intersect(by);
+    cut_by(
+        coefficient,
+        monomial,
+        terms,
+        sign,
+        board,
+        atoms,
+        0,
+        end,
+        number,
+        own,
+    )
+}
+
+// What a settled state says of the polynomial in slot number, where the signs of all places are worked out for its board.
+pub fn says(
+    coefficient: &[i32],
+    monomial: &[u64],
+    terms: &[u8],
+    sign: &[u8],
+    variables: usize,
+    state: State,
+    number: usize,
+) -> SignSet
+    requires { ⌜ Forms (lentTable coefficient monomial terms variables) × ((state .board .variables ≡ variables) × (number < 64)) ⌝ }
+    requires { ⌜ (length (now sign) ≡ 1280) × Signed (setsOf (state .board)) (now monomial) (now sign) 0 1280 ⌝ }
+    ensures { λ r.
+        let t = lentTable (coefficient .entry) (monomial .entry) (terms .entry) variables in
+        ⌜ r .0 ≡ saysIn variables (stateOf t state) (formAt t number) ⌝ }
+{
+    says_at(coefficient, monomial, terms, sign, variables, state, number)
+}
+
+// ---- the sets that the atoms of a list carry after its rounds
+
+// The set that one atom carries, and the index of the next atom that is no variable's.
+struct Carry {
+    pub set: u8,
+    pub next: usize,
+}
+
+fn carried_one(board: Board, atoms: Atoms, holds: Holds, next: usize) -> Carry
+    requires { ⌜ (board .variables ≤ 16) × (Below (board .variables) holds × (variableOf holds ≡ none → next < 64)) ⌝ }
+    ensures { λ r. ⌜ (r .set ≡ carriedSet (variableOf holds) (setsOf board) (atoms .set) next) × (r .next ≡ carriedNext (variableOf holds) next) ⌝ }
+{
+    match holds {
+        Holds::Form => {
+            let set = atoms.set[next];
+            Carry {
+                set,
+                next: next + 1,
+            }
+        }
+        Holds::Variable(i) => {
+            let set = board.sets[i];
+            Carry { set, next }
+        }
+    }
+}
+
+// The atoms of the list with the sets that the rounds left: a variable's from the board, the others theirs, in order.
+pub fn carried(
+    coefficient: &[i32],
+    monomial: &[u64],
+    terms: &[u8],
+    variables: usize,
+    list: Atoms,
+    state: State,
+) -> Atoms
+    requires { let t = lentTable coefficient monomial terms variables in
+        ⌜ Forms t × ((state .board .variables ≡ variables) × NonVariable t list (state .atoms)) ⌝ }
+    ensures { λ r.
+        let t = lentTable (coefficient .entry) (monomial .entry) (terms .entry) variables in
+        ⌜ Carried t list (carriedOf variables (setsOf (state .board)) (atomsOf t list) (atomsOf t (state .atoms))) r ⌝ }
+{
+    let board = state.board;
+    let atoms = state.atoms;
+    let end = many(list.count);
+    let mut carried = list;
+    let mut next = 0;
+    let mut i = 0;
+    while i < end {
+        let number = list.number[i];
+        let k = (number % 64) as usize;
+        let holds = which(coefficient, monomial, terms, variables, k);
+        let one = carried_one(board, atoms, holds, next);
+        carried.set[i] = one.set;
+        next = one.next;
+        i += 1;
+    }
+    carried
+}
+
+// ---- the atoms that the others imply
+
+// The atoms of a list that remain, and which of its indices they had.
+pub struct Remaining {
+    pub atoms: Atoms,
+    pub keep: [bool; 64],
+}
+
+// Whether what the other atoms say of the polynomial in slot number, after rounds of their own, lies inside the set.
+fn implied(
+    coefficient: &[i32],
+    monomial: &[u64],
+    terms: &[u8],
+    variables: usize,
+    others: Atoms,
+    number: usize,
+    set: SignSet,
+) -> bool
+    requires { ⌜ Forms (lentTable coefficient monomial terms variables) × (number < 64) ⌝ }
+    ensures { λ r.
+        let t = lentTable (coefficient .entry) (monomial .entry) (terms .entry) variables in
+        ⌜ r ≡ impliedOf variables (atomsOf t others) (record { polynomial = formAt t number; set = set .0 }) ⌝ }
+{
+    let ran = run(coefficient, monomial, terms, variables, others);
+    if ran.contradiction {
+        return SignSet::EMPTY.inside(set);
+    }
+    let state = ran.state;
+    let board = state.board;
+    let atoms = state.atoms;
+    let mut sign = [0u8; 1280];
+    sign_list(board, monomial, terms, atoms, &mut sign);
+    sign_slot(board, monomial, terms, &mut sign, number);
+    says_at(
+        coefficient,
+        monomial,
+        terms,
+        &sign,
+        variables,
+        state,
+        number,
+    ).inside(set)
+}
+
+// The atom at index i of the list remains, unless it is implied.
+fn kept_unless(out: bool, kept: Remaining, list: Atoms, i: usize) -> Remaining
+    requires { ⌜ (i < 64) × (kept .atoms .count < 64) ⌝ }
+    ensures { λ r. ⌜ KeptUnless out kept list i r ⌝ }
+{
+    let number = list.number[i];
+    let set = list.set[i];
+    let mut next = kept;
+    next.keep[i] = !out;
+    if out {
+        return next;
+    }
+    let atoms = kept.atoms;
+    let more = push(atoms, number, set);
+    next.atoms = more;
+    next
+}
+
+pub fn remove_implied(
+    coefficient: &[i32],
+    monomial: &[u64],
+    terms: &[u8],
+    variables: usize,
+    list: Atoms,
+) -> Remaining
+    requires { ⌜ Forms (lentTable coefficient monomial terms variables) ⌝ }
+    ensures { λ r.
+        let t = lentTable (coefficient .entry) (monomial .entry) (terms .entry) variables in
+        ⌜ RemainingOf t list (removeImplied variables [] (atomsOf t list)) r ⌝ }
+{
+    let end = many(list.count);
+    let mut kept = Remaining {
+        atoms: Atoms {
+            count: 0,
+            number: [0; 64],
+            set: [0; 64],
+        },
+        keep: [false; 64],
+    };
+    let mut i = 0;
+    while i < end {
+        let number = list.number[i];
+        let set = list.set[i];
+        let k = (number % 64) as usize;
+        let atoms = kept.atoms;
+        let others = joined(atoms, list, i + 1);
+        let out = implied(
+            coefficient,
+            monomial,
+            terms,
+            variables,
+            others,
+            k,
+            SignSet(set),
+        );
+        kept = kept_unless(out, kept, list, i);
+        i += 1;
+    }
+    kept
+}
