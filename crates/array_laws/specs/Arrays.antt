@@ -10,7 +10,7 @@ use lib.ListN.{length, getD, set, replicate, length-set, length-replicate, lengt
 use lib.Seq.{sets, length-sets, getD-set-same, getD-set-other}
 use Rattle.rules.specs.Polynomial.{Term, Polynomial}
 use Rattle.rules.specs.Block.{Block, Stream, read, readBlock}
-use Rattle.rules.specs.Limits.{PolynomialWithin, TableWithin, no-polynomials, polynomials, BlockWithin}
+use Rattle.rules.specs.Limits.{TableWithin, no-polynomials, polynomials, BlockWithin}
 use Rattle.block_laws.specs.Blocks.{accepted-within}
 use Rattle.terms.specs.View.{termsFrom}
 use Rattle.block.specs.Held.{slots, heldOf}

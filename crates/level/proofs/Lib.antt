@@ -1,0 +1,15 @@
+pub mod Listing
+pub mod Entering
+pub mod Slots
+pub mod Constants
+pub mod Merging
+pub mod Handing
+pub mod SmallSets
+pub mod Cutting
+pub mod Atomwise
+pub mod Childwise
+pub mod Stages
+pub mod Gathering
+pub mod Skipping
+pub mod Telling
+pub mod Rooted

@@ -1,0 +1,13 @@
+use borrow.Author.Needs.{needs}
+use native.Mathlib.Omega.{arith}
+use Rattle.terms.specs.Signed.{signed-there}
+use Rattle.level.proofs.sweeping.sweep.Statement.{statement}
+use Rattle.level.proofs.sweeping.sweep.Tie as tie
+
+walk-over-requires : tie.Need-walk-over-requires
+walk-over-requires c κs =
+    let pre = c .before .before .before .before .before .before .before .pre in
+    (record { forms = pre .0; variables = pre .1 .0; signed = rw (c .before .before .sign-terms .ensures) (signed-there _ _ _ 0 1280 (omega arith)); long = c .before .before .sign-terms .kept .1 .1 .0 }, pre .1 .1)
+
+pub sweep-spec : {M : Type 1} → statement M
+sweep-spec = tie.close (tie.spec (λ c. search needs) (λ c κs. search needs) (λ c. search needs) walk-over-requires (λ c. c .walk-over .ensures))

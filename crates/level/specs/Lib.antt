@@ -1,0 +1,11 @@
+pub mod Row
+pub mod Token
+pub mod Tape
+pub mod Walked
+pub mod Tidied
+pub mod Carried
+pub mod Swept
+pub mod Settled
+pub mod Source
+pub mod Tree
+pub mod Written

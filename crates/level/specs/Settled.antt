@@ -1,0 +1,69 @@
+-- Steps 2 to 6: what a stage of settling holds, and what comes of it, in the book's values.
+use mathlib.Core.Path.{_≡_}
+use mathlib.Core.Bool.{Bool, true, false}
+use mathlib.Core.List.{List, []}
+use Prim.Native.Nat.{ℕ, suc, _+_, _<_, _≤_}
+use lib.ListN.{length}
+use Rattle.rules.specs.Polynomial.{Atom}
+use Rattle.rules.specs.Level.{Formula, parts, settled-down, afterGather, Walk}
+use Rattle.table.specs.Table.{Table}
+use Rattle.level.specs.declared.rows.Row.{Row}
+use Rattle.level.specs.declared.walks.Level.{Level}
+use Rattle.level.specs.declared.walks.Walked.{Walked}
+use Rattle.level.specs.declared.settling.Stage.{Stage}
+use Rattle.level.specs.Row.{Lists}
+use Rattle.level.specs.Token.{atomsIn}
+use Rattle.level.specs.Tape.{Children, none, child, laid, orsIn}
+use Rattle.level.specs.Walked.{Shows, Stands, sizeOf, room}
+
+-- The rows that say that the node is false: no atoms, and an OR with no parts.
+pub record NodeIsFalse (r : Stage) : Type 0 where
+  pub over : r .over ≡ true
+  pub atoms : Lists (r .atoms) []
+  pub ors : Lists (r .ors) (laid (child [] none none))
+
+-- The parts, if the stage is over; else what settling on would give.
+unfoldable pub resultOf : Bool → ℕ → List Atom → List Formula → Formula
+resultOf true n l ors = parts l ors
+resultOf false n l ors = settled-down n l ors
+
+-- A stage of settling the atoms l and the children. Its rows have at most as many tokens, or one alone; and fewer by e unless it is over.
+pub record StageIs (t : Table) (l : List ℕ) (children : Children) (e : ℕ) (r : Stage) : Type 0 where
+  pub list : List ℕ
+  pub left : Children
+  pub lists : Lists (r .atoms) list
+  pub lies : Lists (r .ors) (laid left)
+  pub is : resultOf (r .over) (t .variables) (atomsIn t list) (orsIn t left) ≡ settled-down (t .variables) (atomsIn t l) (orsIn t children)
+  pub small : 1 < length list + length (laid left) → length list + length (laid left) ≤ length l + length (laid children)
+  pub tight : r .over ≡ false → length list + length (laid left) + e ≤ length l + length (laid children)
+
+-- A node's atoms and OR children that fit a row together.
+pub record Ready (atoms ors : Row) : Type 0 where
+  pub list : List ℕ
+  pub children : Children
+  pub lists : Lists atoms list
+  pub lies : Lists ors (laid children)
+  pub fits : atoms .count + ors .count ≤ 256
+
+pub record SettleIs (t : Table) (l : List ℕ) (children : Children) (r : Level) : Type 0 where
+  pub shows : Shows t r (settled-down (t .variables) (atomsIn t l) (orsIn t children))
+  pub small : 1 < sizeOf r → sizeOf r ≤ length l + length (laid children)
+
+-- What the way back counts down: the tokens of a stage that is not over.
+abbrev pub due : Bool → ℕ → ℕ
+due true n = 0
+due false n = suc n
+
+-- ---- After step 1.
+
+pub record Gathered (atoms : Row) (walked : Walked) : Type 0 where
+  pub table : Table
+  pub list : List ℕ
+  pub walk : Walk
+  pub lists : Lists atoms list
+  pub stands : Stands table walked walk
+  pub fits : atoms .count + room walked ≤ 256
+
+pub record FinishIs (t : Table) (l : List ℕ) (walk : Walk) (n : ℕ) (r : Level) : Type 0 where
+  pub shows : Shows t r (afterGather (t .variables) (atomsIn t l) walk)
+  pub small : 1 < sizeOf r → sizeOf r ≤ n

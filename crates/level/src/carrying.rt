@@ -1,0 +1,109 @@
+// 01, "A level", steps 3 and 5: the rounds over a list of tokens, and the atoms that the others imply.
+// The engine works on numbers and sets; here the sets go back into the tokens, so that all else of a token stays.
+ghost use mathlib.Core.Path.{_≡_};
+ghost use mathlib.Core.List.{List};
+ghost use Prim.Native.Nat.{ℕ, _≤_};
+ghost use Rattle.table.specs.Table.{Forms};
+ghost use Rattle.level.specs.Row.{Lists};
+ghost use Rattle.rounds.specs.Views.{lentTable};
+ghost use Rattle.level.specs.Carried.{withSets, remaining, Carries, Remains};
+use crate::rows::Row;
+use crate::rows::empty;
+use crate::rows::push;
+use crate::tidying::atoms_in;
+use crate::tokens::with_set;
+use rounds::Remaining;
+use rounds::State;
+use rounds::carried;
+use rounds::remove_implied;
+use rounds::run;
+use signs::SignSet;
+use table::Atoms;
+
+// What step 3 leaves: a contradiction, or the list with the cut sets and the state of its rounds.
+pub struct Carrying {
+    pub contradiction: bool,
+    pub list: Row,
+    pub state: State,
+}
+
+// The tokens with the atoms' sets.
+fn with_sets(row: Row, atoms: Atoms) -> Row
+    requires { ⌜ row .count ≤ 64 ⌝ }
+    ensures { λ r. ⌜ ((l : List ℕ) → Lists row l → Lists r (withSets (atoms .set) 0 l)) ⌝ }
+{
+    let n = row.count;
+    let mut carrying = empty();
+    let mut i = 0;
+    while i < n {
+        let token = row.token[i];
+        let set = atoms.set[i];
+        i += 1;
+        carrying = push(carrying, with_set(token, SignSet(set)));
+    }
+    carrying
+}
+
+pub fn carry(
+    coefficient: &[i32],
+    monomial: &[u64],
+    terms: &[u8],
+    variables: usize,
+    row: Row,
+) -> Carrying
+    requires { ⌜ Forms (lentTable coefficient monomial terms variables) × (row .count ≤ 64) ⌝ }
+    ensures { λ r. let t = lentTable (coefficient .entry) (monomial .entry) (terms .entry) variables in ⌜ ((l : List ℕ) → Lists row l → Carries t l r) ⌝ }
+{
+    let atoms = atoms_in(row);
+    let ran = run(coefficient, monomial, terms, variables, atoms);
+    let state = ran.state;
+    if ran.contradiction {
+        return Carrying {
+            contradiction: true,
+            list: row,
+            state: state,
+        };
+    }
+    let cut = carried(coefficient, monomial, terms, variables, atoms, state);
+    let carrying = with_sets(row, cut);
+    Carrying {
+        contradiction: false,
+        list: carrying,
+        state: state,
+    }
+}
+
+// The tokens of the atoms that remain.
+fn kept_of(row: Row, kept: Remaining) -> Row
+    requires { ⌜ row .count ≤ 64 ⌝ }
+    ensures { λ r. ⌜ ((l : List ℕ) → Lists row l → Lists r (remaining (kept .keep) 0 l)) ⌝ }
+{
+    let n = row.count;
+    let mut left = empty();
+    let mut i = 0;
+    while i < n {
+        let token = row.token[i];
+        let keeps = kept.keep[i];
+        i += 1;
+        if keeps {
+            left = push(left, token);
+        }
+    }
+    left
+}
+
+// Step 5: "In order, an atom is removed if what the other remaining atoms say of it lies inside its carried set."
+pub fn without_implied(
+    coefficient: &[i32],
+    monomial: &[u64],
+    terms: &[u8],
+    variables: usize,
+    row: Row,
+) -> Row
+    requires { ⌜ Forms (lentTable coefficient monomial terms variables) × (row .count ≤ 64) ⌝ }
+    ensures { λ r. let t = lentTable (coefficient .entry) (monomial .entry) (terms .entry) variables in ⌜ ((l : List ℕ) → Lists row l → Remains t l r) ⌝ }
+{
+    let atoms = atoms_in(row);
+    let kept = remove_implied(coefficient, monomial, terms, variables, atoms);
+    kept_of(row, kept)
+}

@@ -1,0 +1,70 @@
+// 01, "A level": a tree of atoms simplified by the AND rule and the OR rule, on tapes of tokens.
+// The table of normal forms is lent as three slices and the number of variables; all else is held by value.
+ghost use Prim.Native.Nat.{ℕ};
+ghost use Rattle.rules.specs.Formula.{Node};
+ghost use Rattle.table.specs.Table.{Forms};
+ghost use Rattle.rounds.specs.Views.{lentTable};
+ghost use Rattle.level.specs.Tree.{TreeHeld, RootIs, Simplified};
+
+mod carrying;
+mod nesting;
+mod rows;
+mod settling;
+mod sweeping;
+mod tidying;
+mod tokens;
+mod walks;
+mod writing;
+
+use nesting::and_rule;
+use nesting::or_rule;
+use rows::empty;
+use rows::push;
+use settling::finish;
+use walks::Level;
+use walks::begin;
+use writing::Tree;
+use writing::tree_of;
+
+// The level that the root's rule makes. "A root atom is an AND of one."
+fn root_level(
+    coefficient: &[i32],
+    monomial: &[u64],
+    terms: &[u8],
+    variables: usize,
+    token: &[u32],
+    root: u8,
+) -> Level
+    requires { ⌜ Forms (lentTable coefficient monomial terms variables) × ((tree : Node ℕ) × TreeHeld (now token) root tree) ⌝ }
+    ensures { λ r. let t = lentTable (coefficient .entry) (monomial .entry) (terms .entry) variables in ⌜ ((tree : Node ℕ) → TreeHeld (now (token .entry)) root tree → RootIs t tree r) ⌝ }
+{
+    if root == 0 {
+        let atoms = push(empty(), token[0]);
+        let walked = begin();
+        return finish(coefficient, monomial, terms, variables, atoms, walked);
+    }
+    if root == 1 {
+        let found = and_rule(coefficient, monomial, terms, variables, token, 0, 6);
+        let level = found.level;
+        return level;
+    }
+    let found = or_rule(coefficient, monomial, terms, variables, token, 0, 6);
+    let level = found.level;
+    level
+}
+
+// The tree that the tape holds, with its root's kind (0 is an atom, 1 is AND, 2 is OR), simplified.
+pub fn simplified(
+    coefficient: &[i32],
+    monomial: &[u64],
+    terms: &[u8],
+    variables: usize,
+    token: &[u32],
+    root: u8,
+) -> Tree
+    requires { ⌜ Forms (lentTable coefficient monomial terms variables) × ((tree : Node ℕ) × TreeHeld (now token) root tree) ⌝ }
+    ensures { λ r. let t = lentTable (coefficient .entry) (monomial .entry) (terms .entry) variables in ⌜ ((tree : Node ℕ) → TreeHeld (now (token .entry)) root tree → Simplified t tree r) ⌝ }
+{
+    let level = root_level(coefficient, monomial, terms, variables, token, root);
+    tree_of(level, root != 2)
+}

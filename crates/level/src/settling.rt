@@ -1,0 +1,144 @@
+// 01, "A level", steps 2 to 6 in a row. "If any did, go to 2": the way back is a loop, and each turn of it takes a token off the two rows.
+ghost use mathlib.Core.List.{List};
+ghost use Prim.Native.Nat.{ℕ, _+_};
+ghost use Rattle.rules.specs.Level.{Walk};
+ghost use Rattle.table.specs.Table.{Forms};
+ghost use Rattle.level.specs.Row.{Lists};
+ghost use Rattle.rounds.specs.Views.{lentTable};
+ghost use Rattle.level.specs.Tape.{Children, laid};
+ghost use Rattle.level.specs.Walked.{Stands, room};
+ghost use Rattle.level.specs.Settled.{NodeIsFalse, StageIs, Ready, SettleIs, Gathered, FinishIs};
+use crate::carrying::carry;
+use crate::carrying::without_implied;
+use crate::rows::Row;
+use crate::rows::append;
+use crate::rows::empty;
+use crate::rows::put_child;
+use crate::sweeping::sweep;
+use crate::tidying::tidy;
+use crate::walks::Level;
+use crate::walks::Walked;
+
+// The atoms and the OR children of a node between two turns, or its parts when the last turn is over.
+pub struct Stage {
+    pub over: bool,
+    pub atoms: Row,
+    pub ors: Row,
+}
+
+// "the node is false": its one part is an OR with no parts.
+fn never() -> Stage
+    ensures { λ r. ⌜ NodeIsFalse r ⌝ }
+{
+    let nothing = empty();
+    let fallen = put_child(nothing, nothing, nothing);
+    Stage {
+        over: true,
+        atoms: nothing,
+        ors: fallen,
+    }
+}
+
+// One turn: steps 2 to 4, and step 5 if no child joined or was spliced.
+fn turn(
+    coefficient: &[i32],
+    monomial: &[u64],
+    terms: &[u8],
+    variables: usize,
+    atoms: Row,
+    ors: Row,
+) -> Stage
+    requires { ⌜ Forms (lentTable coefficient monomial terms variables) × Ready atoms ors ⌝ }
+    ensures { λ r. let t = lentTable (coefficient .entry) (monomial .entry) (terms .entry) variables in ⌜ ((l : List ℕ) (children : Children) → Lists atoms l → Lists ors (laid children) → StageIs t l children 1 r) ⌝ }
+{
+    let tidied = tidy(coefficient, monomial, terms, variables, atoms);
+    if tidied.broken {
+        return never();
+    }
+    let list = tidied.list;
+    let carrying = carry(coefficient, monomial, terms, variables, list);
+    if carrying.contradiction {
+        return never();
+    }
+    let state = carrying.state;
+    let walked = sweep(coefficient, monomial, terms, variables, state, ors);
+    if walked.falls {
+        return never();
+    }
+    let cut = carrying.list;
+    let new = walked.new;
+    let left = walked.ors;
+    if walked.moved {
+        let n = new.count;
+        let longer = append(cut, new, 0, n);
+        return Stage {
+            over: false,
+            atoms: longer,
+            ors: left,
+        };
+    }
+    let remaining = without_implied(coefficient, monomial, terms, variables, cut);
+    Stage {
+        over: true,
+        atoms: remaining,
+        ors: left,
+    }
+}
+
+// Steps 2 to 6.
+fn settle(
+    coefficient: &[i32],
+    monomial: &[u64],
+    terms: &[u8],
+    variables: usize,
+    atoms: Row,
+    ors: Row,
+) -> Level
+    requires { ⌜ Forms (lentTable coefficient monomial terms variables) × Ready atoms ors ⌝ }
+    ensures { λ r. let t = lentTable (coefficient .entry) (monomial .entry) (terms .entry) variables in ⌜ ((l : List ℕ) (children : Children) → Lists atoms l → Lists ors (laid children) → SettleIs t l children r) ⌝ }
+{
+    let mut stage = Stage {
+        over: false,
+        atoms: atoms,
+        ors: ors,
+    };
+    while !stage.over {
+        let list = stage.atoms;
+        let left = stage.ors;
+        stage = turn(coefficient, monomial, terms, variables, list, left);
+    }
+    let list = stage.atoms;
+    let left = stage.ors;
+    Level {
+        atoms: list,
+        ors: left,
+    }
+}
+
+// What step 1 has gathered, through steps 2 to 6: the node's direct atoms, and the walk over its OR children.
+pub fn finish(
+    coefficient: &[i32],
+    monomial: &[u64],
+    terms: &[u8],
+    variables: usize,
+    atoms: Row,
+    walked: Walked,
+) -> Level
+    requires { ⌜ Forms (lentTable coefficient monomial terms variables) × Gathered atoms walked ⌝ }
+    ensures { λ r. let t = lentTable (coefficient .entry) (monomial .entry) (terms .entry) variables in ⌜ ((l : List ℕ) (walk : Walk) → Lists atoms l → Stands t walked walk → FinishIs t l walk (atoms .count + room walked) r) ⌝ }
+{
+    if walked.falls {
+        let stage = never();
+        let list = stage.atoms;
+        let ors = stage.ors;
+        return Level {
+            atoms: list,
+            ors: ors,
+        };
+    }
+    let new = walked.new;
+    let ors = walked.ors;
+    let n = new.count;
+    let longer = append(atoms, new, 0, n);
+    settle(coefficient, monomial, terms, variables, longer, ors)
+}

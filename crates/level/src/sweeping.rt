@@ -1,0 +1,214 @@
+// 01, "A level", step 4: each OR child against what the list says.
+// "The list here is the one that step 3 left: joins and splices take effect after the last child, in child order."
+ghost use mathlib.Core.Path.{_≡_};
+ghost use mathlib.Core.List.{List};
+ghost use Prim.Native.Nat.{ℕ, _+_, _-_, _≤_};
+ghost use lib.ListN.{length, take, drop};
+ghost use Rattle.rules.specs.Level.{Walk};
+ghost use Rattle.table.specs.Table.{Forms};
+ghost use Rattle.level.specs.Row.{Lists};
+ghost use Rattle.rounds.specs.Views.{lentTable};
+ghost use Rattle.level.specs.Tape.{Children, laid, ChildAt};
+ghost use Rattle.level.specs.Walked.{Stands};
+ghost use Rattle.level.specs.Swept.{Hears, CutIs, PruneIs, EntersPruned, SweepIs};
+use crate::rows::Row;
+use crate::rows::append;
+use crate::rows::atoms_of;
+use crate::rows::empty;
+use crate::rows::push;
+use crate::rows::tokens_of;
+use crate::tokens::set_of;
+use crate::tokens::slot_of;
+use crate::tokens::with_set;
+use crate::walks::Level;
+use crate::walks::Walked;
+use crate::walks::add;
+use crate::walks::begin;
+use rounds::State;
+use rounds::says;
+use signs::SignSet;
+use terms::sign_terms;
+
+// What becomes of an atom of a child: the child is implied, the atom is gone, or this is its token now.
+struct Cut {
+    implied: bool,
+    gone: bool,
+    token: u32,
+}
+
+// A child that is dropped, or the atoms that are left of it.
+struct Pruned {
+    dropped: bool,
+    list: Row,
+}
+
+// "if what the list says of p lies inside s, the child is dropped; else s becomes the intersection, and an empty s drops the atom."
+// The child holds its sets complemented.
+fn cut_atom(
+    coefficient: &[i32],
+    monomial: &[u64],
+    terms: &[u8],
+    sign: &[u8],
+    variables: usize,
+    state: State,
+    token: u32,
+) -> Cut
+    requires { ⌜ Hears (lentTable coefficient monomial terms variables) state (now sign) ⌝ }
+    ensures { λ r. let t = lentTable (coefficient .entry) (monomial .entry) (terms .entry) variables in ⌜ CutIs t state token r ⌝ }
+{
+    let said = says(
+        coefficient,
+        monomial,
+        terms,
+        sign,
+        variables,
+        state,
+        slot_of(token),
+    );
+    let set = set_of(token).complement();
+    let implied = said.inside(set);
+    let cut = set.intersect(said);
+    let left = with_set(token, cut.complement());
+    Cut {
+        implied: implied,
+        gone: cut.0 == SignSet::EMPTY.0,
+        token: left,
+    }
+}
+
+// The atoms of a child, from one place of the row up to another.
+fn prune(
+    coefficient: &[i32],
+    monomial: &[u64],
+    terms: &[u8],
+    sign: &[u8],
+    variables: usize,
+    state: State,
+    row: Row,
+    from: usize,
+    to: usize,
+) -> Pruned
+    requires { ⌜ Hears (lentTable coefficient monomial terms variables) state (now sign) × ((from ≤ to) × (to ≤ 256)) ⌝ }
+    ensures { λ r. let t = lentTable (coefficient .entry) (monomial .entry) (terms .entry) variables in ⌜ (r .list .count + from ≤ to) × ((l : List ℕ) → Lists row l → to ≤ length l → PruneIs t state (take (to - from) (drop from l)) r) ⌝ }
+{
+    let mut left = empty();
+    let mut i = from;
+    while i < to {
+        let token = row.token[i];
+        i += 1;
+        let cut = cut_atom(coefficient, monomial, terms, sign, variables, state, token);
+        if cut.implied {
+            return Pruned {
+                dropped: true,
+                list: left,
+            };
+        }
+        if !cut.gone {
+            left = push(left, cut.token);
+        }
+    }
+    Pruned {
+        dropped: false,
+        list: left,
+    }
+}
+
+// The child whose head stands at this place, with so many atoms and so many tokens of own children.
+fn enter_pruned(
+    coefficient: &[i32],
+    monomial: &[u64],
+    terms: &[u8],
+    sign: &[u8],
+    variables: usize,
+    state: State,
+    walked: Walked,
+    row: Row,
+    place: usize,
+    atoms: usize,
+    tokens: usize,
+) -> Walked
+    requires { ⌜ Hears (lentTable coefficient monomial terms variables) state (now sign) × ((place + atoms + tokens + 1 ≤ 256) × (walked .new .count + walked .ors .count + atoms + tokens + 1 ≤ 256)) ⌝ }
+    ensures { λ r. let t = lentTable (coefficient .entry) (monomial .entry) (terms .entry) variables in ⌜ ((walk : Walk) (all l : List ℕ) (own : Children) (rest : List ℕ) → Stands t walked walk → Lists row all → ChildAt all place atoms tokens l own rest → EntersPruned t state walked walk l own r) ⌝ }
+{
+    let inner = place + 1 + atoms;
+    let pruned = prune(
+        coefficient,
+        monomial,
+        terms,
+        sign,
+        variables,
+        state,
+        row,
+        place + 1,
+        inner,
+    );
+    if pruned.dropped {
+        return walked;
+    }
+    let nothing = empty();
+    let ors = append(nothing, row, inner, inner + tokens);
+    let list = pruned.list;
+    add(
+        walked,
+        Level {
+            atoms: list,
+            ors: ors,
+        },
+    )
+}
+
+// All children of a row, with the signs of the table's monomials worked out.
+fn walk_over(
+    coefficient: &[i32],
+    monomial: &[u64],
+    terms: &[u8],
+    sign: &[u8],
+    variables: usize,
+    state: State,
+    ors: Row,
+) -> Walked
+    requires { ⌜ Hears (lentTable coefficient monomial terms variables) state (now sign) × ((ors .count ≤ 256) × ((children : Children) × Lists ors (laid children))) ⌝ }
+    ensures { λ r. let t = lentTable (coefficient .entry) (monomial .entry) (terms .entry) variables in ⌜ ((children : Children) → Lists ors (laid children) → SweepIs t state children r) ⌝ }
+{
+    let n = ors.count;
+    let mut walked = begin();
+    let mut place = 0;
+    while place < n {
+        let head = ors.token[place];
+        let atoms = atoms_of(head);
+        let tokens = tokens_of(head);
+        walked = enter_pruned(
+            coefficient,
+            monomial,
+            terms,
+            sign,
+            variables,
+            state,
+            walked,
+            ors,
+            place,
+            atoms,
+            tokens,
+        );
+        place = place + 1 + atoms + tokens;
+    }
+    walked
+}
+
+// The signs are worked out once for the state's board, and serve each atom of each child.
+pub fn sweep(
+    coefficient: &[i32],
+    monomial: &[u64],
+    terms: &[u8],
+    variables: usize,
+    state: State,
+    ors: Row,
+) -> Walked
+    requires { ⌜ Forms (lentTable coefficient monomial terms variables) × ((state .board .variables ≡ variables) × ((ors .count ≤ 256) × ((children : Children) × Lists ors (laid children)))) ⌝ }
+    ensures { λ r. let t = lentTable (coefficient .entry) (monomial .entry) (terms .entry) variables in ⌜ ((children : Children) → Lists ors (laid children) → SweepIs t state children r) ⌝ }
+{
+    let mut sign = [0u8; 1280];
+    let board = state.board;
+    sign_terms(board, monomial, &mut sign, 0, 1280);
+    walk_over(coefficient, monomial, terms, &sign, variables, state, ors)
+}

@@ -1,0 +1,8 @@
+pub mod Normal
+pub mod Tapes
+pub mod Travel
+pub mod Answered
+pub mod Refusals
+pub mod Writing
+pub mod Entry
+pub mod Way

@@ -1,0 +1,153 @@
+// The public entry: a lift condition block is read, simplified and written again.
+// 01, "Refusal numbers": a refusal leaves before anything is written.
+ghost use mathlib.Core.Path.{_≡_};
+ghost use mathlib.Core.List.{List};
+ghost use Prim.Native.Nat.{ℕ, _≤_};
+ghost use lib.ListN.{length};
+ghost use Rattle.rules.specs.Block.{readBlock};
+ghost use Rattle.rules.specs.Answer.{answer};
+ghost use Rattle.rules.specs.Demands.{SameLifts, NeverLonger};
+ghost use Rattle.lift.specs.Tapes.{plainTokens};
+ghost use Rattle.lift.specs.Answered.{verdictFrom};
+ghost use Rattle.lift.specs.Entry.{Accepted, AcceptedSome, Answers};
+use block::Held;
+use block::read;
+use block::write;
+use forms::normal_tokens;
+use forms::working;
+use level::simplified;
+use used::atoms;
+use used::collect;
+
+// "one of the words FORMULA, ALWAYS, UNSATISFIABLE"
+pub enum Verdict {
+    Formula,
+    Always,
+    Unsatisfiable,
+}
+
+// "atoms in, atoms out, polynomials in, polynomials out (table sizes)"
+pub struct Counts {
+    pub atoms_in: usize,
+    pub atoms_out: usize,
+    pub polynomials_in: usize,
+    pub polynomials_out: usize,
+}
+
+// A refusal's number, or the verdict, the new block's length in bytes and the counts.
+pub enum Answer {
+    Refused(u8),
+    Answered {
+        verdict: Verdict,
+        length: usize,
+        counts: Counts,
+    },
+}
+
+// "ALWAYS is written as an AND with no children, UNSATISFIABLE as an OR with none": the kind of the root, and how many nodes there are.
+fn verdict_of(root: u8, tokens: usize) -> Verdict
+    ensures { λ r. ⌜ r ≡ verdictFrom root tokens ⌝ }
+{
+    if tokens == 1 {
+        if root == 1 {
+            return Verdict::Always;
+        }
+        if root == 2 {
+            return Verdict::Unsatisfiable;
+        }
+    }
+    Verdict::Formula
+}
+
+// Drops the bits that the level rules carry along in an atom's token; a node's token stays.
+fn plain_tokens(token: &mut [u32], count: usize)
+    requires { ⌜ count ≤ length (now token) ⌝ }
+    ensures { λ _. ⌜ now (token .exit) ≡ plainTokens count (now (token .entry)) ⌝ }
+{
+    let mut i = 0;
+    while i < count {
+        let at = i;
+        i += 1;
+        let t = token[at];
+        if t < 16777216 {
+            token[at] = t % 512;
+        }
+    }
+}
+
+// The answer to what was read.
+fn answer_to(given: Held, output: &mut [u8]) -> Answer
+    requires { ⌜ AcceptedSome given (length (now output)) ⌝ }
+    ensures { λ r. ⌜ ((bytes : List ℕ) → Accepted bytes given (length (now (output .entry))) → Answers bytes (now (output .entry)) (now (output .exit)) r) ⌝ }
+{
+    let variables = given.variables;
+    let polynomials = given.polynomials;
+    let root = given.root;
+    let count = given.tokens;
+    let coefficient = given.coefficient;
+    let monomial = given.monomial;
+    let terms = given.terms;
+    let mut token = given.token;
+    let table = working(&coefficient, &monomial, &terms, polynomials, variables);
+    let number = table.number;
+    let turned = table.turned;
+    normal_tokens(&mut token, count, &number, &turned);
+    let form_coefficient = table.coefficient;
+    let form_monomial = table.monomial;
+    let form_terms = table.terms;
+    let tree = simplified(
+        &form_coefficient,
+        &form_monomial,
+        &form_terms,
+        variables,
+        &token,
+        root,
+    );
+    let new_root = tree.root;
+    let row = tree.tokens;
+    let new_count = row.count;
+    let mut tape = row.token;
+    plain_tokens(&mut tape, new_count);
+    let atoms_in = atoms(&token, count);
+    let atoms_out = atoms(&tape, new_count);
+    let new = collect(
+        &form_coefficient,
+        &form_monomial,
+        &form_terms,
+        variables,
+        new_root,
+        &tape,
+        new_count,
+    );
+    let verdict = verdict_of(new.root, new.tokens);
+    let counts = Counts {
+        atoms_in: atoms_in,
+        atoms_out: atoms_out,
+        polynomials_in: polynomials,
+        polynomials_out: new.polynomials,
+    };
+    let length = write(new, output);
+    Answer::Answered {
+        verdict: verdict,
+        length: length,
+        counts: counts,
+    }
+}
+
+// Reads a block, simplifies it and writes the new block to the output's first bytes. Every input is answered or refused.
+pub fn simplify(input: &[u8], output: &mut [u8]) -> Answer
+    ensures { λ r. ⌜ Answers (now (input .entry)) (now (output .entry)) (now (output .exit)) r
+        × SameLifts (readBlock (now (input .entry))) (answer (length (now (output .entry))) (now (input .entry)))
+        × NeverLonger (now (input .entry)) (answer (length (now (output .entry))) (now (input .entry))) ⌝ }
+{
+    if output.len() < input.len() {
+        return Answer::Refused(1);
+    }
+    let outcome = read(input);
+    let number = outcome.refusal;
+    if number > 0 {
+        return Answer::Refused(number);
+    }
+    let held = outcome.held;
+    answer_to(held, output)
+}
