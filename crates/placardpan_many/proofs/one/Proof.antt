@@ -1,0 +1,17 @@
+-- `placardpan_many::one` answers the frame that was read, which lies within the buffer. Assumes nothing.
+use mathlib.Core.Path.{sym}
+use lib.Seq.{length-take-le}
+use borrow.Author.Needs.{needs}
+use Rattle.placardpan_many.proofs.one.Statement.{statement}
+use Rattle.placardpan_many.proofs.one.Tie as tie
+
+slice-aggregate-answer : tie.Need-slice-aggregate-answer
+slice-aggregate-answer c =
+    sym (length-take-le (c .before .before .before .before .before .next .result .length) (c .before .before .before .before .before .next .last .0) (c .before .before .before .before .before .next .ensures))
+
+pub one-spec : {M : Type 1} → statement M
+one-spec =
+    tie.close
+    (tie.spec (λ c κs. search needs) (λ c. search needs) (λ c. search needs) slice-aggregate-answer (λ c κs. search needs) (λ c. search needs)
+    (λ c. search needs) (λ c κs. search needs) (λ c. search needs) (λ c. search needs) (λ c. search needs) (λ c. search needs) (λ c. search needs)
+    (λ c. search needs) (λ c. search needs) (λ c. search needs))
