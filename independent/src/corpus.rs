@@ -15,6 +15,12 @@ pub fn valid(seed: u64, count: usize) -> Vec<Vec<u8>> {
     (0..count).map(|_| write(&random_formula(&mut random))).collect()
 }
 
+/// Whole trees: nesting up to 6, every fourth tree with the 255 nodes that a block can have.
+pub fn trees(seed: u64, count: usize) -> Vec<Vec<u8>> {
+    let mut random = Random::new(seed);
+    (0..count).map(|index| write(&whole_tree(&mut random, index % 4 == 0))).collect()
+}
+
 pub fn damaged(seed: u64, count: usize) -> Vec<Vec<u8>> {
     let mut random = Random::new(seed);
     (0..count).map(|_| damaged_block(&mut random)).collect()
@@ -206,6 +212,19 @@ enum Density {
     Any,
 }
 
+/// A tree with as many nodes as are asked for.
+fn whole_tree(random: &mut Random, largest: bool) -> Formula {
+    let variables = 1 + random.below(6);
+    let polynomials = 4 + random.below(if largest { 60 } else { 20 });
+    let table = random_table(random, variables, polynomials);
+    let nodes = if largest { 255 } else { 20 + random.below(200) };
+    let deepest = 3 + random.below(4);
+    let mut grower = Grower::new(random, &table, variables, deepest);
+    let and = grower.random.percent(50);
+    let tree = grower.node_of(and, 1, nodes);
+    Formula { variables, table, tree }
+}
+
 /// A tree with nesting up to 6 over related polynomials.
 fn nested(random: &mut Random, variables: usize, density: Density) -> Formula {
     let crowded = density == Density::Crowded;
@@ -218,21 +237,7 @@ fn nested(random: &mut Random, variables: usize, density: Density) -> Formula {
     };
     let table = random_table(random, variables, polynomials);
     let deepest = if crowded { 3 + random.below(4) } else { 1 + random.below(6) };
-    let mut grower = Grower {
-        random,
-        table: &table,
-        true_at: vec![],
-        false_at: vec![],
-        steered: false,
-        deepest,
-        nodes_left: 0,
-    };
-    for _ in 0..variables {
-        let (one, other) = (grower.random.between(-3, 3), grower.random.between(-3, 3));
-        grower.true_at.push(one);
-        grower.false_at.push(other);
-    }
-    grower.steered = grower.random.percent(75);
+    let mut grower = Grower::new(random, &table, variables, deepest);
     grower.nodes_left = match grower.random.below(40) {
         _ if crowded => 8 + grower.random.below(32),
         0..=29 => 3 + grower.random.below(14),
@@ -255,7 +260,38 @@ struct Grower<'a> {
     nodes_left: usize,
 }
 
-impl Grower<'_> {
+impl<'a> Grower<'a> {
+    fn new(random: &'a mut Random, table: &'a [Polynomial], variables: usize, deepest: usize) -> Self {
+        let (mut true_at, mut false_at) = (vec![], vec![]);
+        for _ in 0..variables {
+            true_at.push(random.between(-3, 3));
+            false_at.push(random.between(-3, 3));
+        }
+        let steered = random.percent(75);
+        Grower { random, table, true_at, false_at, steered, deepest, nodes_left: 0 }
+    }
+
+    /// A node with this many nodes in all.
+    fn node_of(&mut self, and: bool, nesting: usize, nodes: usize) -> Node<usize> {
+        let mut left = nodes - 1;
+        let mut parts = vec![];
+        while left > 0 {
+            if nesting < self.deepest && left > 2 && self.random.percent(45) {
+                let own = 3 + self.random.below(left - 2);
+                parts.push(self.node_of(!and, nesting + 1, own));
+                left -= own;
+            } else {
+                parts.push(self.atom(and));
+                left -= 1;
+            }
+        }
+        if and {
+            Node::And(parts)
+        } else {
+            Node::Or(parts)
+        }
+    }
+
     fn node(&mut self, and: bool, nesting: usize) -> Node<usize> {
         self.nodes_left = self.nodes_left.saturating_sub(1);
         let wanted = match self.random.below(20) {

@@ -10,7 +10,7 @@ use independent::{block, book, check, corpus, edge, engine};
 
 const USAGE: &str =
     "usage: independent [many | read | describe | deductions | lists | corpus KIND SEED COUNT | book SEED COUNT | check SEED COUNT]\n\
-                     KIND is valid, damaged, edge, cases, deductions or lists\n";
+                     KIND is valid, damaged, trees, edge, cases, deductions or lists\n";
 
 fn main() -> ExitCode {
     let arguments: Vec<String> = std::env::args().skip(1).collect();
@@ -88,6 +88,7 @@ fn write_corpus(kind: &str, seed: u64, count: usize) -> io::Result<ExitCode> {
     let blocks = match kind {
         "valid" => corpus::valid(seed, count),
         "damaged" => corpus::damaged(seed, count),
+        "trees" => corpus::trees(seed, count),
         "edge" => edge::blocks().into_iter().map(|edge| edge.bytes).collect(),
         "deductions" => engine::deductions(seed, count),
         "lists" => engine::lists(seed, count),
