@@ -53,11 +53,11 @@ written (book.refusal number) output = output
 written (book.answered verdict bytes counts) output = bytes ++ drop (length bytes) output
 
 -- "returns its number and length 0": 01's two numbers of what is returned. An answer has no refusal number: 0.
-unfoldable pub refusalIn : Answer → ℕ
+abbrev pub refusalIn : Answer → ℕ
 refusalIn (Refused number) = number
 refusalIn (Answered verdict length counts) = 0
 
-unfoldable pub lengthIn : Answer → ℕ
+abbrev pub lengthIn : Answer → ℕ
 lengthIn (Refused number) = 0
 lengthIn (Answered verdict length counts) = length
 

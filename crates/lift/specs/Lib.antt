@@ -6,3 +6,6 @@ pub mod Refusals
 pub mod Writing
 pub mod Entry
 pub mod Way
+pub mod Bounds
+pub mod Part
+pub mod Exported

@@ -1,36 +1,44 @@
--- 01, "Refusal numbers": they count from 1, so the number 0 says that a block was read.
+-- 01, "Refusal numbers": they go from 1 to 15, so the number 0 says that a block was read.
 use mathlib.Core.Path.{_≡_, refl, sym, ap, subst}
 use mathlib.Core.Bool.{Bool, true, false}
 use mathlib.Core.List.{List}
-use Prim.Native.Nat.{ℕ, zero, suc, _<_}
+use Prim.Native.Nat.{ℕ, zero, suc, _<_, _≤_}
 use native.Mathlib.Omega.{arith}
-use lib.Dec.{lit<}
+use lib.Dec.{T, leb, ltb, lit<, lit≤}
 use Rattle.rules.specs.Formula.{Node}
 use Rattle.rules.specs.Block.{NumberedAtom, Block, Stream, Reading, refused, read, require, afterwards, readTerm, readTerms, readPolynomial, readTable, readAtom, readJoin}
 use Rattle.rules.specs.Block.{byKind, readNodeBy, readParts, readNode, readEnd, readBody, readBlock}
 use Rattle.block.specs.declared.Outcome.{Outcome}
 use Rattle.block.specs.Held.{heldOf, outcomeOf}
 
--- What was read, or a refusal with a number above 0.
+-- A number of the table.
+pub record Listed (number : ℕ) : Type 0 where
+  pub from-one : 0 < number
+  pub to-fifteen : number ≤ 15
+
+pub listed : {number : ℕ} → T (ltb 0 number) → T (leb number 15) → Listed number
+listed some few = record { from-one = lit< some; to-fifteen = lit≤ few }
+
+-- What was read, or a refusal with a number of the table.
 pub data Numbered {A : Type 0} : Reading A → Type 0 where
   was-read : {a : A} {s : Stream} → Numbered (read a s)
-  was-refused : {number : ℕ} → 0 < number → Numbered (refused number)
+  was-refused : {number : ℕ} → Listed number → Numbered (refused number)
 
-required : {A : Type 0} (test : Bool) (number : ℕ) {reading : Reading A} → 0 < number → Numbered reading → Numbered (require test number reading)
+required : {A : Type 0} (test : Bool) (number : ℕ) {reading : Reading A} → Listed number → Numbered reading → Numbered (require test number reading)
 unfolding require
-required true number some n = n
-required false number some n = was-refused some
+required true number in-table n = n
+required false number in-table n = was-refused in-table
 
 both : {A B : Type 0} (first : Reading A) (more : A → Stream → Reading B) → Numbered first → ((a : A) (s : Stream) → Numbered (more a s)) → Numbered (afterwards first more)
 unfolding afterwards
-both (refused number) more (was-refused some) then-more = was-refused some
+both (refused number) more (was-refused in-table) then-more = was-refused in-table
 both (read a s) more n then-more = then-more a s
 
 -- ---- the table
 
 term : (n above : ℕ) (s : Stream) → Numbered (readTerm n above s)
 unfolding readTerm
-term n above s = required _ 6 (lit< tt) (required _ 8 (lit< tt) (required _ 9 (lit< tt) was-read))
+term n above s = required _ 6 (listed tt tt) (required _ 8 (listed tt tt) (required _ 9 (listed tt tt) was-read))
 
 terms : (count n above : ℕ) (s : Stream) → Numbered (readTerms count n above s)
 unfolding readTerms
@@ -39,7 +47,7 @@ terms (suc count) n above s = both (readTerm n above s) _ (term n above s) (λ t
 
 polynomial : (n : ℕ) (s : Stream) → Numbered (readPolynomial n s)
 unfolding readPolynomial
-polynomial n s = required _ 6 (lit< tt) (required _ 7 (lit< tt) (terms _ n _ _))
+polynomial n s = required _ 6 (listed tt tt) (required _ 7 (listed tt tt) (terms _ n _ _))
 
 table : (m n : ℕ) (s : Stream) → Numbered (readTable m n s)
 unfolding readTable
@@ -50,7 +58,7 @@ table (suc m) n s = both (readPolynomial n s) _ (polynomial n s) (λ p s₁. bot
 
 atom : (m allowed : ℕ) (bits : List Bool) → Numbered (readAtom m allowed bits)
 unfolding readAtom
-atom m allowed bits = required _ 6 (lit< tt) (required _ 11 (lit< tt) was-read)
+atom m allowed bits = required _ 6 (listed tt tt) (required _ 11 (listed tt tt) was-read)
 
 by-kind : {A : Type 0} (is-atom : Bool) {ofAtom ofJoin : Reading A} → Numbered ofAtom → Numbered ofJoin → Numbered (byKind is-atom ofAtom ofJoin)
 unfolding byKind
@@ -61,8 +69,8 @@ node-by : (inside : ℕ → ℕ → Stream → Reading (Node NumberedAtom)) → 
     → (m parent : ℕ) (s : Stream) → Numbered (readNodeBy inside m parent s)
 unfolding readNodeBy readJoin
 node-by inside n m parent s =
-    required _ 14 (lit< tt) (required _ 6 (lit< tt) (required _ 10 (lit< tt)
-    (by-kind _ (atom m _ _) (required _ 6 (lit< tt) (required _ 12 (lit< tt) (n _ _ _))))))
+    required _ 14 (listed tt tt) (required _ 6 (listed tt tt) (required _ 10 (listed tt tt)
+    (by-kind _ (atom m _ _) (required _ 6 (listed tt tt) (required _ 12 (listed tt tt) (n _ _ _))))))
 
 parts : (readOne : Stream → Reading (Node NumberedAtom)) → ((s : Stream) → Numbered (readOne s)) → (count : ℕ) (s : Stream) → Numbered (readParts readOne count s)
 unfolding readParts
@@ -71,7 +79,7 @@ parts readOne n (suc count) s = both (readOne s) _ (n s) (λ node s₁. both (re
 
 node : (d m parent : ℕ) (s : Stream) → Numbered (readNode d m parent s)
 unfolding readNode
-node zero m parent s = node-by _ (λ kind count s₁. was-refused (lit< tt)) m parent s
+node zero m parent s = node-by _ (λ kind count s₁. was-refused (listed tt tt)) m parent s
 node (suc d) m parent s = node-by _ (λ kind count s₁. both _ _ (parts (readNode d m kind) (node d m kind) count s₁) (λ kids s₂. was-read)) m parent s
 
 -- ---- the block
@@ -79,22 +87,19 @@ node (suc d) m parent s = node-by _ (λ kind count s₁. both _ _ (parts (readNo
 body : (n m : ℕ) (s : Stream) → Numbered (readBody n m s)
 unfolding readBody readEnd
 body n m s =
-    both (readTable m n s) _ (table m n s) (λ read-table s₁. both (readNode 6 m 0 s₁) _ (node 6 m 0 s₁) (λ tree s₂. required _ 14 (lit< tt) (required _ 15 (lit< tt) was-read)))
+    both (readTable m n s) _ (table m n s) (λ read-table s₁. both (readNode 6 m 0 s₁) _ (node 6 m 0 s₁) (λ tree s₂. required _ 14 (listed tt tt) (required _ 15 (listed tt tt) was-read)))
 
 -- The reading of any bytes is so numbered.
 pub reading-numbered : (bytes : List ℕ) → Numbered (readBlock bytes)
 unfolding readBlock
-reading-numbered bytes = required _ 2 (lit< tt) (required _ 3 (lit< tt) (required _ 4 (lit< tt) (required _ 5 (lit< tt) (body _ _ _))))
+reading-numbered bytes = required _ 2 (listed tt tt) (required _ 3 (listed tt tt) (required _ 4 (listed tt tt) (required _ 5 (listed tt tt) (body _ _ _))))
 
-above-zero : {A : Type 0} {reading : Reading A} {number : ℕ} → Numbered reading → reading ≡ refused number → 0 < number
-above-zero n e = number-of (subst Numbered e n)
-  where
-    number-of : {A : Type 0} {number : ℕ} → Numbered {A = A} (refused number) → 0 < number
-    number-of (was-refused some) = some
+number-of : {A : Type 0} {number : ℕ} → Numbered {A = A} (refused number) → Listed number
+number-of (was-refused in-table) = in-table
 
--- So what is refused is refused with a number above 0.
-pub refused-above-zero : (bytes : List ℕ) {number : ℕ} → readBlock bytes ≡ refused number → 0 < number
-refused-above-zero bytes e = above-zero (reading-numbered bytes) e
+-- So what is refused is refused with a number of the table.
+pub refused-listed : (bytes : List ℕ) {number : ℕ} → readBlock bytes ≡ refused number → Listed number
+refused-listed bytes e = number-of (subst Numbered e (reading-numbered bytes))
 
 -- ---- the reader's outcome
 
@@ -119,5 +124,5 @@ unfolding outcomeOf
 outcome-read bytes {outcome} e none = by (readBlock bytes) refl e
   where
     by : (reading : Reading Block) → readBlock bytes ≡ reading → outcome ≡ outcomeOf reading → WasRead bytes outcome
-    by (refused number) r e = absurd (omega (arith, refused-above-zero bytes r, ap (λ (o : Outcome). o .refusal) e))
+    by (refused number) r e = absurd (omega (arith, refused-listed bytes r .from-one, ap (λ (o : Outcome). o .refusal) e))
     by (read block s) r e = record { given = block; stream = s; accepted = r; held = ap (λ (o : Outcome). o .held) e }

@@ -1,21 +1,26 @@
-// The public entry: a lift condition block is read, simplified and written again.
+// The public entries: a lift condition block is read, simplified and written again.
 // 01, "Refusal numbers": a refusal leaves before anything is written.
 ghost use mathlib.Core.Path.{_≡_};
 ghost use mathlib.Core.List.{List};
 ghost use Prim.Native.Nat.{ℕ, _≤_};
+ghost use lib.Dec.{eqb};
 ghost use lib.ListN.{length};
+ghost use denote.Ref.{ptr};
 ghost use Rattle.rules.specs.Block.{readBlock};
 ghost use Rattle.rules.specs.Answer.{answer};
 ghost use Rattle.rules.specs.Demands.{SameLifts, NeverLonger};
 ghost use Rattle.lift.specs.Tapes.{plainTokens};
-ghost use Rattle.lift.specs.Answered.{verdictFrom};
+ghost use Rattle.lift.specs.Answered.{verdictFrom, lengthIn};
 ghost use Rattle.lift.specs.Entry.{Accepted, AcceptedSome, Answers};
+ghost use Rattle.lift.specs.Part.{filledPart, isRefusal};
+
+mod exported; // the entries for C
+
 use block::Held;
 use block::read;
 use block::write;
 use forms::normal_tokens;
 use forms::working;
-use level::simplified;
 use used::atoms;
 use used::collect;
 
@@ -95,7 +100,7 @@ fn answer_to(given: Held, output: &mut [u8]) -> Answer
     let form_coefficient = table.coefficient;
     let form_monomial = table.monomial;
     let form_terms = table.terms;
-    let tree = simplified(
+    let tree = level::simplified(
         &form_coefficient,
         &form_monomial,
         &form_terms,
@@ -150,4 +155,27 @@ pub fn simplify(input: &[u8], output: &mut [u8]) -> Answer
     }
     let held = outcome.held;
     answer_to(held, output)
+}
+
+// "A refusal returns its number and length 0"; an answer has its length.
+fn length_in(answer: Answer) -> usize
+    ensures { λ r. ⌜ r ≡ lengthIn answer ⌝ }
+{
+    match answer {
+        Answer::Refused(_) => 0,
+        Answer::Answered {
+            verdict: _,
+            length,
+            counts: _,
+        } => length,
+    }
+}
+
+// The second entry: "gives back the filled part of the lent output itself, empty exactly on refusal".
+pub fn simplified<'a>(input: &[u8], output: &'a mut [u8]) -> &'a mut [u8]
+    ensures { λ r. let given = answer (length (now (output .entry))) (now (input .entry)) in
+        ⌜ (now r ≡ filledPart given) × (ptr r ≡ ptr (output .entry)) × (eqb (length (now r)) 0 ≡ isRefusal given) ⌝ }
+{
+    let filled = length_in(simplify(input, output));
+    &mut output[..filled]
 }

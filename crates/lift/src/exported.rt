@@ -1,0 +1,103 @@
+// The entries for C, declared in `include/placardpan.h`: to C a slice is a pointer and a length, and each outcome is one number.
+// `specs/Exported.antt` has the number for each case of the book's answer.
+ghost use mathlib.Core.Path.{_≡_};
+ghost use Prim.Native.Nat.{_<_};
+ghost use lib.ListN.{length};
+ghost use Rattle.rules.specs.Answer.{answer};
+ghost use Rattle.lift.specs.Answered.{lengthIn, written};
+ghost use Rattle.lift.specs.Part.{filledPart};
+ghost use Rattle.lift.specs.Exported.{exported, counted, packedOf, numberIn, countsOrZero};
+use crate::Answer;
+use crate::Counts;
+use crate::Verdict;
+use crate::length_in;
+use crate::simplify;
+
+// The verdict's number and the length in one; a block has at most 12,684 bytes.
+fn packed(verdict: Verdict, size: usize) -> u32
+    requires { ⌜ size < 65536 ⌝ }
+    ensures { λ r. ⌜ r ≡ packedOf verdict size ⌝ }
+{
+    match verdict {
+        Verdict::Formula => 65536 + size as u32,
+        Verdict::Always => 131072 + size as u32,
+        Verdict::Unsatisfiable => 196608 + size as u32,
+    }
+}
+
+// A refusal's own number, or that of the verdict and the length.
+fn number_in(answer: Answer) -> u32
+    requires { ⌜ lengthIn answer < 65536 ⌝ }
+    ensures { λ r. ⌜ r ≡ numberIn answer ⌝ }
+{
+    match answer {
+        Answer::Refused(number) => number as u32,
+        Answer::Answered {
+            verdict,
+            length,
+            counts: _,
+        } => packed(verdict, length),
+    }
+}
+
+// An answer has its counts, a refusal none: 0.
+fn counts_or_zero(answer: Answer) -> Counts
+    ensures { λ r. ⌜ r ≡ countsOrZero answer ⌝ }
+{
+    match answer {
+        Answer::Refused(_) => Counts {
+            atoms_in: 0,
+            atoms_out: 0,
+            polynomials_in: 0,
+            polynomials_out: 0,
+        },
+        Answer::Answered {
+            verdict: _,
+            length: _,
+            counts,
+        } => counts,
+    }
+}
+
+// `simplify`: below 256 the refusal's number, else the verdict and the length.
+#[no_mangle]
+pub extern "C" fn placardpan_simplify(input: &[u8], output: &mut [u8]) -> u32
+    ensures { λ r. let given = answer (length (now (output .entry))) (now (input .entry)) in
+        ⌜ (r ≡ exported given) × (now (output .exit) ≡ written given (now (output .entry))) ⌝ }
+{
+    let given = simplify(input, output);
+    number_in(given)
+}
+
+// `simplified`: the filled part is the output's start, and this its length, 0 exactly on refusal.
+#[no_mangle]
+pub extern "C" fn placardpan_simplified(input: &[u8], output: &mut [u8]) -> usize
+    ensures { λ r. let given = answer (length (now (output .entry))) (now (input .entry)) in
+        ⌜ (r ≡ length (filledPart given)) × (now (output .exit) ≡ written given (now (output .entry))) ⌝ }
+{
+    length_in(simplify(input, output))
+}
+
+// `simplify` with the counts, each through a number of the caller's.
+#[no_mangle]
+pub extern "C" fn placardpan_counted(
+    input: &[u8],
+    output: &mut [u8],
+    atoms_in: &mut usize,
+    atoms_out: &mut usize,
+    polynomials_in: &mut usize,
+    polynomials_out: &mut usize,
+) -> u32
+    ensures { λ r. let given = answer (length (now (output .entry))) (now (input .entry)) in
+        ⌜ (r ≡ exported given) × (now (output .exit) ≡ written given (now (output .entry)))
+        × (now («atoms_in» .exit) ≡ counted given .atoms-in) × (now («atoms_out» .exit) ≡ counted given .atoms-out)
+        × (now («polynomials_in» .exit) ≡ counted given .polynomials-in) × (now («polynomials_out» .exit) ≡ counted given .polynomials-out) ⌝ }
+{
+    let given = simplify(input, output);
+    let counts = counts_or_zero(given);
+    *atoms_in = counts.atoms_in;
+    *atoms_out = counts.atoms_out;
+    *polynomials_in = counts.polynomials_in;
+    *polynomials_out = counts.polynomials_out;
+    number_in(given)
+}
