@@ -9,3 +9,4 @@ pub mod Way
 pub mod Bounds
 pub mod Part
 pub mod Exported
+pub mod Lines

@@ -7,10 +7,12 @@ ghost use Rattle.rules.specs.Answer.{answer};
 ghost use Rattle.lift.specs.Answered.{lengthIn, written};
 ghost use Rattle.lift.specs.Part.{filledPart};
 ghost use Rattle.lift.specs.Exported.{exported, counted, packedOf, numberIn, countsOrZero};
+ghost use Rattle.lift.specs.Lines.{Reports};
 use crate::Answer;
 use crate::Counts;
 use crate::Verdict;
 use crate::length_in;
+use crate::report;
 use crate::simplify;
 
 // The verdict's number and the length in one; a block has at most 12,684 bytes.
@@ -100,4 +102,12 @@ pub extern "C" fn placardpan_counted(
     *polynomials_in = counts.polynomials_in;
     *polynomials_out = counts.polynomials_out;
     number_in(given)
+}
+
+// `report`: the program's lines in the caller's text, and how many bytes they are; 0 if they do not fit.
+#[no_mangle]
+pub extern "C" fn placardpan_report(input: &[u8], output: &mut [u8], text: &mut [u8]) -> usize
+    ensures { λ r. ⌜ Reports (now (input .entry)) (now (output .entry)) (now (output .exit)) (now (text .entry)) (now (text .exit)) r ⌝ }
+{
+    report(input, output, text)
 }

@@ -15,12 +15,14 @@ ghost use Rattle.lift.specs.Entry.{Accepted, AcceptedSome, Answers};
 ghost use Rattle.lift.specs.Part.{filledPart, isRefusal};
 
 mod exported; // the entries for C
+mod telling; // the program's lines
 
 use block::Held;
 use block::read;
 use block::write;
 use forms::normal_tokens;
 use forms::working;
+pub use telling::report;
 use used::atoms;
 use used::collect;
 

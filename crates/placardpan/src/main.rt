@@ -1,0 +1,14 @@
+// The program of document 01: a block on standard input, the report line and, except on refusal, the new block in hex on standard output.
+// Thin over `lift::report`.
+use libc::STDIN_FILENO;
+use printing::print_answer;
+
+// "It reads at most 32,768 bytes of a block on standard input; the rest is not read." The lines of an answer take at most 38,082 bytes
+// (`lift/specs/Lines.antt: lines-fit`).
+fn main() {
+    let mut space = [0u8; 32768];
+    let length = io::read_full(STDIN_FILENO, &mut space);
+    let mut output = [0u8; 32768];
+    let mut text = [0u8; 38082];
+    print_answer(&space[..length], &mut output, &mut text);
+}

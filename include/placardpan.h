@@ -1,0 +1,93 @@
+/* Placardpan for C: a lift condition block is read, simplified and written again, or refused by a number.
+ * The functions are those of liblift.a; docs/LINKING.md says how to link it and what a caller holds to.
+ *
+ * A lent slice is a pointer and a length in bytes. In every call
+ *   - the pointers are not null, also where the length is 0, and the bytes from each on are the caller's, as many as the length says;
+ *   - input, output, text and the counts do not overlap each other;
+ *   - the output is at least as long as the input, else the answer is refusal 1.
+ * Nothing is kept after the call, and there is no state between calls: they may run in several threads at once.
+ * A call takes some 180 KiB of stack; give its thread 256 KiB or more.
+ */
+#ifndef PLACARDPAN_H
+#define PLACARDPAN_H
+
+#include <stddef.h>
+#include <stdint.h>
+
+#ifdef __cplusplus
+extern "C" {
+#endif
+
+/* The verdicts. An answer without a condition is written as an AND or an OR with no children. */
+enum {
+    PLACARDPAN_FORMULA = 1,
+    PLACARDPAN_ALWAYS = 2,
+    PLACARDPAN_UNSATISFIABLE = 3
+};
+
+/* The refusals. 1 to 5 are tried in that order, 5 in field order; the rest is met in reading order. */
+enum {
+    PLACARDPAN_OUTPUT_SHORTER = 1,   /* lent output shorter than lent input */
+    PLACARDPAN_UNDER_5_BYTES = 2,    /* input under 5 bytes */
+    PLACARDPAN_EDITION = 3,          /* edition not 1 */
+    PLACARDPAN_LENGTH_FIELD = 4,     /* length field differs from input length */
+    PLACARDPAN_HEAD_COUNT = 5,       /* n, m or node count not allowed */
+    PLACARDPAN_BITS_END = 6,         /* bits end inside a field */
+    PLACARDPAN_TERM_COUNT = 7,       /* term count 0 or above 16 */
+    PLACARDPAN_MAGNITUDE_0 = 8,      /* magnitude 0 */
+    PLACARDPAN_EXPONENTS = 9,        /* exponents do not fall strictly */
+    PLACARDPAN_KIND_3 = 10,          /* kind 3 */
+    PLACARDPAN_POLYNOMIAL = 11,      /* polynomial number m or above */
+    PLACARDPAN_SAME_KIND_BELOW = 12, /* AND under AND or OR under OR */
+    PLACARDPAN_NESTING = 13,         /* nesting above 6 */
+    PLACARDPAN_NODE_COUNT = 14,      /* more or fewer nodes than the head says */
+    PLACARDPAN_PADDING = 15          /* padding not zero, or a whole byte left over */
+};
+
+/* A new block has at least 5 and at most this many bytes, and never more than the block it came from. */
+#define PLACARDPAN_LONGEST_BLOCK 12684
+
+/* Simplifies a block. The answer is one number: below 256 a refusal's number, else 65,536 times the verdict plus the new block's length.
+ * A refusal leaves each byte of the output as it is. Else the output's first bytes are the new block and the rest keep their values. */
+uint32_t placardpan_simplify(const uint8_t *input, size_t input_length, uint8_t *output, size_t output_length);
+
+/* The refusal's number, 0 if it is an answer. */
+static inline uint32_t placardpan_refusal(uint32_t answer)
+{
+    return answer < 256 ? answer : 0;
+}
+
+/* The verdict, 0 on refusal. */
+static inline uint32_t placardpan_verdict(uint32_t answer)
+{
+    return answer >> 16;
+}
+
+/* The new block's length in bytes, 0 on refusal. */
+static inline size_t placardpan_length(uint32_t answer)
+{
+    return answer < 256 ? 0 : answer & 0xffff;
+}
+
+/* The same, with the counts over the two blocks, each through a number of the caller's; all 0 on refusal. */
+uint32_t placardpan_counted(const uint8_t *input, size_t input_length, uint8_t *output, size_t output_length,
+                            size_t *atoms_in, size_t *atoms_out, size_t *polynomials_in, size_t *polynomials_out);
+
+/* Simplifies a block and returns the length of the filled part of the output, which is its start: the new block's length, 0 exactly on refusal.
+ * The output is left as by placardpan_simplify. */
+size_t placardpan_simplified(const uint8_t *input, size_t input_length, uint8_t *output, size_t output_length);
+
+/* Simplifies a block and writes the program's lines to the text's first bytes: one of the words FORMULA, ALWAYS, UNSATISFIABLE with atoms in, atoms out,
+ * polynomials in, polynomials out, and the new block in lower-case hex pairs, one space apart; or REFUSED and the number. Each line ends with a newline,
+ * and there is no 0 byte. Returns how many bytes the lines are; if they do not fit, 0, and the text keeps each byte. The output is left as by
+ * placardpan_simplify. */
+size_t placardpan_report(const uint8_t *input, size_t input_length, uint8_t *output, size_t output_length, uint8_t *text, size_t text_length);
+
+/* A text in which the lines for an input of this length fit. */
+#define PLACARDPAN_TEXT(input_length) (3 * (size_t)(input_length) + 32)
+
+#ifdef __cplusplus
+}
+#endif
+
+#endif
