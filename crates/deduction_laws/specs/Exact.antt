@@ -114,7 +114,8 @@ unfolding atZero
 facing-by o up r t i h = through-weakly (after-zero t .1 (upward-sign o .1 h)) (i .under)
 facing-by o down r t i h = through (i .over) (opposite-order (at t) atZero .0 (after-zero (opposite t) .1 (opposite-sign o .1 h)))
 
-interior-of : {I J : Fraction → Type 0} {t : Fraction} → ((u : Fraction) → I u → J u) → Interior I t → Interior J t
+-- What is in the interior of a set is in the interior of each set that holds all of it.
+pub interior-of : {I J : Fraction → Type 0} {t : Fraction} → ((u : Fraction) → I u → J u) → Interior I t → Interior J t
 interior-of {t = t} f i = record {
   held = f t (i .held);
   smaller = i .smaller;

@@ -9,6 +9,7 @@ use Rattle.rules.specs.Polynomial.{Atom}
 use Rattle.rules.specs.Rounds.{settled, run}
 use Rattle.rules.specs.Level.{Formula, dual, orParts, parts, never, Walk, falls, still, moved, sweep, afterSweep, afterRounds, afterTidy, settled-down, afterGather}
 use Rattle.ending_laws.specs.Turns.{no-turn-missing}
+use Rattle.removal_laws.specs.Apart.{tidy-apart}
 use Rattle.table.specs.Table.{Table}
 use Rattle.level.specs.declared.rows.Row.{Row}
 use Rattle.level.specs.declared.walks.Level.{Level}
@@ -22,7 +23,7 @@ use Rattle.level.specs.Tape.{Children, none, child, laid, orsIn}
 use Rattle.level.specs.Walked.{walkOf, Shows, Stands, oneIf, room, load, sizeOf}
 use Rattle.level.specs.Tidied.{tidiedOf, Tidies}
 use Rattle.rounds.specs.Views.{stateOf, ending}
-use Rattle.level.specs.Carried.{Carries, Remains}
+use Rattle.level.specs.Carried.{Carries, LeftBy, Remains}
 use Rattle.level.specs.Swept.{SweepIs}
 use Rattle.level.specs.Settled.{NodeIsFalse, resultOf, StageIs, Ready, SettleIs, due, Gathered, FinishIs}
 use Rattle.level.proofs.Listing.{whole}
@@ -31,6 +32,23 @@ use Rattle.level.proofs.Entering.{map-append}
 never-parts : (t : Table) → parts (atomsIn t []) (orsIn t (child [] none none)) ≡ never
 unfolding parts orParts orsIn never dual
 never-parts t = refl
+
+-- ---- what step 3 leaves is what step 5 asks
+
+pub left-by : {t : Table} {l : List ℕ} {m : Tidied} (f : Tidies t l m) → m .broken ≡ false → {c : Carrying} (g : Carries t (f .list) c)
+    → c .contradiction ≡ false → LeftBy t (c .state) (c .list)
+unfolding tidiedOf
+left-by {t} {l} f e g z = record {
+  list = g .list;
+  lists = g .lists;
+  carries = record {
+    given = atomsIn t (f .list);
+    settles = rw z at (g .is);
+    distinct = tidy-apart (atomsIn t l) (rw e at (f .is));
+    variables = g .variables;
+    atoms = sym (g .carries z);
+  };
+}
 
 -- ---- one turn
 

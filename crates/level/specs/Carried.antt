@@ -12,7 +12,9 @@ use Rattle.level.specs.declared.rows.Row.{Row}
 use Rattle.level.specs.declared.carrying.Carrying.{Carrying}
 use Rattle.level.specs.Row.{Lists}
 use Rattle.level.specs.Token.{atomsIn}
+use Rattle.rounds.specs.declared.State.{State}
 use Rattle.rounds.specs.Views.{stateOf, ending}
+use Rattle.rounds.specs.Staying.{CarriedFrom}
 
 -- Tokens with the sets from place i on.
 unfoldable pub withSets : List ℕ → ℕ → List ℕ → List ℕ
@@ -37,6 +39,12 @@ pub record Carries (t : Table) (l : List ℕ) (r : Carrying) : Type 0 where
   pub lists : Lists (r .list) list
   pub same : length list ≡ length l
   pub carries : r .contradiction ≡ false → carried (t .variables) (setsOf (r .state .board)) (atomsIn t l) (atomsOf t (r .state .atoms)) ≡ atomsIn t list
+
+-- What step 5 asks: the row lists what step 3 left beside the state.
+pub record LeftBy (t : Table) (state : State) (row : Row) : Type 0 where
+  pub list : List ℕ
+  pub lists : Lists row list
+  pub carries : CarriedFrom t state (atomsIn t list)
 
 pub record Remains (t : Table) (l : List ℕ) (row : Row) : Type 0 where
   pub list : List ℕ

@@ -6,7 +6,7 @@ ghost use Prim.Native.Nat.{ℕ, _≤_};
 ghost use Rattle.table.specs.Table.{Forms};
 ghost use Rattle.level.specs.Row.{Lists};
 ghost use Rattle.rounds.specs.Views.{lentTable};
-ghost use Rattle.level.specs.Carried.{withSets, remaining, Carries, Remains};
+ghost use Rattle.level.specs.Carried.{withSets, remaining, Carries, LeftBy, Remains};
 use crate::rows::Row;
 use crate::rows::empty;
 use crate::rows::push;
@@ -92,18 +92,20 @@ fn kept_of(row: Row, kept: Remaining) -> Row
     left
 }
 
-// Step 5: "In order, an atom is removed if what the other remaining atoms say of it lies inside its carried set."
+// Step 5: "In order, an atom is removed if what the other remaining atoms say of it lies inside its carried set." The state is the one of step 3.
 pub fn without_implied(
     coefficient: &[i32],
     monomial: &[u64],
     terms: &[u8],
     variables: usize,
     row: Row,
+    state: State,
 ) -> Row
-    requires { ⌜ Forms (lentTable coefficient monomial terms variables) × (row .count ≤ 64) ⌝ }
+    requires { let t = lentTable coefficient monomial terms variables in
+        ⌜ Forms t × ((row .count ≤ 64) × LeftBy t state row) ⌝ }
     ensures { λ r. let t = lentTable (coefficient .entry) (monomial .entry) (terms .entry) variables in ⌜ ((l : List ℕ) → Lists row l → Remains t l r) ⌝ }
 {
     let atoms = atoms_in(row);
-    let kept = remove_implied(coefficient, monomial, terms, variables, atoms);
+    let kept = remove_implied(coefficient, monomial, terms, variables, atoms, state);
     kept_of(row, kept)
 }

@@ -77,7 +77,7 @@ fn turn(
             ors: left,
         };
     }
-    let remaining = without_implied(coefficient, monomial, terms, variables, cut);
+    let remaining = without_implied(coefficient, monomial, terms, variables, cut, state);
     Stage {
         over: true,
         atoms: remaining,

@@ -195,7 +195,7 @@ fn walk_over(
     walked
 }
 
-// The signs are worked out once for the state's board, and serve each atom of each child.
+// The signs are worked out once for the state's board, and serve each atom of each child. Where there is no child they serve nobody.
 pub fn sweep(
     coefficient: &[i32],
     monomial: &[u64],
@@ -207,6 +207,9 @@ pub fn sweep(
     requires { ⌜ Forms (lentTable coefficient monomial terms variables) × ((state .board .variables ≡ variables) × ((ors .count ≤ 256) × ((children : Children) × Lists ors (laid children)))) ⌝ }
     ensures { λ r. let t = lentTable (coefficient .entry) (monomial .entry) (terms .entry) variables in ⌜ ((children : Children) → Lists ors (laid children) → SweepIs t state children r) ⌝ }
 {
+    if ors.count == 0 {
+        return begin();
+    }
     let mut sign = [0u8; 1280];
     let board = state.board;
     sign_terms(board, monomial, &mut sign, 0, 1280);

@@ -3,8 +3,14 @@ pub mod SignedSlots
 pub mod Over
 pub mod Walks
 pub mod Boards
+pub mod Narrowing
+pub mod Locals
+pub mod Lending
+pub mod LentBoard
+pub mod Again
 pub mod Ends
 pub mod Starts
 pub mod Said
 pub mod Carrying
 pub mod Removing
+pub mod Others

@@ -1,7 +1,7 @@
--- Step 5 of a level, atom by atom: an atom that the others imply is passed over, any other joins those that remain.
+-- Step 5 of a level, atom by atom: an atom that does not stay and that the others imply is passed over, any other joins those that remain.
 -- The flags tell the same: at each place passed, whether its atom remains.
 use mathlib.Core.Path.{_≡_, refl, sym, _∙_, ap}
-use mathlib.Core.Bool.{Bool, true, false, not}
+use mathlib.Core.Bool.{Bool, true, false, not, _&&_}
 use mathlib.Core.List.{List, [], _++_, append-nil}
 use mathlib.Core.Option.{none}
 use Prim.Native.Nat.{ℕ, zero, suc, _+_, _-_, _<_, _≤_}
@@ -12,8 +12,9 @@ use lib.ListN.{length, getD, set, length-set}
 use lib.Seq.{getD-set-same, getD-set-other}
 use Rattle.rules.specs.Signs.{SignSet, empty, inside}
 use Rattle.rules.specs.Polynomial.{Atom}
-use Rattle.rules.specs.Rounds.{unlessVariable, run, says, saysIn}
-use Rattle.rules.specs.Level.{keptUnless, implied, removeImplied}
+use Rattle.rules.specs.Rounds.{unlessVariable, State, run, says, saysIn}
+use Rattle.rules.specs.Level.{keptUnless, implied}
+use Rattle.removal_laws.specs.Staying.{staysBy, removeFaster}
 use Rattle.table.specs.declared.Atoms.{Atoms}
 use Rattle.table.specs.Table.{Table, atomAt, atomsFrom, atomsOf, many}
 use Rattle.rounds.specs.declared.Ran.{Ran}
@@ -83,22 +84,23 @@ kept-unless-is false a kept = refl
 -- ---- all atoms
 
 -- Of the first i atoms of the list those of r remain; what is left of the list goes on from them.
-pub record Removing (t : Table) (list : Atoms) (i : ℕ) (r : Remaining) : Type 0 where
+pub record Removing (t : Table) (st : State) (list : Atoms) (i : ℕ) (r : Remaining) : Type 0 where
   pub count : r .atoms .count ≤ i
   pub places : length (r .keep) ≡ 64
   pub keep : keptFrom t (list .number) (list .set) (r .keep) 0 i ≡ atomsOf t (r .atoms)
-  pub remaining : removeImplied (t .variables) (atomsOf t (r .atoms)) (rest t list i) ≡ removeImplied (t .variables) [] (atomsOf t list)
+  pub remaining : removeFaster (t .variables) st (atomsOf t (r .atoms)) (rest t list i) ≡ removeFaster (t .variables) st [] (atomsOf t list)
 
-pub removing-first : (t : Table) (list : Atoms) (numbers : List ℕ) (sets : List SignSet) (keep : List Bool) → length keep ≡ 64
-    → Removing t list 0 (record { atoms = record { count = 0; number = numbers; set = sets }; keep = keep })
+pub removing-first : (t : Table) (st : State) (list : Atoms) (numbers : List ℕ) (sets : List SignSet) (keep : List Bool) → length keep ≡ 64
+    → Removing t st list 0 (record { atoms = record { count = 0; number = numbers; set = sets }; keep = keep })
 unfolding keptFrom atomsFrom
-removing-first t list numbers sets keep e = record { count = omega arith; places = e; keep = refl; remaining = rw sub-zero }
+removing-first t st list numbers sets keep e = record { count = omega arith; places = e; keep = refl; remaining = rw sub-zero }
 
-pub removing-next : {t : Table} {list : Atoms} {i : ℕ} {kept r : Remaining} {out : Bool} → Removing t list i kept → i < many (list .count)
-    → out ≡ implied (t .variables) (atomsOf t (kept .atoms) ++ rest t list (i + 1)) (atomAt t (list .number) (list .set) i) → KeptUnless out kept list i r
-    → Removing t list (i + 1) r
-unfolding removeImplied
-removing-next {t} {list} {i} {kept} {r} {out} removing low e one =
+pub removing-next : {t : Table} {st : State} {list : Atoms} {i : ℕ} {kept r : Remaining} {out : Bool} → Removing t st list i kept → i < many (list .count)
+    → let a = atomAt t (list .number) (list .set) i in
+    out ≡ not (staysBy (t .variables) st a) && implied (t .variables) (atomsOf t (kept .atoms) ++ rest t list (i + 1)) a → KeptUnless out kept list i r
+    → Removing t st list (i + 1) r
+unfolding removeFaster
+removing-next {t} {st} {list} {i} {kept} {r} {out} removing low e one =
     let a = atomAt t (list .number) (list .set) i in
     record {
       count = omega (arith, one .count, removing .count);
@@ -109,10 +111,10 @@ removing-next {t} {list} {i} {kept} {r} {out} removing low e one =
       remaining = rw (one .atoms t, e) (rw (rest-cons t list i low) at (removing .remaining));
     }
 
-pub removing-last : {t : Table} {list : Atoms} {i : ℕ} {r : Remaining} → Removing t list i r → i ≡ many (list .count)
-    → RemainingOf t list (removeImplied (t .variables) [] (atomsOf t list)) r
-unfolding removeImplied
-removing-last {t} {list} {i} {r} removing e =
-    let all : atomsOf t (r .atoms) ≡ removeImplied (t .variables) [] (atomsOf t list) =
+pub removing-last : {t : Table} {st : State} {list : Atoms} {i : ℕ} {r : Remaining} → Removing t st list i r → i ≡ many (list .count)
+    → RemainingOf t list (removeFaster (t .variables) st [] (atomsOf t list)) r
+unfolding removeFaster
+removing-last {t} {st} {list} {i} {r} removing e =
+    let all : atomsOf t (r .atoms) ≡ removeFaster (t .variables) st [] (atomsOf t list) =
     rw (rest-nil t list i (omega arith)) at (removing .remaining) in
     record { atoms = all; keep = ap (λ (k : ℕ). keptFrom t (list .number) (list .set) (r .keep) 0 k) (sym e) ∙ removing .keep ∙ all }

@@ -106,6 +106,27 @@ list-ready {t} b a ss forms same places =
       atoms = λ i h. slots-there board ms ts (atomSlot (a .number)) 0 (many (a .count)) between atoms-low i (omega arith) (omega arith);
     }
 
+-- The signs of another list's atoms, worked out for the board too, keep them so.
+pub list-keeps : {t : Table} (b : Sets) {a : Atoms} {ss : List SignSet} (more : Atoms) → b .variables ≡ t .variables → Ready t (setsOf b) a ss
+    → Ready t (setsOf b) a (signedList b (t .monomial) (t .terms) more ss)
+list-keeps {t} b {a} {ss} more same ready =
+    let board = setsOf b in
+    let ms = t .monomial in
+    let ts = t .terms in
+    let after = list-ready b more ss (ready .forms) same (ready .places) in
+    let before : Slots ms ts ss = form-slots (ready .forms) (ready .places) in
+    let between : Slots ms ts (signedSlots board ms ts variableSlot ss 0 (b .variables)) =
+    same-slots before (length-slots board ms ts variableSlot ss 0 (b .variables)) in
+    let few : b .variables ≤ 16 = omega (arith, ready .forms .variables) in
+    record {
+      forms = ready .forms;
+      places = after .places;
+      variables = after .variables;
+      atoms = λ i h.
+          slots-keep board ms ts (atomSlot (more .number)) 0 (many (more .count)) between (λ j l. omega arith)
+          (slots-keep board ms ts variableSlot 0 (b .variables) before (λ j l. omega arith) (ready .atoms i h));
+    }
+
 -- One slot more, worked out for the board, keeps them so.
 pub slot-ready : {t : Table} {board : Board} {a : Atoms} {ss : List SignSet} (k : ℕ) → k < 80 → Ready t board a ss
     → Ready t board a (signedSlot board (t .monomial) (t .terms) ss k)

@@ -3,3 +3,4 @@ pub mod Signing
 pub mod Round
 pub mod Start
 pub mod Run
+pub mod Staying

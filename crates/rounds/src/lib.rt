@@ -1,17 +1,22 @@
 // Rounds over a list of atoms joined by AND, 01 "Rounds": the run of the rounds, what a list says of a polynomial after them,
 // the sets that its atoms then carry, and which of its atoms the others imply. The table of forms is lent as three slices.
 ghost use mathlib.Core.Path.{_≡_};
+ghost use mathlib.Core.Bool.{not, _&&_};
 ghost use mathlib.Core.List.{[]};
 ghost use mathlib.Core.Option.{none};
 ghost use Prim.Native.Nat.{_+_, _<_, _≤_};
 ghost use lib.ListN.{length};
+ghost use Rattle.rules.specs.Polynomial.{Atom};
 ghost use Rattle.rules.specs.Rounds.{held as heldOf, saysIn, carried as carriedOf};
 ghost use Rattle.rules.specs.Level.{implied as impliedOf, removeImplied};
+ghost use Rattle.removal_laws.specs.Apart.{Apart};
+ghost use Rattle.removal_laws.specs.Staying.{staysBy, removeFaster};
 ghost use Rattle.terms.specs.View.{setsOf};
 ghost use Rattle.terms.specs.Signed.{Signed};
 ghost use Rattle.table.specs.Table.{Table, Forms, formAt, atomsOf};
 ghost use Rattle.rounds.specs.Views.{lentTable, variableOf, Below, stateOf};
 ghost use Rattle.rounds.specs.Signing.{SignedSlot, Ready};
+ghost use Rattle.rounds.specs.Staying.{CarriedFrom};
 ghost use Rattle.rounds.specs.Run.{RunOf, NonVariable, Carried, carriedSet, carriedNext, KeptUnless, RemainingOf};
 use crate::list::joined;
 use crate::list::listed;
@@ -25,6 +30,7 @@ use crate::slots::sign_list;
 use crate::slots::sign_slot;
 use crate::slots::which;
 use crate::start::start;
+use crate::staying::stays;
 use signs::SignSet;
 use table::Atoms;
 use terms::Board;
@@ -33,8 +39,10 @@ use terms::by_terms;
 pub mod list; // lists of atoms
 pub mod slots; // the slots of the table, and the signs in them
 pub mod round; // one round
+pub mod lent; // its turns, on a board that is lent
 pub mod settle; // the rounds to their end
 pub mod start; // where they start
+pub mod staying; // which atoms stay whatever else is removed
 
 // What the rounds work on: the board, and the atoms that are no variable's.
 pub struct State {
@@ -246,6 +254,42 @@ fn implied(
     ).inside(set)
 }
 
+// Whether the atom is removed: the rounds over the others are run only if the settled state leaves it open.
+fn goes(
+    coefficient: &[i32],
+    monomial: &[u64],
+    terms: &[u8],
+    sign: &[u8],
+    variables: usize,
+    state: State,
+    others: Atoms,
+    number: usize,
+    set: SignSet,
+) -> bool
+    requires { let t = lentTable coefficient monomial terms variables in
+        ⌜ Ready t (setsOf (state .board)) (state .atoms) (now sign) × ((state .board .variables ≡ variables) × (number < 64)) ⌝ }
+    requires { let t = lentTable coefficient monomial terms variables in
+        ⌜ SignedSlot t (setsOf (state .board)) (now sign) number × Apart (atomsOf t (state .atoms)) ⌝ }
+    ensures { λ r.
+        let t = lentTable (coefficient .entry) (monomial .entry) (terms .entry) variables in
+        let a : Atom = record { polynomial = formAt t number; set = set .0 } in
+        ⌜ r ≡ not (staysBy variables (stateOf t state) a) && impliedOf variables (atomsOf t others) a ⌝ }
+{
+    if stays(
+        coefficient,
+        monomial,
+        terms,
+        sign,
+        variables,
+        state,
+        number,
+        set,
+    ) {
+        return false;
+    }
+    implied(coefficient, monomial, terms, variables, others, number, set)
+}
+
 // The atom at index i of the list remains, unless it is implied.
 fn kept_unless(out: bool, kept: Remaining, list: Atoms, i: usize) -> Remaining
     requires { ⌜ (i < 64) × (kept .atoms .count < 64) ⌝ }
@@ -264,17 +308,23 @@ fn kept_unless(out: bool, kept: Remaining, list: Atoms, i: usize) -> Remaining
     next
 }
 
-pub fn remove_implied(
+// Step 5 with the test first, where the signs of the state's atoms and of the list's are worked out for the state's board.
+fn remove(
     coefficient: &[i32],
     monomial: &[u64],
     terms: &[u8],
+    sign: &[u8],
     variables: usize,
     list: Atoms,
+    state: State,
 ) -> Remaining
-    requires { ⌜ Forms (lentTable coefficient monomial terms variables) ⌝ }
+    requires { let t = lentTable coefficient monomial terms variables in
+        ⌜ Ready t (setsOf (state .board)) (state .atoms) (now sign) × ((state .board .variables ≡ variables) × Apart (atomsOf t (state .atoms))) ⌝ }
+    requires { let t = lentTable coefficient monomial terms variables in
+        ⌜ Ready t (setsOf (state .board)) list (now sign) ⌝ }
     ensures { λ r.
         let t = lentTable (coefficient .entry) (monomial .entry) (terms .entry) variables in
-        ⌜ RemainingOf t list (removeImplied variables [] (atomsOf t list)) r ⌝ }
+        ⌜ RemainingOf t list (removeFaster variables (stateOf t state) [] (atomsOf t list)) r ⌝ }
 {
     let end = many(list.count);
     let mut kept = Remaining {
@@ -292,11 +342,13 @@ pub fn remove_implied(
         let k = (number % 64) as usize;
         let atoms = kept.atoms;
         let others = joined(atoms, list, i + 1);
-        let out = implied(
+        let out = goes(
             coefficient,
             monomial,
             terms,
+            sign,
             variables,
+            state,
             others,
             k,
             SignSet(set),
@@ -305,4 +357,27 @@ pub fn remove_implied(
         i += 1;
     }
     kept
+}
+
+// The list is the one that step 3 left, with the sets that its atoms carry from the state that its rounds settled in.
+pub fn remove_implied(
+    coefficient: &[i32],
+    monomial: &[u64],
+    terms: &[u8],
+    variables: usize,
+    list: Atoms,
+    state: State,
+) -> Remaining
+    requires { let t = lentTable coefficient monomial terms variables in
+        ⌜ Forms t × CarriedFrom t state (atomsOf t list) ⌝ }
+    ensures { λ r.
+        let t = lentTable (coefficient .entry) (monomial .entry) (terms .entry) variables in
+        ⌜ RemainingOf t list (removeImplied variables [] (atomsOf t list)) r ⌝ }
+{
+    let board = state.board;
+    let atoms = state.atoms;
+    let mut sign = [0u8; 1280];
+    sign_list(board, monomial, terms, atoms, &mut sign);
+    sign_list(board, monomial, terms, list, &mut sign);
+    remove(coefficient, monomial, terms, &sign, variables, list, state)
 }

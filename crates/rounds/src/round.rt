@@ -3,13 +3,14 @@
 ghost use mathlib.Core.Path.{_≡_};
 ghost use mathlib.Core.List.{[]};
 ghost use Prim.Native.Nat.{_+_, _-_, _<_, _≤_};
-ghost use Rattle.rules.specs.Rounds.{cutBy, turn as turnOf, turns as turnsOf, cutAtoms};
+ghost use Rattle.rules.specs.Rounds.{cutBy, turn as turnOf, cutAtoms};
 ghost use Rattle.terms.specs.View.{setsOf};
 ghost use Rattle.table.specs.Table.{Forms, formAt, atomsFrom, atomsOf, many as manyOf};
 ghost use Rattle.rounds.specs.Views.{lentTable, cutSet};
 ghost use Rattle.rounds.specs.Signing.{SignedSlot, Ready};
 ghost use Rattle.rounds.specs.Round.{Turned, Cut, Rounded};
 use crate::State;
+use crate::lent::after_turns;
 use crate::list::many;
 use crate::slots::places;
 use crate::slots::sign_list;
@@ -54,8 +55,8 @@ pub fn cut_by(
     sofar
 }
 
-// Variable i's turn. A turn that leaves the variable's set as it was leaves the signs too.
-fn turn(
+// Variable i's turn, by value. A turn that leaves the variable's set as it was leaves the signs too.
+pub fn turned(
     coefficient: &[i32],
     monomial: &[u64],
     terms: &[u8],
@@ -90,30 +91,6 @@ fn turn(
     let mut turned = board;
     turned.sets[i] = new.0;
     sign_list(turned, monomial, terms, atoms, sign);
-    turned
-}
-
-fn turns(
-    coefficient: &[i32],
-    monomial: &[u64],
-    terms: &[u8],
-    sign: &mut [u8],
-    board: Board,
-    atoms: Atoms,
-) -> Board
-    requires { let t = lentTable coefficient monomial terms (board .variables) in
-        ⌜ Ready t (setsOf board) atoms (now sign) ⌝ }
-    ensures { λ r.
-        let t = lentTable (coefficient .entry) (monomial .entry) (terms .entry) (board .variables) in
-        ⌜ Turned t atoms (turnsOf (board .variables) (atomsOf t atoms) (setsOf board) 0 (board .variables)) r (now (sign .exit)) ⌝ }
-{
-    let n = board.variables;
-    let mut turned = board;
-    let mut i = 0;
-    while i < n {
-        turned = turn(coefficient, monomial, terms, sign, turned, atoms, i);
-        i += 1;
-    }
     turned
 }
 
@@ -202,7 +179,7 @@ pub fn round(coefficient: &[i32], monomial: &[u64], terms: &[u8], state: State) 
     let atoms = state.atoms;
     let mut sign = [0u8; 1280];
     sign_list(board, monomial, terms, atoms, &mut sign);
-    let turned = turns(coefficient, monomial, terms, &mut sign, board, atoms);
+    let turned = after_turns(coefficient, monomial, terms, &mut sign, board, atoms);
     let cut = cut_atoms(coefficient, monomial, terms, &sign, turned, atoms);
     State {
         board: turned,

@@ -1,6 +1,6 @@
 use borrow.Author.Needs.{needs}
 use native.Mathlib.Omega.{arith}
-use Rattle.level.proofs.Stages.{turn-broken, turn-contradiction, turn-falls, turn-moved, turn-over}
+use Rattle.level.proofs.Stages.{turn-broken, turn-contradiction, turn-falls, turn-moved, left-by, turn-over}
 use Rattle.level.proofs.settling.turn.Statement.{statement}
 use Rattle.level.proofs.settling.turn.Tie as tie
 
@@ -47,7 +47,9 @@ without-implied-requires c κs =
     let pre = c .before .before .before .before .before .before .before .before .before .before .before .before .before .before .pre in
     let f = c .before .before .before .before .before .before .before .before .before .before .before .tidy .ensures (pre .1 .list) (pre .1 .lists) in
     let g = c .before .before .before .before .before .before .before .before .carry .ensures (f .list) (f .lists) in
-    (pre .0, omega (arith, f .few, g .same, g .lists .size))
+    let broken = c .before .before .before .before .before .before .before .before .before .before .if1 .left in
+    let contradiction = c .before .before .before .before .before .before .before .if2 .left in
+    (pre .0, (omega (arith, f .few, g .same, g .lists .size), left-by f broken g contradiction))
 
 over : tie.Need-returns-5
 over c l children h k =

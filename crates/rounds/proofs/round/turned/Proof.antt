@@ -1,4 +1,4 @@
--- `turn` meets its contract: the variable's set is stored and the signs worked out anew, or both are as they were.
+-- `turned` meets its contract: the variable's set is stored and the signs worked out anew, or both are as they were.
 use borrow.Author.Needs.{needs}
 use mathlib.Core.Path.{_≡_, refl, _∙_}
 use Prim.Native.Nat.{_<_}
@@ -12,8 +12,8 @@ use Rattle.table.specs.Table.{Table, atomsOf}
 use Rattle.rounds.specs.Views.{lentTable}
 use Rattle.rounds.proofs.SignedSlots.{list-ready}
 use Rattle.rounds.proofs.Boards.{turn-changes, turn-keeps}
-use Rattle.rounds.proofs.round.turn.Statement.{statement}
-use Rattle.rounds.proofs.round.turn.Tie as tie
+use Rattle.rounds.proofs.round.turned.Statement.{statement}
+use Rattle.rounds.proofs.round.turned.Tie as tie
 
 abbrev table : tie.Start → Table
 table s = lentTable (s .args .coefficient) (s .args .monomial) (s .args .terms) (s .args .t5 .variables)
@@ -58,8 +58,8 @@ returns-2 c =
       ready = rw (c .before .before .sign-list .ensures) (list-ready _ (s .args .atoms) _ (ready .forms) refl (ready .places));
     }
 
-pub turn-spec : {M : Type 1} → statement M
-turn-spec =
+pub turned-spec : {M : Type 1} → statement M
+turned-spec =
     tie.close
     (tie.spec (λ c κs. search needs) (λ c. search needs) (λ c. search needs) cut-by-requires (λ c. search needs) returns (λ c. search needs)
     (λ c κs. search needs) (λ c. search needs) returns-2)

@@ -1,0 +1,12 @@
+pub mod Wider
+pub mod Terms
+pub mod Kinds
+pub mod Bullets
+pub mod Deduced
+pub mod Fewer
+pub mod Rounds
+pub mod Settled
+pub mod Starts
+pub mod Apart
+pub mod Said
+pub mod Staying

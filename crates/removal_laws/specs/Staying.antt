@@ -1,0 +1,133 @@
+-- Step 5 without needless rounds: an atom whose carried set the settled state does not imply by the others stays, and no rounds need be run for it.
+-- 01, "A level", step 5: "an atom is removed if what the other remaining atoms (rounds run afresh on them alone) say of it lies inside its carried set"
+use mathlib.Core.Path.{_≡_, refl, sym, ap, _∙_, subst}
+use mathlib.Core.Bool.{Bool, true, false, not, _&&_, false≢true}
+use mathlib.Core.List.{List, [], _∷_, _++_, append-assoc}
+use mathlib.Core.Option.{Option, none, some}
+use Prim.Native.Nat.{ℕ}
+use Rattle.rules.specs.Signs.{inside}
+use Rattle.rules.specs.Polynomial.{Polynomial, Atom, byTerms, same, which}
+use Rattle.rules.specs.Rounds.{cutBy, State, settled, run, carried}
+use Rattle.rules.specs.Level.{keptUnless, implied, removeImplied, tidied, tidy}
+use Rattle.sign_laws.specs.Booleans.{and-first, and-second, never-true, never-both, not-true}
+use Rattle.sign_laws.specs.Lists.{Every, every-none, every}
+use Rattle.level_laws.specs.Same.{same-itself}
+use Rattle.removal_laws.specs.Fewer.{inside-wider, Fewer, left-out, all-kept, fewer-append, fewer-both}
+use Rattle.removal_laws.specs.Settled.{run-settles}
+use Rattle.removal_laws.specs.Starts.{run-carries}
+use Rattle.removal_laws.specs.Apart.{Other, Apart, others-differ, others-apart, carries-apart, tidy-apart}
+use Rattle.removal_laws.specs.Said.{unlessSame, otherThan, saidByOthers, said-below, says-wider}
+
+-- ---- The test, and step 5 with the test first.
+
+unfoldable pub noVariable : Option ℕ → Bool
+noVariable none = true
+noVariable (some i) = false
+
+-- The atom is no variable's, and what the settled state says of it by the others does not lie inside its set.
+unfoldable pub staysBy : ℕ → State → Atom → Bool
+staysBy n st a = noVariable (which n (a .polynomial)) && not (inside (saidByOthers st (a .polynomial)) (a .set))
+
+unfoldable pub removeFaster : ℕ → State → List Atom → List Atom → List Atom
+removeFaster n st kept [] = kept
+removeFaster n st kept (a ∷ later) = removeFaster n st (keptUnless (not (staysBy n st a) && implied n (kept ++ later) a) a kept) later
+
+-- ---- On the way through the list: the atoms kept so far, and those to come.
+
+-- They are some of all, and no polynomial is there twice.
+pub record Remain (all kept rest : List Atom) : Type 0 where
+  pub fewer : Fewer all (kept ++ rest)
+  pub distinct : Apart (kept ++ rest)
+
+-- At first.
+pub remain-first : {all : List Atom} → Apart all → Remain all [] all
+remain-first {all} h = record { fewer = all-kept all; distinct = h }
+
+-- After each atom, whether it stays or not.
+pub remain-next : (out : Bool) {all kept : List Atom} {a : Atom} {later : List Atom} → Remain all kept (a ∷ later)
+    → Remain all (keptUnless out a kept) later
+unfolding keptUnless
+remain-next true {kept} {a} {later} r = record {
+  fewer = fewer-both (r .fewer) (fewer-append (all-kept kept) (left-out (all-kept later)));
+  distinct = others-apart kept a later (r .distinct);
+}
+remain-next false {kept} {a} {later} r =
+    let same : (kept ++ (a ∷ [])) ++ later ≡ kept ++ (a ∷ later) = append-assoc kept (a ∷ []) later in
+    record { fewer = rw same (r .fewer); distinct = rw same (r .distinct) }
+
+no-variable : (n : ℕ) (p : Polynomial) → noVariable (which n p) ≡ true → which n p ≡ none
+unfolding noVariable
+no-variable n p = by-which (which n p)
+  where
+    by-which : (o : Option ℕ) → noVariable o ≡ true → o ≡ none
+    by-which none e = refl
+    by-which (some i) e = absurd (false≢true e)
+
+test-first : (stays out : Bool) → (stays ≡ true → out ≡ false) → not stays && out ≡ out
+test-first true out h = sym (h refl)
+test-first false out h = refl
+
+module _ (n : ℕ) (l : List Atom) {st : State} (settles : run n l ≡ settled st) where
+  -- An atom that stays by the test is not implied by the others that remain.
+  pub stays-unimplied : {kept : List Atom} {a : Atom} {later : List Atom} → Remain (carried n (st .board) l (st .atoms)) kept (a ∷ later)
+      → staysBy n st a ≡ true → implied n (kept ++ later) a ≡ false
+  unfolding staysBy implied keptUnless
+  stays-unimplied {kept} {a} {later} r e =
+      let p = a .polynomial in
+      let no-var = noVariable (which n p) in
+      let said = inside (saidByOthers st p) (a .set) in
+      let fewer = remain-next true r .fewer in
+      let wider = says-wider (run-settles n l settles) (run-carries n l settles) fewer p (no-variable n p (and-first no-var (not said) e))
+      (others-differ kept a later (r .distinct)) in
+      let not-inside = not-true said (and-second no-var (not said) e) in
+      never-true _ (λ i. never-both (inside-wider (a .set) (said-below st p) wider i) not-inside)
+
+  removes-from : (kept rest : List Atom) → Remain (carried n (st .board) l (st .atoms)) kept rest
+      → removeFaster n st kept rest ≡ removeImplied n kept rest
+  unfolding removeFaster removeImplied
+  removes-from kept [] r = refl
+  removes-from kept (a ∷ later) r =
+      let out = implied n (kept ++ later) a in
+      rw (test-first (staysBy n st a) out (stays-unimplied r)) (removes-from (keptUnless out a kept) later (remain-next out r))
+
+  -- So step 5 with the test first removes what step 5 removes.
+  pub removes-the-same : Apart l
+      → removeFaster n st [] (carried n (st .board) l (st .atoms)) ≡ removeImplied n [] (carried n (st .board) l (st .atoms))
+  removes-the-same h = removes-from [] (carried n (st .board) l (st .atoms)) (remain-first (carries-apart (run-carries n l settles) h .1))
+
+  -- And so it does after steps 2 and 3.
+  pub removes-the-same-tidied : (given : List Atom) → tidy given ≡ tidied l
+      → removeFaster n st [] (carried n (st .board) l (st .atoms)) ≡ removeImplied n [] (carried n (st .board) l (st .atoms))
+  removes-the-same-tidied given e = removes-the-same (tidy-apart given e)
+
+-- ---- Where an atom stands among the settled atoms, the others are those before it and those after it.
+
+none-same : (p : Polynomial) {l : List Atom} → Every (Other p) l → otherThan p l ≡ l
+unfolding otherThan unlessSame
+none-same p every-none = refl
+none-same p (every {a} h hs) = rw (h .differs) (ap (λ (m : List Atom). a ∷ m) (none-same p hs))
+
+one-same : (before : List Atom) (a : Atom) (later : List Atom) → Every (Other (a .polynomial)) (before ++ later)
+    → otherThan (a .polynomial) (before ++ (a ∷ later)) ≡ before ++ later
+unfolding otherThan unlessSame
+one-same [] a later hs = rw (same-itself (a .polynomial)) (none-same (a .polynomial) hs)
+one-same (b ∷ before) a later (every h hs) = rw (h .differs) (ap (λ (m : List Atom). b ∷ m) (one-same before a later hs))
+
+-- So what is said of it by the others is what it would be cut to, but for its own set.
+pub said-at : (st : State) (before : List Atom) (a : Atom) (later : List Atom) → st .atoms ≡ before ++ (a ∷ later) → Apart (st .atoms)
+    → saidByOthers st (a .polynomial) ≡ cutBy (st .board) (a .polynomial) (before ++ later) (byTerms (st .board) (a .polynomial))
+unfolding saidByOthers
+said-at st before a later e h =
+    let p = a .polynomial in
+    ap (λ (m : List Atom). cutBy (st .board) p m (byTerms (st .board) p))
+    (ap (otherThan p) e ∙ one-same before a later (others-differ before a later (subst Apart e h)))
+
+-- Where no settled atom is of the polynomial, all of them are the others.
+pub said-nowhere : (st : State) (p : Polynomial) → Every (Other p) (st .atoms)
+    → saidByOthers st p ≡ cutBy (st .board) p (st .atoms) (byTerms (st .board) p)
+unfolding saidByOthers
+said-nowhere st p hs = ap (λ (m : List Atom). cutBy (st .board) p m (byTerms (st .board) p)) (none-same p hs)
+
+-- The settled atoms have no polynomial twice if the list has none.
+pub settled-apart : (n : ℕ) (l : List Atom) {st : State} → run n l ≡ settled st → Apart l → Apart (st .atoms)
+settled-apart n l settles h = carries-apart (run-carries n l settles) h .0
