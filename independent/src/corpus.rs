@@ -346,7 +346,7 @@ impl<'a> Grower<'a> {
 }
 
 /// One of the six sets that say something.
-fn some_set(random: &mut Random) -> SignSet {
+pub fn some_set(random: &mut Random) -> SignSet {
     SignSet::from_bits(1 + random.below(6) as u64)
 }
 
@@ -396,7 +396,7 @@ fn fitted(sum: &Sum) -> Polynomial {
 }
 
 /// Polynomials of which many come from earlier ones, so that deductions fire.
-fn random_table(random: &mut Random, variables: usize, size: usize) -> Vec<Polynomial> {
+pub fn random_table(random: &mut Random, variables: usize, size: usize) -> Vec<Polynomial> {
     let mut table = vec![];
     extend_table(random, variables, &mut table, size);
     table

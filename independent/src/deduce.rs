@@ -1,6 +1,7 @@
 //! What the sign of q says of the sign of p (document 01, "Deducing p from q").
 //! L and U are decided by testing fractions t one by one against the conditions.
 
+use crate::count;
 use crate::polynomial::{monomial_sign, Polynomial};
 use crate::signs::SignSet;
 
@@ -144,6 +145,7 @@ pub fn deduce(p: &Polynomial, q: &Polynomial, q_set: SignSet, board: &[SignSet])
     if q_set == SignSet::NOT_EQUAL || q_set == SignSet::FULL {
         return SignSet::FULL;
     }
+    count::a_deduction();
     let monomials = monomials(p, q, board);
     let strict = strict(&monomials);
     let l = Tested::new(Which::L, &monomials);

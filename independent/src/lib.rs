@@ -13,6 +13,9 @@ pub mod tree;
 // "The block" and "Refusal numbers"
 pub mod block;
 
+// Deductions and rounds, counted
+pub mod count;
+
 // "Deducing p from q"
 pub mod deduce;
 
@@ -44,3 +47,10 @@ pub mod book;
 
 // Deductions and lists of atoms, for the inner functions
 pub mod engine;
+
+// The blocks that the cost is measured on
+pub mod bench;
+pub mod search;
+
+// A formula as other solvers read it
+pub mod smt;

@@ -4,13 +4,15 @@
 use std::io::{self, Read, Write};
 use std::process::ExitCode;
 
-use independent::answer::{read_report, report, MOST_READ};
+use independent::answer::{answer, read_report, report, MOST_READ};
 use independent::cases::cases;
-use independent::{block, book, check, corpus, edge, engine};
+use independent::count::work_of;
+use independent::{bench, block, book, check, corpus, edge, engine, search, smt};
 
 const USAGE: &str =
-    "usage: independent [many | read | describe | deductions | lists | corpus KIND SEED COUNT | book SEED COUNT | check SEED COUNT]\n\
-                     KIND is valid, damaged, trees, edge, cases, deductions or lists\n";
+    "usage: independent [many | read | describe | deductions | lists | count | repeat | smt | bench NAME |\n\
+                    corpus KIND SEED COUNT | book SEED COUNT | check SEED COUNT]\n\
+     KIND is valid, damaged, trees, edge, cases, deductions, lists or candidates\n";
 
 fn main() -> ExitCode {
     let arguments: Vec<String> = std::env::args().skip(1).collect();
@@ -22,6 +24,10 @@ fn main() -> ExitCode {
         ["describe"] => each_block(|index, block| format!("{index} {}", read_report(block))),
         ["deductions"] => each_block(|_, block| engine::deduction_line(block)),
         ["lists"] => each_block(|_, block| engine::list_line(block)),
+        ["count"] => each_block(|_, block| count_line(block)),
+        ["bench", name] => write_bench(name),
+        ["repeat"] => repeat(),
+        ["smt"] => write_script(),
         ["corpus", kind, seed, count] => match (seed.parse(), count.parse()) {
             (Ok(seed), Ok(count)) => write_corpus(kind, seed, count),
             _ => usage(),
@@ -92,11 +98,52 @@ fn write_corpus(kind: &str, seed: u64, count: usize) -> io::Result<ExitCode> {
         "edge" => edge::blocks().into_iter().map(|edge| edge.bytes).collect(),
         "deductions" => engine::deductions(seed, count),
         "lists" => engine::lists(seed, count),
+        "candidates" => (seed..seed + count as u64).map(|k| block::write(&search::candidate(k))).collect(),
         "cases" => cases().iter().map(|case| block::write(&case.formula)).collect(),
         _ => return usage(),
     };
     io::stdout().lock().write_all(&corpus::stream(&blocks))?;
     Ok(ExitCode::SUCCESS)
+}
+
+/// The blocks that the cost is measured on, by their names.
+fn write_bench(name: &str) -> io::Result<ExitCode> {
+    let Some(block) = bench::block(name) else { return usage() };
+    io::stdout().lock().write_all(&block)?;
+    Ok(ExitCode::SUCCESS)
+}
+
+/// The script of a block on standard input.
+fn write_script() -> io::Result<ExitCode> {
+    let mut input = vec![];
+    io::stdin().lock().read_to_end(&mut input)?;
+    match block::read(&input) {
+        Ok(formula) => io::stdout().write_all(smt::script(&formula).as_bytes())?,
+        Err(refusal) => eprintln!("independent: refused by number {refusal}"),
+    }
+    Ok(ExitCode::SUCCESS)
+}
+
+/// How often, in 4 bytes, most significant first, then a block: it is answered so often, and the lines are printed once.
+fn repeat() -> io::Result<ExitCode> {
+    let mut input = vec![];
+    io::stdin().lock().take(4 + MOST_READ as u64).read_to_end(&mut input)?;
+    if input.len() < 4 {
+        return usage();
+    }
+    let (times, block) = input.split_at(4);
+    let times = times.iter().fold(0, |sum, &byte| 256 * sum + u64::from(byte));
+    for _ in 1..times {
+        std::hint::black_box(answer(std::hint::black_box(block), block.len()).ok());
+    }
+    io::stdout().write_all(report(block).as_bytes())?;
+    Ok(ExitCode::SUCCESS)
+}
+
+/// Deductions made and rounds begun.
+fn count_line(block: &[u8]) -> String {
+    let work = work_of(|| drop(answer(block, block.len())));
+    format!("{} {}\n", work.deductions, work.rounds)
 }
 
 fn write_claims(seed: u64, count: usize) -> io::Result<ExitCode> {

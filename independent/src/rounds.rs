@@ -1,6 +1,7 @@
 //! Rounds over a list of atoms joined by AND, and what the list says of a polynomial afterwards.
 //! The atoms are in normal form, no two of one polynomial, none constant.
 
+use crate::count;
 use crate::deduce::deduce;
 use crate::polynomial::Polynomial;
 use crate::signs::SignSet;
@@ -36,6 +37,7 @@ pub fn run_rounds(n: usize, atoms: &[Atom<Polynomial>]) -> AfterRounds {
     }
     loop {
         list.rounds += 1;
+        count::a_round();
         match list.round() {
             Round::Changed => {}
             // "A round that changes nothing ends them too."

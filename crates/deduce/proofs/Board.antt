@@ -7,7 +7,9 @@ use mathlib.Core.Logic.{_⊎_, inl, inr}
 use Prim.Native.Nat.{ℕ, _+_, _-_, _<_, _≤_}
 use native.Mathlib.Omega.{arith}
 use borrow.Author.Tests.{eq-eqb, ne-eqb}
+use lib.Dec.{eqb}
 use lib.ListN.{getD}
+use Rattle.sign_laws.specs.Booleans.{or-true}
 use Rattle.rules.specs.Signs.{SignSet, kind}
 use Rattle.rules.specs.Polynomial.{Board, Polynomial}
 use Rattle.rules.specs.Deduce.{rows, findingOf, anyEmpty, unlessEmpty, deduce}
@@ -27,6 +29,11 @@ module _ (sets : List SignSet) (i n : ℕ) where
   pub empty-nowhere : n ≤ i → anyEmpty (numbersFrom sets i (n - i)) ≡ false
   unfolding anyEmpty
   empty-nowhere h = rw (numbers-nil sets i n h)
+
+-- with an empty set it is empty
+pub deduce-empty : (board : Board) (p q : Polynomial) (s : SignSet) → anyEmpty board ≡ true → 0 ≡ deduce board p (record { polynomial = q; set = s })
+unfolding deduce unlessEmpty
+deduce-empty board p q s h = simp (h, or-true (eqb s 0))
 
 -- with no empty set it is the finding
 pub deduce-found : (board : Board) (p q : Polynomial) (s : SignSet) → (s ≡ 0 → ⊥) → anyEmpty board ≡ false

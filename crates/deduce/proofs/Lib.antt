@@ -1,7 +1,10 @@
 pub mod Coefficients
 pub mod Fractions
 pub mod Cutting
+pub mod Values
 pub mod SignSets
 pub mod Rows
-pub mod Void
+pub mod Nothing
+pub mod Lasts
+pub mod LastWalks
 pub mod Board

@@ -68,7 +68,7 @@ walk-on {p = p} {q = q} {i = i} {j = j} {g = g} w n e = record {
 
 -- ---- L, U and strict apart
 
-gathered : (xs : List Row) (l u : Interval) (st : Bool)
+pub gathered : (xs : List Row) (l u : Interval) (st : Bool)
     → gather (record { l = l; u = u; strict = st }) xs ≡ record { l = intervalL l xs; u = intervalU u xs; strict = st || strict xs }
 unfolding gather gatherRow intervalL intervalU strict
 gathered [] l u st = ap (λ (x : Bool). record { l = l; u = u; strict = x }) (sym (or-false st))

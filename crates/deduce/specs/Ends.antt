@@ -1,9 +1,10 @@
 -- The ends and intervals of the code, as the book has them.
 -- The code keeps a fraction -a/b as the two coefficients, b of either sign; the book keeps it over a denominator above 0.
+use mathlib.Core.Path.{_≡_}
 use mathlib.Core.Bool.{Bool, true, false}
 use Prim.Native.Nat.{zero, suc}
 use lib.IntN.{ℤ, pos, negsuc, negℤ}
-use Rattle.rules.specs.Deduce.{End, free, at, Interval, endAtMost, Way, up, down}
+use Rattle.rules.specs.Deduce.{Fraction, End, free, at, Interval, endAtMost, Way, up, down}
 use Rattle.deduce.specs.declared.interval.End.{End as Kept}
 use Rattle.deduce.specs.declared.interval.Interval.{Interval as KeptInterval}
 use Rattle.deduce.specs.declared.interval.Way.{Way as KeptWay}
@@ -17,6 +18,16 @@ endAt a (negsuc b) = at (record { numerator = a; less = b })
 
 abbrev pub endOf : Kept → End
 endOf e = endAt (e .a) (e .b)
+
+-- an end that is there
+pub record There (e : Kept) : Type 0 where
+  pub fraction : Fraction
+  pub is : endOf e ≡ at fraction
+
+-- one that is 0
+pub record Zero (e : Kept) : Type 0 where
+  pub there : There e
+  pub nought : there .fraction .numerator ≡ pos 0
 
 abbrev pub intervalOf : KeptInterval → Interval
 intervalOf r = record { low = endOf (r .low); high = endOf (r .high); void = r .void }

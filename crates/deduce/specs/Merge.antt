@@ -1,5 +1,5 @@
 -- The merge of two runs of terms, row by row: L, U and strict in one walk over the book's rows.
--- `Next` says what one step of the merge takes off, `Told` what the whole walk tells.
+-- `Next` says what one step of the merge takes off, `Found` what the whole walk finds.
 use mathlib.Core.Path.{_≡_}
 use mathlib.Core.Bool.{Bool, false, not, _&&_, _||_}
 use mathlib.Core.List.{List, [], _∷_}
@@ -8,14 +8,13 @@ use lib.IntN.{ℤ}
 use lib.ListN.{length}
 use Rattle.rules.specs.Signs.{SignSet, Kind, kind}
 use Rattle.rules.specs.Polynomial.{Board}
-use Rattle.rules.specs.Deduce.{Interval, cutL, cutU, Row, rows, everyT, isStrict, isZero, finding, findingOf}
+use Rattle.rules.specs.Deduce.{Interval, cutL, cutU, Row, rows, everyT, isStrict, isZero, finding}
 use Rattle.terms.specs.View.{termsOf}
 use Rattle.terms.specs.Signed.{Signed}
 use Rattle.deduce.specs.Ends.{intervalOf}
 use Rattle.deduce.specs.declared.merge.Cuts.{Cuts}
 use Rattle.deduce.specs.declared.merge.Step.{Step}
 use Rattle.deduce.specs.declared.Run.{Run}
-use Rattle.deduce.specs.Runs.{polynomialOf}
 
 -- L, U and strict
 pub record Gathered : Type 0 where
@@ -67,14 +66,11 @@ pub record Next (cs : List ℤ) (ms : List ℕ) (ss : List SignSet) (i p j q : �
   pub second : On j (r .j) q
   pub less-left : i + j < r .i + r .j
 
--- the run's places are places of the three slices
-pub record Within (cs : List ℤ) (ms : List ℕ) (ss : List SignSet) (run : Run) : Type 0 where
-  pub ordered : run .from ≤ run .to
-  pub coefficients : run .to ≤ length cs
-  pub monomials : run .to ≤ length ms
-  pub signs : run .to ≤ length ss
+-- what is found from L, U and strict
+abbrev pub findingBy : Kind → Gathered → SignSet
+findingBy k g = finding k (g .strict) (g .l) (g .u)
 
--- the walk tells what is found, for each set of q, on each board whose signs these are
-pub record Told (cs : List ℤ) (ms : List ℕ) (ss : List SignSet) (p q : Run) (r : Cuts) : Type 0 where
-  pub found : {board : Board} → Signed board ms ss (p .from) (p .to) → Signed board ms ss (q .from) (q .to) → (k : Kind)
-      → finding k (r .strict) (intervalOf (r .l)) (intervalOf (r .u)) ≡ findingOf k (rows board (polynomialOf cs ms p) (polynomialOf cs ms q))
+-- r is what is found for q's set from the rows of p and q on top of what is gathered, on each board whose signs these are
+pub record Found (cs : List ℤ) (ms : List ℕ) (ss : List SignSet) (p q : Run) (set : SignSet) (g : Gathered) (r : SignSet) : Type 0 where
+  pub found : {board : Board} → Signed board ms ss (p .from) (p .to) → Signed board ms ss (q .from) (q .to)
+      → r ≡ findingBy (kind set) (gatherRest board cs ms (p .from) (p .to) (q .from) (q .to) g)

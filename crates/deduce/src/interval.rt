@@ -1,9 +1,14 @@
 // Intervals of the t for which p + tq has a sign: their ends, how a monomial cuts them, and what lies in them.
 // An end is a fraction -a/b as the coefficients a and b of a monomial give it, with either sign of b.
 ghost use mathlib.Core.Path.{_≡_};
-ghost use lib.IntN.{_*ℤ_};
+ghost use lib.IntN.{_*ℤ_, _-ℤ_};
+ghost use Rattle.rules.specs.Signs.{only, signOf};
+ghost use Rattle.rules.specs.Deduce.{Fraction, at};
 ghost use Rattle.rules.specs.Deduce.{endAtMost, endBelow, cutNotNegative, cutNotPositive, pastZero, reachesZero, hasT, hasZero, hasPast, hasFrom, hasInner, hasInnerPast};
+ghost use Rattle.deduction_laws.specs.Fractions.{combined};
+ghost use Rattle.deduction_laws.specs.Exact.{hasAt};
 ghost use Rattle.deduce.specs.Ends.{endAt, endOf, intervalOf, wayOf, higherEnd, lowerEnd};
+use signs::SignSet;
 
 // The fraction -a/b; no end on this side if b is 0.
 pub struct End {
@@ -64,8 +69,32 @@ pub fn below(a: i32, b: i32, c: i32, d: i32) -> bool
     !at_most(c, d, a, b)
 }
 
+// The sign of x - y.
+pub fn sign_between(x: i64, y: i64) -> SignSet
+    ensures { λ r. ⌜ r .0 ≡ only (signOf (x -ℤ y)) ⌝ }
+{
+    if y <= x {
+        if x <= y { SignSet(2) } else { SignSet(1) }
+    } else {
+        SignSet(4)
+    }
+}
+
 impl End {
     pub const ZERO: End = End { a: 0, b: 1 };
+
+    // The sign of a + tb at this t, which is there: of ad - cb, where t is -c/d with d above 0, of cb - ad if d is below 0.
+    pub fn sign_at(self, a: i32, b: i32) -> SignSet
+        ensures { λ r. ⌜ ((t : Fraction) → endOf self ≡ at t → r .0 ≡ only (signOf (combined t a b))) ⌝ }
+    {
+        let ad = cross(a, self.b);
+        let cb = cross(self.a, b);
+        if self.b < 0 {
+            sign_between(cb, ad)
+        } else {
+            sign_between(ad, cb)
+        }
+    }
 
     pub fn at_most(self, other: End) -> bool
         ensures { λ r. ⌜ r ≡ endAtMost (endOf self) (endOf other) ⌝ }
@@ -165,6 +194,22 @@ impl Interval {
             };
         }
         self
+    }
+
+    // Whether it holds a t, which is there.
+    pub fn holds(self, t: End) -> bool
+        ensures { λ r. ⌜ ((f : Fraction) → endOf t ≡ at f → r ≡ hasAt f (intervalOf self)) ⌝ }
+    {
+        let low = self.low;
+        let high = self.high;
+        if self.void {
+            return false;
+        }
+        if low.at_most(t) {
+            t.at_most(high)
+        } else {
+            false
+        }
     }
 
     // Whether it goes on above 0 (up), or below 0 (down).

@@ -3,10 +3,13 @@
 ghost use mathlib.Core.Path.{_≡_};
 ghost use mathlib.Core.Bool.{not, _&&_, _||_};
 ghost use Rattle.rules.specs.Signs.{kind};
-ghost use Rattle.rules.specs.Deduce.{isStrict, isZero};
-ghost use Rattle.deduce.specs.Merge.{gatheredOf, gatherRow, Left, Next, Within, Told};
-use crate::Run;
+ghost use Rattle.rules.specs.Deduce.{hasT, isStrict, isZero};
+ghost use Rattle.deduce.specs.Ends.{intervalOf};
+ghost use Rattle.deduce.specs.Merge.{gatheredOf, gatherRow, Left, Next};
+ghost use Rattle.deduce.specs.Last.{AtLast};
+use crate::interval::End;
 use crate::interval::Interval;
+use crate::last::Last;
 
 // L and U so far, and whether they are strict.
 pub struct Cuts {
@@ -65,13 +68,26 @@ impl Cuts {
         }
     }
 
-    // Whether no t is left in either, whatever comes after.
-    pub fn is_void(self) -> bool
-        ensures { λ r. ⌜ r ≡ (self .l .void && self .u .void) ⌝ }
+    // Whether L and U hold a t, which is there.
+    pub fn at(self, t: End) -> Last
+        ensures { λ r. ⌜ AtLast self t r ⌝ }
     {
         let l = self.l;
         let u = self.u;
-        if l.void { u.void } else { false }
+        Last {
+            t,
+            l: l.holds(t),
+            u: u.holds(t),
+        }
+    }
+
+    // Whether L or U has a t.
+    pub fn has_t(self) -> bool
+        ensures { λ r. ⌜ r ≡ (hasT (intervalOf (self .l)) || hasT (intervalOf (self .u))) ⌝ }
+    {
+        let l = self.l;
+        let u = self.u;
+        if l.has_t() { true } else { u.has_t() }
     }
 }
 
@@ -139,31 +155,4 @@ pub fn next(
         i,
         j: j + 1,
     }
-}
-
-// L, U and strict over all monomials of p or q; no further than where L and U are void.
-pub fn merged(coefficient: &[i32], monomial: &[u64], sign: &[u8], p: Run, q: Run) -> Cuts
-    requires { ⌜ Within (now coefficient) (now monomial) (now sign) p ⌝ }
-    requires { ⌜ Within (now coefficient) (now monomial) (now sign) q ⌝ }
-    ensures { λ r. ⌜ Told (now (coefficient .entry)) (now (monomial .entry)) (now (sign .entry)) p q r ⌝ }
-{
-    let p_to = p.to;
-    let q_to = q.to;
-    let mut c = Cuts {
-        l: Interval::EVERY_T,
-        u: Interval::EVERY_T,
-        strict: false,
-    };
-    let mut i = p.from;
-    let mut j = q.from;
-    while i + j < p_to + q_to {
-        let step = next(coefficient, monomial, sign, i, p_to, j, q_to);
-        i = step.i;
-        j = step.j;
-        c = c.by(step.a, step.b, step.s);
-        if c.is_void() {
-            return c;
-        }
-    }
-    c
 }

@@ -16,7 +16,7 @@ use Rattle.sign_laws.specs.Booleans.{and-intro, never-both, and-first, and-seco
 use Rattle.sign_laws.specs.Lists.{Every, every-none, every}
 use Rattle.sign_laws.specs.Sets.{in-empty, not-empty}
 use Rattle.sign_laws.specs.Whole.{_∈_, ∈-sum, ∈-product, ∈-negation, ∈-intersect, ∈-full, by-sign, by-equal, without-factor, clash, wider}
-use Rattle.deduction_laws.specs.Fractions.{combined, combined-negated, gap, gap-turned, denominator-positive, zeroFraction, is-below}
+use Rattle.deduction_laws.specs.Fractions.{combined, combined-negated, moved, gap, gap-turned, denominator-positive, zeroFraction, is-below}
 use Rattle.deduction_laws.specs.Ends.{Strength, weakly, strictly, signs, stronger}
 use Rattle.deduction_laws.specs.FractionSets.{Side, L, U, asked, Holds, one-row, Interior, past, from, interval}
 use Rattle.deduction_laws.specs.Exact.{has-t, has-zero, has-past, has-from, has-inner, has-inner-past}
@@ -43,10 +43,6 @@ weak-row : (side : Side) (t : Fraction) (x : Row) (v : ℤ) → v ∈ named (x .
 weak-row side t x v f h = by-equal (row-part (x .a) (x .b) v (t .numerator) (denominator t)) (wider (∈-product h f) (asked-fits side (x .s)))
 
 -- ---- Between two t: a + tb is not 0, unless a and b are.
-
-moved : (a b : ℤ) (t u : Fraction) → combined u a b *ℤ denominator t ≡ combined t a b *ℤ denominator u +ℤ b *ℤ gap t u
-moved a b t u = solve (a ∷ b ∷ t .numerator ∷ denominator t ∷ u .numerator ∷ denominator u ∷ [])
-    ((# 0 :* # 5 :+ # 4 :* # 1) :* # 3) ((# 0 :* # 3 :+ # 2 :* # 1) :* # 5 :+ # 1 :* (# 4 :* # 3 :- # 2 :* # 5)) tt
 
 without-b : (a c d : ℤ) → a *ℤ d ≡ a *ℤ d +ℤ c *ℤ pos 0
 without-b a c d = solve (a ∷ c ∷ d ∷ []) (# 0 :* # 2) (# 0 :* # 2 :+ # 1 :* con (pos 0)) tt

@@ -126,6 +126,59 @@ interior-of {t = t} f i = record {
   larger-above = i .larger-above;
 }
 
+-- ---- The tests of the five bullets, on any interval.
+
+-- The test that a t is inside; the book has it for 0.
+abbrev pub hasAt : Fraction → Interval → Bool
+hasAt t r = not (r .void) && endAtMost (r .low) (at t) && endAtMost (at t) (r .high)
+
+module _ (r : Interval) where
+  ahead-inside : (o : Strength) (way : Way) → (hasT r && faces o way r ≡ true) ↔ ((t : Fraction) × Inside r t × (t .numerator ∈ named (ahead o way)))
+  ahead-inside o way = let test = and-eq-true-iff (hasT r) (faces o way r) in (
+    λ e. let k = test .0 e in some-ahead o way r (is-open weakly r .0 (k .0)) (is-facing o way r .0 (k .1)),
+    λ (t, i, h). test .1 (is-open weakly r .1 (open-by i), is-facing o way r .1 (facing-by o way r t i h)),
+  )
+
+  pub t-inside : (hasT r ≡ true) ↔ ((t : Fraction) × Inside r t)
+  t-inside = (
+    λ e. let (t, i, b) = some-t {o = weakly} r free (is-open weakly r .0 e) from-free in (t, i),
+    λ (t, i). is-open weakly r .1 (open-by i),
+  )
+
+  pub at-inside : (t : Fraction) → (hasAt t r ≡ true) ↔ Inside r t
+  at-inside t =
+      let first = and-eq-true-iff (not (r .void) && endAtMost (r .low) (at t)) (endAtMost (at t) (r .high)) in
+      let second = and-eq-true-iff (not (r .void)) (endAtMost (r .low) (at t)) in (
+        λ e. let k = first .0 e in let j = second .0 (k .0) in
+            record { not-void = not-true (r .void) (j .0); over = in-order weakly (r .low) (at t) .0 (j .1); under = in-order weakly (at t) (r .high) .0 (k .1) },
+        λ i. first .1 (second .1 (ap not (i .not-void), in-order weakly (r .low) (at t) .1 (i .over)), in-order weakly (at t) (r .high) .1 (i .under)),
+      )
+
+  pub zero-inside : (hasZero r ≡ true) ↔ Inside r zeroFraction
+  unfolding hasZero atZero
+  zero-inside = at-inside zeroFraction
+
+  pub past-inside : (way : Way) → (hasPast way r ≡ true) ↔ ((t : Fraction) × Inside r t × (t .numerator ∈ named (past way)))
+  unfolding hasPast
+  past-inside = ahead-inside strictly
+
+  pub from-inside : (way : Way) → (hasFrom way r ≡ true) ↔ ((t : Fraction) × Inside r t × (t .numerator ∈ named (from way)))
+  unfolding hasFrom
+  from-inside = ahead-inside weakly
+
+  pub inner-inside : (hasInner r ≡ true) ↔ ((t : Fraction) × Interior (Inside r) t)
+  inner-inside = (
+    λ e. let (t, i, b) = inner-t r free (is-open strictly r .0 e) from-free in (t, i),
+    λ (t, i). is-open strictly r .1 (open-by-inner i),
+  )
+
+  pub inner-past-inside : (way : Way) → (hasInnerPast way r ≡ true) ↔ ((t : Fraction) × Interior (Inside r) t × (t .numerator ∈ named (past way)))
+  unfolding hasInnerPast
+  inner-past-inside way = let test = and-eq-true-iff (hasInner r) (pastZero way r) in (
+    λ e. let k = test .0 e in inner-ahead way r (is-open strictly r .0 (k .0)) (is-facing strictly way r .0 (k .1)),
+    λ (t, i, h). test .1 (is-open strictly r .1 (open-by-inner i), is-facing strictly way r .1 (facing-by strictly way r t (i .held) h)),
+  )
+
 -- ---- The tests of the five bullets, in document 01's words (said of L; U is the other side).
 
 module _ (side : Side) (rows : List Row) where
@@ -135,54 +188,31 @@ module _ (side : Side) (rows : List Row) where
   held : (t : Fraction) → Holds side rows t → Inside (interval side rows) t
   held t = interval-holds side rows t .1
 
-  has-ahead : (o : Strength) (way : Way)
-      → (hasT (interval side rows) && faces o way (interval side rows) ≡ true) ↔ ((t : Fraction) × Holds side rows t × (t .numerator ∈ named (ahead o way)))
-  has-ahead o way = let r = interval side rows in let test = and-eq-true-iff (hasT r) (faces o way r) in (
-    λ e. let k = test .0 e in let (t, i, h) = some-ahead o way r (is-open weakly r .0 (k .0)) (is-facing o way r .0 (k .1)) in (t, holds t i, h),
-    λ (t, i, h). test .1 (is-open weakly r .1 (open-by (held t i)), is-facing o way r .1 (facing-by o way r t (held t i) h)),
-  )
-
   -- "L is not empty"
   pub has-t : (hasT (interval side rows) ≡ true) ↔ ((t : Fraction) × Holds side rows t)
-  has-t = let r = interval side rows in (
-    λ e. let (t, i, b) = some-t {o = weakly} r free (is-open weakly r .0 e) from-free in (t, holds t i),
-    λ (t, i). is-open weakly r .1 (open-by (held t i)),
-  )
+  has-t = let test = t-inside (interval side rows) in (λ e. let (t, i) = test .0 e in (t, holds t i), λ (t, i). test .1 (t, held t i))
 
   -- "0 is in L"
   pub has-zero : (hasZero (interval side rows) ≡ true) ↔ Holds side rows zeroFraction
-  unfolding hasZero atZero
-  has-zero = let r = interval side rows in
-      let first = and-eq-true-iff (not (r .void) && endAtMost (r .low) atZero) (endAtMost atZero (r .high)) in
-      let second = and-eq-true-iff (not (r .void)) (endAtMost (r .low) atZero) in (
-        λ e. let k = first .0 e in let j = second .0 (k .0) in holds zeroFraction
-            (record { not-void = not-true (r .void) (j .0); over = in-order weakly (r .low) atZero .0 (j .1); under = in-order weakly atZero (r .high) .0 (k .1) }),
-        λ h. let i = held zeroFraction h in
-            first .1 (second .1 (ap not (i .not-void), in-order weakly (r .low) atZero .1 (i .over)), in-order weakly atZero (r .high) .1 (i .under)),
-      )
+  has-zero = let test = zero-inside (interval side rows) in (λ e. holds zeroFraction (test .0 e), λ h. test .1 (held zeroFraction h))
 
   -- "L has a t > 0", "L has a t < 0"
   pub has-past : (way : Way) → (hasPast way (interval side rows) ≡ true) ↔ ((t : Fraction) × Holds side rows t × (t .numerator ∈ named (past way)))
-  unfolding hasPast
-  has-past = has-ahead strictly
+  has-past way = let test = past-inside (interval side rows) way in
+      (λ e. let (t, i, h) = test .0 e in (t, holds t i, h), λ (t, i, h). test .1 (t, held t i, h))
 
   -- "L has a t ≥ 0", "L has a t ≤ 0"
   pub has-from : (way : Way) → (hasFrom way (interval side rows) ≡ true) ↔ ((t : Fraction) × Holds side rows t × (t .numerator ∈ named (from way)))
-  unfolding hasFrom
-  has-from = has-ahead weakly
+  has-from way = let test = from-inside (interval side rows) way in
+      (λ e. let (t, i, h) = test .0 e in (t, holds t i, h), λ (t, i, h). test .1 (t, held t i, h))
 
   -- "L's interior is not empty"
   pub has-inner : (hasInner (interval side rows) ≡ true) ↔ ((t : Fraction) × Interior (Holds side rows) t)
-  has-inner = let r = interval side rows in (
-    λ e. let (t, i, b) = inner-t r free (is-open strictly r .0 e) from-free in (t, interior-of holds i),
-    λ (t, i). is-open strictly r .1 (open-by-inner (interior-of held i)),
-  )
+  has-inner = let test = inner-inside (interval side rows) in
+      (λ e. let (t, i) = test .0 e in (t, interior-of holds i), λ (t, i). test .1 (t, interior-of held i))
 
   -- "L's interior has a t > 0", "L's interior has a t < 0"
   pub has-inner-past : (way : Way)
       → (hasInnerPast way (interval side rows) ≡ true) ↔ ((t : Fraction) × Interior (Holds side rows) t × (t .numerator ∈ named (past way)))
-  unfolding hasInnerPast
-  has-inner-past way = let r = interval side rows in let test = and-eq-true-iff (hasInner r) (pastZero way r) in (
-    λ e. let k = test .0 e in let (t, i, h) = inner-ahead way r (is-open strictly r .0 (k .0)) (is-facing strictly way r .0 (k .1)) in (t, interior-of holds i, h),
-    λ (t, i, h). test .1 (is-open strictly r .1 (open-by-inner (interior-of held i)), is-facing strictly way r .1 (facing-by strictly way r t (held t (i .held)) h)),
-  )
+  has-inner-past way = let test = inner-past-inside (interval side rows) way in
+      (λ e. let (t, i, h) = test .0 e in (t, interior-of holds i, h), λ (t, i, h). test .1 (t, interior-of held i, h))

@@ -98,6 +98,11 @@ pub gap-through : {i j : SignSet} (t u w : Fraction) → gap t u ∈ i → gap u
 gap-through t u w h k = without-factor (denominator-positive u)
     (by-equal (gaps t u w) (∈-sum (∈-product h (denominator-positive w)) (∈-product k (denominator-positive t))))
 
+-- From t to u, a + tb changes by b times the gap, all times the denominators.
+pub moved : (a b : ℤ) (t u : Fraction) → combined u a b *ℤ denominator t ≡ combined t a b *ℤ denominator u +ℤ b *ℤ gap t u
+moved a b t u = solve (a ∷ b ∷ t .numerator ∷ denominator t ∷ u .numerator ∷ denominator u ∷ [])
+    ((# 0 :* # 5 :+ # 4 :* # 1) :* # 3) ((# 0 :* # 3 :+ # 2 :* # 1) :* # 5 :+ # 1 :* (# 4 :* # 3 :- # 2 :* # 5)) tt
+
 -- ---- Other fractions: 0, one more and one less, one between two, and the opposite.
 
 -- The fraction 0.

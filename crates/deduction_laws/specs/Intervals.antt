@@ -33,10 +33,12 @@ pub record Inside (r : Interval) (t : Fraction) : Type 0 where
 flat : (a : ℤ) (t : Fraction) → combined t a (pos 0) ≡ a *ℤ denominator t
 flat a t = solve (a ∷ t .numerator ∷ denominator t ∷ []) (# 0 :* # 2 :+ # 1 :* con (pos 0)) (# 0 :* # 2) tt
 
-rising : (a : ℤ) (n : ℕ) (t : Fraction) → combined t a (pos (suc n)) ≡ gap (record { numerator = negℤ a; less = n }) t
+-- Where b is above 0, a + tb is above 0 past -a/b.
+pub rising : (a : ℤ) (n : ℕ) (t : Fraction) → combined t a (pos (suc n)) ≡ gap (record { numerator = negℤ a; less = n }) t
 rising a n t = solve (a ∷ pos (suc n) ∷ t .numerator ∷ denominator t ∷ []) (# 0 :* # 3 :+ # 2 :* # 1) (# 2 :* # 1 :- neg (# 0) :* # 3) tt
 
-falling : (a : ℤ) (n : ℕ) (t : Fraction) → combined t a (negsuc n) ≡ gap t (record { numerator = a; less = n })
+-- Where it is below 0, a + tb is above 0 before that.
+pub falling : (a : ℤ) (n : ℕ) (t : Fraction) → combined t a (negsuc n) ≡ gap t (record { numerator = a; less = n })
 falling a n t = solve (a ∷ pos (suc n) ∷ t .numerator ∷ denominator t ∷ []) (# 0 :* # 3 :+ # 2 :* neg (# 1)) (# 0 :* # 3 :- # 2 :* # 1) tt
 
 below-zero : (a : ℤ) → leZ a (negsuc 0) ≡ not (nonNeg a)
@@ -82,7 +84,7 @@ cut-not-positive a b r t = let cut = cut-not-negative (negℤ a) (negℤ b) r t 
 
 -- ---- The cuts of L and U leave just the t that have what is asked.
 
-abbrev cut : Side → Kind → ℤ → ℤ → Interval → Interval
+abbrev pub cut : Side → Kind → ℤ → ℤ → Interval → Interval
 cut L = cutL
 cut U = cutU
 
@@ -96,7 +98,8 @@ cut-both a b r t = let first = cut-not-positive a b r t in let second = cut-not-
 uncut : (a b : ℤ) (r : Interval) (t : Fraction) → Inside r t ↔ ((combined t a b ∈ 7) × Inside r t)
 uncut a b r t = (λ i. (∈-full (combined t a b), i), λ (h, i). i)
 
-cut-asked : (side : Side) (k : Kind) (a b : ℤ) (r : Interval) (t : Fraction) → Inside (cut side k a b r) t ↔ ((combined t a b ∈ named (asked side k)) × Inside r t)
+-- The cut by a row.
+pub cut-asked : (side : Side) (k : Kind) (a b : ℤ) (r : Interval) (t : Fraction) → Inside (cut side k a b r) t ↔ ((combined t a b ∈ named (asked side k)) × Inside r t)
 unfolding cutL cutU named
 cut-asked L ∅ = uncut
 cut-asked L >0 = cut-not-negative
@@ -115,11 +118,13 @@ cut-asked U ≠0 = cut-both
 cut-asked U ≤0 = cut-not-negative
 cut-asked U any = cut-both
 
-abbrev intervalFrom : Side → Interval → List Row → Interval
+-- The cuts by all rows.
+abbrev pub intervalFrom : Side → Interval → List Row → Interval
 intervalFrom L = intervalL
 intervalFrom U = intervalU
 
-all-rows : {side : Side} {x : Row} {xs : List Row} {t : Fraction} → Holds side (x ∷ xs) t → (combined t (x .a) (x .b) ∈ named (asked side (x .s))) × Holds side xs t
+-- What the rows ask, the first of them apart.
+pub all-rows : {side : Side} {x : Row} {xs : List Row} {t : Fraction} → Holds side (x ∷ xs) t → (combined t (x .a) (x .b) ∈ named (asked side (x .s))) × Holds side xs t
 all-rows (one-row h i) = (h, i)
 
 cut-more : (side : Side) (r : Interval) (x : Row) (xs : List Row) (t : Fraction) {r′ : Interval}
@@ -129,7 +134,8 @@ cut-more side r x xs t later = let now = cut-asked side (x .s) (x .a) (x .b) r t
   λ (h, i). let k = all-rows h in later .1 (k .1, now .1 (k .0, i)),
 )
 
-interval-from : (side : Side) (r : Interval) (xs : List Row) (t : Fraction) → Inside (intervalFrom side r xs) t ↔ (Holds side xs t × Inside r t)
+-- They leave just the t that have what all rows ask.
+pub interval-from : (side : Side) (r : Interval) (xs : List Row) (t : Fraction) → Inside (intervalFrom side r xs) t ↔ (Holds side xs t × Inside r t)
 unfolding intervalL intervalU
 interval-from L r [] t = (λ i. (no-rows, i), λ (h, i). i)
 interval-from U r [] t = (λ i. (no-rows, i), λ (h, i). i)

@@ -3,9 +3,11 @@ pub mod Ends
 pub mod FractionSets
 pub mod Intervals
 pub mod Exact
+pub mod Found
 pub mod Monomials
 pub mod Terms
 pub mod Rows
+pub mod Points
 pub mod Coefficients
 pub mod Deduction
 pub mod Readings

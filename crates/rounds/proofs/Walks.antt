@@ -1,6 +1,7 @@
 -- The atoms of a list walked one at a time, from the one at i on: what a step does to what is folded over them.
 -- The rest of a list is its next atom and the rest after that; the slots that are signed, likewise.
 use mathlib.Core.Path.{_≡_, refl, sym, _∙_, ap}
+use mathlib.Core.Bool.{true}
 use mathlib.Core.List.{List, [], _∷_, _++_}
 use Prim.Native.Nat.{ℕ, zero, suc, _+_, _-_, _*_, _<_, _≤_}
 use native.Mathlib.Nat.{add-zero, zero-add}
@@ -9,9 +10,11 @@ use native.Mathlib.Omega.{arith}
 use borrow.Author.Count.{below-more}
 use lib.ListN.{length, getD, set}
 use lib.Seq.{getD-set-same, getD-set-other}
-use Rattle.rules.specs.Signs.{SignSet, intersect}
+use Rattle.sign_laws.specs.Booleans.{and-false, or-true}
+use Rattle.ending_laws.specs.AtOnce.{empty-after-some}
+use Rattle.rules.specs.Signs.{SignSet, only, has, bit, setOf, intersect}
 use Rattle.rules.specs.Polynomial.{Polynomial, Atom, Board, byTerms}
-use Rattle.rules.specs.Deduce.{deduce}
+use Rattle.rules.specs.Deduce.{anyEmpty, unlessEmpty, deduce}
 use Rattle.rules.specs.Rounds.{cutBy, cutAtom, cutAtoms}
 use Rattle.terms.specs.Signed.{Held, bySigns, by-signs}
 use Rattle.table.specs.declared.Atoms.{Atoms}
@@ -78,9 +81,21 @@ module _ (t : Table) (numbers : List ℕ) (sets : List SignSet) where
   unfolding cutBy
   cut-step board p i n s h eP eQ ed er = rw (atoms-cons t numbers sets i n h, er, ed, eP, eQ)
 
+  -- an empty set on the board makes the deduction from each atom empty
+  pub cut-empty-board : (board : Board) (p : Polynomial) (i n : ℕ) (s : SignSet) → i < n → anyEmpty board ≡ true
+      → cutBy board p (atomsFrom t numbers sets i (n - i)) s ≡ 0
+  unfolding cutBy deduce unlessEmpty intersect setOf has only bit
+  cut-empty-board board p i n s h e =
+      rw (atoms-cons t numbers sets i n h) (empty-after-some board p (atomAt t numbers sets i ∷ []) (atomsFrom t numbers sets (i + 1) (n - (i + 1))) s (simp (e, or-true, and-false)))
+
   pub cut-end : (board : Board) (p : Polynomial) (i n : ℕ) (s : SignSet) → n ≤ i → cutBy board p (atomsFrom t numbers sets i (n - i)) s ≡ s
   unfolding cutBy
   cut-end board p i n s h = rw (atoms-nil t numbers sets i n h)
+
+-- an empty set stays empty
+pub cut-empty : (board : Board) (p : Polynomial) (qs : List Atom) (s : SignSet) → s ≡ 0 → cutBy board p qs s ≡ 0
+unfolding cutBy
+cut-empty board p qs s e = empty-after-some board p [] qs s e
 
 -- the deductions from two lists, one after the other
 pub cut-append : (board : Board) (p : Polynomial) (xs ys : List Atom) (s : SignSet) → cutBy board p (xs ++ ys) s ≡ cutBy board p ys (cutBy board p xs s)

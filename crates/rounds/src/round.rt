@@ -14,13 +14,15 @@ use crate::lent::after_turns;
 use crate::list::many;
 use crate::slots::places;
 use crate::slots::sign_list;
-use deduce::deduce;
+use deduce::any_empty;
+use deduce::deduce_from;
 use signs::SignSet;
 use table::Atoms;
 use terms::Board;
 use terms::by_terms;
 
-// The set of the polynomial in slot p, cut by its deductions from the atoms from..to.
+// The set of the polynomial in slot p, cut by its deductions from the atoms from..to. An empty set stays empty, and an empty set
+// on the board empties it at the first atom.
 pub fn cut_by(
     coefficient: &[i32],
     monomial: &[u64],
@@ -41,6 +43,12 @@ pub fn cut_by(
         let t = lentTable (coefficient .entry) (monomial .entry) (terms .entry) (board .variables) in
         ⌜ r .0 ≡ cutBy (setsOf board) (formAt t p) (atomsFrom t (atoms .number) (atoms .set) from (to - from)) (set .0) ⌝ }
 {
+    if any_empty(board) {
+        if from < to {
+            return SignSet::EMPTY;
+        }
+        return set;
+    }
     let run = places(terms, p);
     let mut sofar = set;
     let mut i = from;
@@ -50,7 +58,10 @@ pub fn cut_by(
         i += 1;
         let k = (number % 64) as usize;
         let q = places(terms, k);
-        sofar = sofar.intersect(deduce(coefficient, monomial, sign, board, run, q, SignSet(held)));
+        sofar = sofar.intersect(deduce_from(coefficient, monomial, sign, run, q, SignSet(held)));
+        if sofar.0 == 0 {
+            return SignSet::EMPTY;
+        }
     }
     sofar
 }

@@ -1,36 +1,57 @@
 // Sign sets, 01 "Signs": a part of {negative, zero, positive} in three bits, in that order.
 // Each method is the function of the same name of the book, for every byte: what lies above the three bits is not read.
 ghost use mathlib.Core.Path.{_≡_};
+ghost use Prim.Native.Nat.{_<_};
+ghost use Rattle.signs.specs.Digits.{digits, digitOf};
 ghost use Rattle.rules.specs.Signs.{square, mirror, complement, sum, product, intersect, inside};
 
 pub struct SignSet(pub u8);
 
-// Sum and product are held as tables of 64 entries: a row for the first set, an entry in it for the second.
-const SUMS: [[u8; 8]; 8] = [
-    [0, 0, 0, 0, 0, 0, 0, 0],
-    [0, 1, 1, 1, 7, 7, 7, 7],
-    [0, 1, 2, 3, 4, 5, 6, 7],
-    [0, 1, 3, 3, 7, 7, 7, 7],
-    [0, 7, 4, 7, 4, 7, 4, 7],
-    [0, 7, 5, 7, 7, 7, 7, 7],
-    [0, 7, 6, 7, 4, 7, 6, 7],
-    [0, 7, 7, 7, 7, 7, 7, 7],
-];
+// Sum and product are held as tables of 64 entries: a row for the first set, and in it a digit for the second, from the left.
+// A row is one number, so that a table is read where it stands and is never copied.
+fn sums(first: u8) -> u32
+    requires { ⌜ first < 8 ⌝ }
+    ensures { λ r. ⌜ r ≡ digits (sum first) ⌝ }
+{
+    match first {
+        0 => 0x00000000,
+        1 => 0x01117777,
+        2 => 0x01234567,
+        3 => 0x01337777,
+        4 => 0x07474747,
+        5 => 0x07577777,
+        6 => 0x07674767,
+        _ => 0x07777777,
+    }
+}
 
-const PRODUCTS: [[u8; 8]; 8] = [
-    [0, 0, 0, 0, 0, 0, 0, 0],
-    [0, 1, 2, 3, 4, 5, 6, 7],
-    [0, 2, 2, 2, 2, 2, 2, 2],
-    [0, 3, 2, 3, 6, 7, 6, 7],
-    [0, 4, 2, 6, 1, 5, 3, 7],
-    [0, 5, 2, 7, 5, 5, 7, 7],
-    [0, 6, 2, 6, 3, 7, 3, 7],
-    [0, 7, 2, 7, 7, 7, 7, 7],
-];
+fn products(first: u8) -> u32
+    requires { ⌜ first < 8 ⌝ }
+    ensures { λ r. ⌜ r ≡ digits (product first) ⌝ }
+{
+    match first {
+        0 => 0x00000000,
+        1 => 0x01234567,
+        2 => 0x02222222,
+        3 => 0x03236767,
+        4 => 0x04261537,
+        5 => 0x05275577,
+        6 => 0x06263737,
+        _ => 0x07277777,
+    }
+}
 
-const SQUARES: [u8; 8] = [0, 1, 2, 3, 1, 1, 3, 3];
+const SQUARES: u32 = 0x01231133;
 
-const MIRRORS: [u8; 8] = [0, 4, 2, 6, 1, 5, 3, 7];
+const MIRRORS: u32 = 0x04261537;
+
+// The digit of a row for a set.
+fn digit(row: u32, set: u8) -> u8
+    requires { ⌜ set < 8 ⌝ }
+    ensures { λ r. ⌜ r ≡ digitOf row set ⌝ }
+{
+    ((row >> (28 - 4 * set)) % 16) as u8
+}
 
 impl SignSet {
     pub const EMPTY: SignSet = SignSet(0);
@@ -40,16 +61,14 @@ impl SignSet {
     pub fn square(self) -> SignSet
         ensures { λ r. ⌜ r .0 ≡ square (self .0) ⌝ }
     {
-        let set = self.0 % 8;
-        SignSet(SQUARES[set as usize])
+        SignSet(digit(SQUARES, self.0 % 8))
     }
 
     // Negative and positive exchanged.
     pub fn mirror(self) -> SignSet
         ensures { λ r. ⌜ r .0 ≡ mirror (self .0) ⌝ }
     {
-        let set = self.0 % 8;
-        SignSet(MIRRORS[set as usize])
+        SignSet(digit(MIRRORS, self.0 % 8))
     }
 
     pub fn complement(self) -> SignSet
@@ -61,17 +80,13 @@ impl SignSet {
     pub fn sum(self, other: SignSet) -> SignSet
         ensures { λ r. ⌜ r .0 ≡ sum (self .0) (other .0) ⌝ }
     {
-        let first = self.0 % 8;
-        let second = other.0 % 8;
-        SignSet(SUMS[first as usize][second as usize])
+        SignSet(digit(sums(self.0 % 8), other.0 % 8))
     }
 
     pub fn product(self, other: SignSet) -> SignSet
         ensures { λ r. ⌜ r .0 ≡ product (self .0) (other .0) ⌝ }
     {
-        let first = self.0 % 8;
-        let second = other.0 % 8;
-        SignSet(PRODUCTS[first as usize][second as usize])
+        SignSet(digit(products(self.0 % 8), other.0 % 8))
     }
 
     pub fn intersect(self, other: SignSet) -> SignSet

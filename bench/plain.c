@@ -1,0 +1,764 @@
+// A plain C version of document 01's rules, written for speed: what the proved program's time is measured against.
+// No heap; exponents packed into one number; signs worked out once for a board; deductions left out or left early where they cannot cut.
+#include <stdbool.h>
+#include <stdint.h>
+#include <stdio.h>
+#include <string.h>
+
+// Compiled with -DCOUNT it prints for each block the deductions that document 01 makes of it and the rounds that it begins.
+#ifdef COUNT
+static long deductions, rounds;
+#define COUNTED(what) what++
+#define EMPTY(set) false
+#else
+#define COUNTED(what)
+#define EMPTY(set) (!(set))
+#endif
+
+// ---- signs: < is 4, = is 2, > is 1
+
+static const uint8_t SUM[8][8] = {
+    {0, 0, 0, 0, 0, 0, 0, 0}, {0, 1, 1, 1, 7, 7, 7, 7}, {0, 1, 2, 3, 4, 5, 6, 7}, {0, 1, 3, 3, 7, 7, 7, 7},
+    {0, 7, 4, 7, 4, 7, 4, 7}, {0, 7, 5, 7, 7, 7, 7, 7}, {0, 7, 6, 7, 4, 7, 6, 7}, {0, 7, 7, 7, 7, 7, 7, 7},
+};
+static const uint8_t MIRROR[8] = {0, 4, 2, 6, 1, 5, 3, 7};
+
+// ---- the table of forms, and the signs of their monomials on the board at hand
+
+enum { TERMS = 16, FORMS = 64, VARIABLES = 16, NODES = 256 };
+
+typedef struct {
+    int terms;
+    int variable;           // the variable that the form is, or -1
+    bool constant;
+    uint16_t linear;        // the variables whose power 1 is a monomial of the form
+    int32_t coefficient[TERMS];
+    uint64_t monomial[TERMS];
+    uint64_t occurs[TERMS]; // a bit for each exponent above 0
+} Form;
+
+static int variables;
+static uint64_t one_variable[VARIABLES]; // the monomial of each variable
+static Form form[FORMS];
+static uint8_t sign[FORMS][TERMS];
+static bool strict[FORMS];               // some monomial's sign is > or <
+
+#define LOW_BITS 0x1111111111111111u
+
+// The board as bits at the variables' exponents: those whose set has zero, is zero alone, has both other signs, has negative and not positive.
+typedef struct {
+    uint64_t zero, only_zero, both, negative;
+} Masks;
+
+static Masks masks_of(const uint8_t *board) {
+    Masks m = {0, 0, 0, 0};
+    for (int i = 0; i < variables; i++) {
+        uint64_t bit = one_variable[i];
+        int set = board[i];
+        if (set & 2) m.zero |= bit;
+        if (set == 2) m.only_zero |= bit;
+        if ((set & 5) == 5) m.both |= bit;
+        if ((set & 5) == 4) m.negative |= bit;
+    }
+    return m;
+}
+
+static inline int monomial_sign(const Masks *m, uint64_t monomial, uint64_t occurs) {
+    if (occurs & m->only_zero) return 2;
+    uint64_t odd = monomial & LOW_BITS;
+    int s = odd & m->both ? 5 : __builtin_popcountll(odd & m->negative) & 1 ? 4 : 1;
+    return occurs & m->zero ? s | 2 : s;
+}
+
+// Works out the signs of a form, or only those where a variable of `changed` occurs.
+static void sign_form(const Masks *m, int f, uint64_t changed) {
+    bool some = false;
+    for (int t = 0; t < form[f].terms; t++) {
+        if (form[f].occurs[t] & changed || !changed) sign[f][t] = monomial_sign(m, form[f].monomial[t], form[f].occurs[t]);
+        some |= sign[f][t] == 1 || sign[f][t] == 4;
+    }
+    strict[f] = some;
+}
+
+static int sign_by_terms(int f) {
+    int sum = 2;
+    for (int t = 0; t < form[f].terms && sum != 7; t++) {
+        int s = sign[f][t];
+        sum = SUM[sum][form[f].coefficient[t] < 0 ? MIRROR[s] : s];
+    }
+    return sum;
+}
+
+// ---- deducing p from q
+
+// The t from low to high, as fractions; a denominator 0 is no end.
+typedef struct {
+    int64_t low, low_d, high, high_d;
+} Interval;
+
+// t is at least n/d. Whether some t is left.
+static inline bool at_least(Interval *i, int64_t n, int64_t d) {
+    if (n * i->low_d > i->low * d) {
+        i->low = n;
+        i->low_d = d;
+        return n * i->high_d <= i->high * d;
+    }
+    return true;
+}
+
+static inline bool at_most(Interval *i, int64_t n, int64_t d) {
+    if (n * i->high_d < i->high * d) {
+        i->high = n;
+        i->high_d = d;
+        return i->low * d <= n * i->low_d;
+    }
+    return true;
+}
+
+static inline bool has_inner(const Interval *i) {
+    return (i->low_d == 0 && i->high_d == 0) || i->low * i->high_d < i->high * i->low_d;
+}
+
+// What the deduction of p from q leaves of p's set. For < and ≤ only the t from 0 up matter in L and those up to 0 in U, for > and ≥ the other way.
+static inline int deduced(int set, int terms, const int32_t *pc, const uint64_t *pm, const uint8_t *ps, bool p_strict, int q, int q_set) {
+    const Interval every = {-1, 0, 1, 0}, up = {0, 1, 1, 0}, down = {-1, 0, 0, 1};
+    const int32_t *qc = form[q].coefficient;
+    const uint64_t *qm = form[q].monomial;
+    const uint8_t *qs = sign[q];
+    int q_terms = form[q].terms;
+    // L finds > or ≥, U finds < or ≤: one that cannot cut is left out.
+    bool in_l = set & 6, in_u = set & 3;
+    Interval l = q_set == 2 ? every : q_set & 4 ? up : down;
+    Interval u = q_set == 2 ? every : q_set & 4 ? down : up;
+    for (int i = 0, j = 0; i < terms || j < q_terms;) {
+        int64_t a = 0, b = 0;
+        int s;
+        if (j == q_terms || (i < terms && pm[i] > qm[j])) {
+            s = ps[i];
+            a = pc[i++];
+        } else if (i == terms || pm[i] < qm[j]) {
+            s = qs[j];
+            b = qc[j++];
+        } else {
+            s = qs[j];
+            a = pc[i++];
+            b = qc[j++];
+        }
+        switch (s) {
+        case 2:
+            continue;
+        case 4:
+        case 6:
+            a = -a;
+            b = -b;
+            // fall through
+        case 1:
+        case 3:
+            if (b > 0) {
+                in_l = in_l && at_least(&l, -a, b);
+                in_u = in_u && at_most(&u, -a, b);
+            } else if (b < 0) {
+                in_l = in_l && at_most(&l, a, -b);
+                in_u = in_u && at_least(&u, a, -b);
+            } else if (a > 0) {
+                in_u = false;
+            } else {
+                in_l = false;
+            }
+            break;
+        default:
+            if (b == 0) return set;
+            if (b < 0) {
+                a = -a;
+                b = -b;
+            }
+            in_l = in_l && at_least(&l, -a, b) && at_most(&l, -a, b);
+            in_u = in_u && at_least(&u, -a, b) && at_most(&u, -a, b);
+        }
+        if (!in_l && !in_u) return set;
+    }
+    bool some_strict = p_strict || strict[q];
+    if (in_l) set &= (q_set == 4 ? l.high > 0 : q_set == 1 ? l.low < 0 : some_strict && has_inner(&l)) ? 1 : 3;
+    if (in_u) set &= (q_set == 4 ? u.low < 0 : q_set == 1 ? u.high > 0 : some_strict && has_inner(&u)) ? 4 : 6;
+    return set;
+}
+
+// ---- rounds over a list of atoms
+
+typedef struct {
+    uint8_t board[VARIABLES];
+    Masks masks;
+    int atoms; // those of no variable
+    uint8_t number[FORMS], set[FORMS];
+    bool contradiction;
+} List;
+
+static inline bool speaks(int set) { return set != 5 && set != 7; }
+
+static int deduced_variable(const List *list, int i, int set) {
+    static const int32_t one = 1;
+    uint8_t s = list->board[i];
+    bool open = (s & 5) == 5;
+    for (int q = 0; q < list->atoms && !EMPTY(set); q++) {
+        if (!speaks(list->set[q])) continue;
+        COUNTED(deductions);
+        int f = list->number[q];
+        // where the variable's own monomial has no sign and does not occur in q, there is no t
+        if (open && !(form[f].linear >> i & 1)) continue;
+        set = deduced(set, 1, &one, &one_variable[i], &s, s == 1 || s == 4, f, list->set[q]);
+    }
+    return set;
+}
+
+static int deduced_form(const List *list, const uint8_t *sets, int f, int set, int left_out) {
+    for (int q = 0; q < list->atoms && !EMPTY(set); q++) {
+        if (q == left_out || !speaks(sets[q])) continue;
+        COUNTED(deductions);
+        set = deduced(set, form[f].terms, form[f].coefficient, form[f].monomial, sign[f], strict[f], list->number[q], sets[q]);
+    }
+    return set;
+}
+
+static bool round_changes(List *list) {
+    COUNTED(rounds);
+    bool changed = false;
+    for (int i = 0; i < variables; i++) {
+        int set = deduced_variable(list, i, list->board[i]);
+        if (set == list->board[i]) continue;
+        changed = true;
+        list->board[i] = set;
+        if (!set) {
+            list->contradiction = true;
+            return false;
+        }
+        list->masks = masks_of(list->board);
+        for (int q = 0; q < list->atoms; q++) sign_form(&list->masks, list->number[q], one_variable[i]);
+    }
+    uint8_t before[FORMS];
+    memcpy(before, list->set, list->atoms);
+    for (int p = 0; p < list->atoms; p++) {
+        int f = list->number[p];
+        int set = deduced_form(list, before, f, before[p] & sign_by_terms(f), p);
+        if (set == before[p]) continue;
+        changed = true;
+        list->set[p] = set;
+        if (!set) {
+            list->contradiction = true;
+            return false;
+        }
+    }
+    return changed;
+}
+
+// The list of some tokens, the one at left_out not among them, after its rounds.
+static void run(List *list, const uint16_t *token, int count, int left_out) {
+    memset(list->board, 7, sizeof list->board);
+    list->atoms = 0;
+    list->contradiction = false;
+    for (int k = 0; k < count; k++) {
+        if (k == left_out) continue;
+        int f = token[k] >> 3;
+        if (form[f].variable >= 0) {
+            list->board[form[f].variable] = token[k] & 7;
+        } else {
+            list->number[list->atoms] = f;
+            list->set[list->atoms++] = token[k] & 7;
+        }
+    }
+    list->masks = masks_of(list->board);
+    for (int q = 0; q < list->atoms; q++) sign_form(&list->masks, list->number[q], 0);
+    while (round_changes(list)) {
+    }
+}
+
+// What the list says of a form, whose signs are not at hand unless it is listed.
+static int says(const List *list, int f) {
+    if (list->contradiction) return 0;
+    int set = 7;
+    if (form[f].variable >= 0) {
+        set = list->board[form[f].variable];
+    } else {
+        int q = 0;
+        while (q < list->atoms && list->number[q] != f) q++;
+        if (q < list->atoms) set = list->set[q];
+    }
+    sign_form(&list->masks, f, 0);
+    return deduced_form(list, list->set, f, set & sign_by_terms(f), -1);
+}
+
+// ---- a level: atoms as tokens, 8 times the form's number and the set; children as a tape, each its head, its atoms and its own children.
+// A head is 256 times the number of its atoms and the length of its own children's tape. A child's sets are complemented.
+
+typedef struct {
+    int atoms, length;
+    uint16_t atom[NODES], child[NODES];
+} Level;
+
+#define NODE 0x8000
+
+static void is_false(Level *level) {
+    level->atoms = 0;
+    level->length = 1;
+    level->child[0] = 0;
+}
+
+static inline int head_atoms(uint16_t head) { return head >> 8; }
+static inline int head_length(uint16_t head) { return head & 255; }
+
+// A child enters: false (no parts), one atom that joins, one AND that is spliced, or it stays.
+typedef struct {
+    bool falls, moved;
+    Level level; // the atoms that joined, and the children that stay
+} Walk;
+
+static void enter(Walk *walk, const uint16_t *atom, int atoms, const uint16_t *child, int length) {
+    Level *to = &walk->level;
+    if (atoms == 0 && length == 0) {
+        walk->falls = true;
+    } else if (atoms == 1 && length == 0) {
+        walk->moved = true;
+        to->atom[to->atoms++] = atom[0] ^ 7;
+    } else if (atoms == 0 && 1 + head_atoms(child[0]) + head_length(child[0]) == length) {
+        walk->moved = true;
+        int n = head_atoms(child[0]);
+        memcpy(to->atom + to->atoms, child + 1, 2 * n);
+        to->atoms += n;
+        memcpy(to->child + to->length, child + 1 + n, 2 * (length - 1 - n));
+        to->length += length - 1 - n;
+    } else {
+        to->child[to->length++] = atoms << 8 | length;
+        memcpy(to->child + to->length, atom, 2 * atoms);
+        memcpy(to->child + to->length + atoms, child, 2 * length);
+        to->length += atoms + length;
+    }
+}
+
+// Step 2. Whether the node may still hold.
+static bool tidy(Level *level) {
+    int8_t place[FORMS];
+    memset(place, -1, sizeof place);
+    int n = 0;
+    for (int k = 0; k < level->atoms; k++) {
+        int f = level->atom[k] >> 3;
+        if (place[f] >= 0) {
+            level->atom[place[f]] &= level->atom[k] | ~7;
+        } else {
+            place[f] = n;
+            level->atom[n++] = level->atom[k];
+        }
+    }
+    level->atoms = 0;
+    for (int k = 0; k < n; k++) {
+        int set = level->atom[k] & 7;
+        bool constant = form[level->atom[k] >> 3].constant;
+        if (set == 7 || (constant && set & 1)) continue;
+        if (set == 0 || constant) return false;
+        level->atom[level->atoms++] = level->atom[k];
+    }
+    return true;
+}
+
+// Step 4. What the list says of each direct atom of each child.
+static void sweep(const List *list, const Level *level, Walk *walk) {
+    walk->falls = walk->moved = false;
+    walk->level.atoms = walk->level.length = 0;
+    for (int at = 0; at < level->length && !walk->falls;) {
+        int atoms = head_atoms(level->child[at]), length = head_length(level->child[at]);
+        const uint16_t *atom = level->child + at + 1;
+        at += 1 + atoms + length;
+        uint16_t left[NODES];
+        int n = 0;
+        bool implied = false;
+        for (int k = 0; k < atoms && !implied; k++) {
+            int set = ~atom[k] & 7, said = says(list, atom[k] >> 3);
+            implied = (said & ~set) == 0;
+            if (said & set) left[n++] = (atom[k] & ~7) | (~(said & set) & 7);
+        }
+        if (!implied) enter(walk, left, n, atom + atoms, length);
+    }
+}
+
+// Steps 2 to 6.
+static void settle(Level *level) {
+    List list;
+    Walk walk;
+    do {
+        if (!tidy(level)) return is_false(level);
+        run(&list, level->atom, level->atoms, -1);
+        if (list.contradiction) return is_false(level);
+        for (int k = 0, next = 0; k < level->atoms; k++) {
+            int v = form[level->atom[k] >> 3].variable;
+            level->atom[k] = (level->atom[k] & ~7) | (v >= 0 ? list.board[v] : list.set[next++]);
+        }
+        if (level->length == 0) break;
+        sweep(&list, level, &walk);
+        if (walk.falls) return is_false(level);
+        memcpy(level->atom + level->atoms, walk.level.atom, 2 * walk.level.atoms);
+        level->atoms += walk.level.atoms;
+        memcpy(level->child, walk.level.child, 2 * walk.level.length);
+        level->length = walk.level.length;
+    } while (walk.moved);
+    for (int k = 0; k < level->atoms;) {
+        run(&list, level->atom, level->atoms, k);
+        if (says(&list, level->atom[k] >> 3) & ~level->atom[k] & 7) {
+            k++;
+        } else {
+            memmove(level->atom + k, level->atom + k + 1, 2 * (--level->atoms - k));
+        }
+    }
+}
+
+static const uint16_t *skip(const uint16_t *token) {
+    for (int due = 1; due > 0; due--, token++) {
+        if (*token & NODE) due += *token & 255;
+    }
+    return token;
+}
+
+// The AND rule on the node at a token, or with flip = 7 the OR rule. Gives the token after the node.
+static const uint16_t *rule(const uint16_t *token, int flip, Level *level) {
+    Walk walk = {.falls = false, .moved = false};
+    walk.level.atoms = walk.level.length = level->atoms = 0;
+    for (int parts = *token++ & 255; parts > 0; parts--) {
+        if (!(*token & NODE)) {
+            level->atom[level->atoms++] = *token++ ^ flip;
+        } else if (walk.falls) {
+            token = skip(token);
+        } else {
+            Level child;
+            token = rule(token, flip ^ 7, &child);
+            enter(&walk, child.atom, child.atoms, child.child, child.length);
+        }
+    }
+    if (walk.falls) {
+        is_false(level);
+        return token;
+    }
+    memcpy(level->atom + level->atoms, walk.level.atom, 2 * walk.level.atoms);
+    level->atoms += walk.level.atoms;
+    memcpy(level->child, walk.level.child, 2 * walk.level.length);
+    level->length = walk.level.length;
+    settle(level);
+    return token;
+}
+
+// ---- reading
+
+typedef struct {
+    const uint8_t *byte;
+    size_t at, bits;
+    int polynomials, nodes, read;
+    uint16_t token[NODES];
+} Reader;
+
+// A field of at most 32 bits.
+static uint32_t get(Reader *r, int width) {
+    size_t first = r->at >> 3, bytes = r->bits >> 3;
+    uint64_t word = 0;
+    if (first + 8 <= bytes) {
+        memcpy(&word, r->byte + first, 8);
+        word = __builtin_bswap64(word);
+    } else {
+        for (size_t k = 0; k < 8; k++) word = word << 8 | (first + k < bytes ? r->byte[first + k] : 0);
+    }
+    word <<= r->at & 7;
+    r->at += width;
+    return width ? word >> (64 - width) : 0;
+}
+
+static inline bool has(const Reader *r, int width) { return r->bits - r->at >= (size_t)width; }
+
+static int read_polynomial(Reader *r, Form *f) {
+    if (!has(r, 5)) return 6;
+    f->terms = get(r, 5);
+    if (f->terms == 0 || f->terms > TERMS) return 7;
+    int exponents = 4 * variables;
+    for (int t = 0; t < f->terms; t++) {
+        if (!has(r, 32 + exponents)) return 6;
+        uint32_t c = get(r, 32);
+        uint64_t m = exponents > 32 ? (uint64_t)get(r, exponents - 32) << 32 | get(r, 32) : get(r, exponents);
+        if ((c & 0x7fffffff) == 0) return 8;
+        if (t > 0 && m >= f->monomial[t - 1]) return 9;
+        f->coefficient[t] = c >> 31 ? -(int32_t)(c & 0x7fffffff) : (int32_t)c;
+        f->monomial[t] = m;
+    }
+    return 0;
+}
+
+static int read_node(Reader *r, int parent, int nesting) {
+    if (r->read == r->nodes) return 14;
+    if (!has(r, 2)) return 6;
+    int kind = get(r, 2);
+    if (kind == 3) return 10;
+    if (kind == 0) {
+        if (!has(r, 9)) return 6;
+        int atom = get(r, 9);
+        if (atom >> 3 >= r->polynomials) return 11;
+        r->token[r->read++] = atom;
+        return 0;
+    }
+    if (!has(r, 8)) return 6;
+    int parts = get(r, 8);
+    if (kind == parent) return 12;
+    if (nesting == 6) return 13;
+    r->token[r->read++] = NODE | parts;
+    for (; parts > 0; parts--) {
+        int refusal = read_node(r, kind, nesting + 1);
+        if (refusal) return refusal;
+    }
+    return 0;
+}
+
+// Refusals 2 to 15, or 0. The root's kind is its first two bits.
+static int read_block(Reader *r, const uint8_t *byte, size_t length, int *root) {
+    if (length < 5) return 2;
+    r->byte = byte;
+    r->at = 0;
+    r->bits = 8 * length;
+    int edition = get(r, 4);
+    variables = get(r, 5);
+    r->polynomials = get(r, 7);
+    r->nodes = get(r, 8);
+    r->read = 0;
+    size_t told = get(r, 16);
+    if (edition != 1) return 3;
+    if (told != length) return 4;
+    if (variables < 1 || variables > VARIABLES || r->polynomials > FORMS || r->nodes == 0) return 5;
+    for (int k = 0; k < r->polynomials; k++) {
+        int refusal = read_polynomial(r, &form[k]);
+        if (refusal) return refusal;
+    }
+    size_t tree = r->at;
+    int refusal = read_node(r, 0, 0);
+    if (refusal) return refusal;
+    if (r->read != r->nodes) return 14;
+    int padding = r->bits - r->at < 8 ? (int)(r->bits - r->at) : 8;
+    if (padding == 8 || get(r, padding) != 0) return 15;
+    r->at = tree;
+    *root = get(r, 2);
+    return 0;
+}
+
+// ---- normal form
+
+static uint32_t common_divisor(uint32_t a, uint32_t b) {
+    while (b) {
+        uint32_t rest = a % b;
+        a = b;
+        b = rest;
+    }
+    return a;
+}
+
+static bool same_form(const Form *one, const Form *other) {
+    return one->terms == other->terms && !memcmp(one->monomial, other->monomial, 8 * one->terms) && !memcmp(one->coefficient, other->coefficient, 4 * one->terms);
+}
+
+// Brings the polynomials to normal form, in their places, and the atoms' tokens to the first of equal forms.
+static void to_forms(Reader *r) {
+    uint8_t number[FORMS];
+    bool turned[FORMS];
+    for (int i = 0; i < variables; i++) one_variable[i] = (uint64_t)1 << 4 * (variables - 1 - i);
+    for (int k = 0; k < r->polynomials; k++) {
+        Form *f = &form[k];
+        turned[k] = f->coefficient[0] < 0;
+        uint32_t divisor = 0;
+        for (int t = 0; t < f->terms && divisor != 1; t++) divisor = common_divisor(f->coefficient[t] < 0 ? -f->coefficient[t] : f->coefficient[t], divisor);
+        if (divisor != 1 || turned[k]) {
+            int32_t by = turned[k] ? -(int32_t)divisor : (int32_t)divisor;
+            for (int t = 0; t < f->terms; t++) f->coefficient[t] /= by;
+        }
+        number[k] = 0;
+        while (!same_form(&form[number[k]], f)) number[k]++;
+        if (number[k] < k) continue;
+        f->constant = f->monomial[0] == 0;
+        f->variable = -1;
+        f->linear = 0;
+        for (int t = 0; t < f->terms; t++) {
+            uint64_t m = f->monomial[t];
+            f->occurs[t] = (m | m >> 1 | m >> 2 | m >> 3) & LOW_BITS;
+            if (m == f->occurs[t] && m && !(m & (m - 1))) f->linear |= 1 << (variables - 1 - __builtin_ctzll(m) / 4);
+        }
+        if (f->terms == 1 && f->linear) f->variable = __builtin_ctz(f->linear);
+    }
+    for (int k = 0; k < r->nodes; k++) {
+        if (r->token[k] & NODE) continue;
+        int p = r->token[k] >> 3, set = r->token[k] & 7;
+        r->token[k] = number[p] << 3 | (turned[p] ? MIRROR[set] : set);
+    }
+}
+
+// ---- writing
+
+typedef struct {
+    uint8_t *byte;
+    size_t at;
+    uint64_t word; // the bits that are not written yet, the last ones lowest
+    int pending;
+} Writer;
+
+// A field of at most 32 bits.
+static inline void put(Writer *w, uint32_t value, int width) {
+    w->word = w->word << width | value;
+    w->pending += width;
+    while (w->pending >= 8) {
+        w->pending -= 8;
+        w->byte[w->at++] = w->word >> w->pending;
+    }
+}
+
+typedef struct {
+    int atoms, nodes, forms;
+    int8_t number[FORMS];
+    uint8_t used[FORMS];
+    uint16_t token[NODES]; // kinds in the bits of NODE and below: NODE | kind << 13 | parts
+} Tree;
+
+static void tell_atoms(Tree *tree, const uint16_t *atom, int atoms, int flip) {
+    for (int k = 0; k < atoms; k++) {
+        int f = atom[k] >> 3;
+        if (tree->number[f] < 0) {
+            tree->number[f] = tree->forms;
+            tree->used[tree->forms++] = f;
+        }
+        tree->token[tree->nodes++] = tree->number[f] << 3 | ((atom[k] & 7) ^ flip);
+    }
+    tree->atoms += atoms;
+}
+
+static int parts_in(const uint16_t *child, int length) {
+    int parts = 0;
+    for (int at = 0; at < length; at += 1 + head_atoms(child[at]) + head_length(child[at])) parts++;
+    return parts;
+}
+
+// The children of a tape: ANDs with flip = 0, ORs with flip = 7.
+static void tell_children(Tree *tree, const uint16_t *child, int length, int flip) {
+    for (int at = 0; at < length;) {
+        int atoms = head_atoms(child[at]), own = head_length(child[at]);
+        const uint16_t *atom = child + at + 1;
+        at += 1 + atoms + own;
+        tree->token[tree->nodes++] = NODE | (flip ? 2 : 1) << 13 | (atoms + parts_in(atom + atoms, own));
+        tell_atoms(tree, atom, atoms, flip);
+        tell_children(tree, atom + atoms, own, flip ^ 7);
+    }
+}
+
+static size_t write_block(const Tree *tree, uint8_t *output) {
+    size_t bits = 40;
+    for (int k = 0; k < tree->forms; k++) bits += 5 + form[tree->used[k]].terms * (32 + 4 * variables);
+    bits += 11 * tree->atoms + 10 * (tree->nodes - tree->atoms);
+    size_t length = (bits + 7) / 8;
+    Writer w = {output, 0, 0, 0};
+    put(&w, 1 << 12 | variables << 7 | tree->forms, 16);
+    put(&w, tree->nodes, 8);
+    put(&w, length, 16);
+    for (int k = 0; k < tree->forms; k++) {
+        const Form *f = &form[tree->used[k]];
+        put(&w, f->terms, 5);
+        for (int t = 0; t < f->terms; t++) {
+            int32_t c = f->coefficient[t];
+            put(&w, c < 0 ? 0x80000000u | (uint32_t)-c : (uint32_t)c, 32);
+            if (variables > 8) put(&w, f->monomial[t] >> 32, 4 * variables - 32);
+            put(&w, (uint32_t)f->monomial[t], variables > 8 ? 32 : 4 * variables);
+        }
+    }
+    for (int k = 0; k < tree->nodes; k++) {
+        uint16_t token = tree->token[k];
+        if (token & NODE) put(&w, (token >> 13 & 3) << 8 | (token & 255), 10);
+        else put(&w, token, 11);
+    }
+    if (w.pending) put(&w, 0, 8 - w.pending);
+    return length;
+}
+
+// ---- the answer
+
+typedef struct {
+    int refusal;
+    const char *verdict;
+    size_t length;
+    int atoms_in, atoms_out, polynomials_in, polynomials_out;
+} Answer;
+
+static __attribute__((noinline)) Answer simplify(const uint8_t *input, size_t length, uint8_t *output, size_t room) {
+    Answer answer = {.refusal = 1};
+    if (room < length) return answer;
+    Reader r;
+    int root;
+    answer.refusal = read_block(&r, input, length, &root);
+    if (answer.refusal) return answer;
+    to_forms(&r);
+    for (int k = 0; k < r.nodes; k++) answer.atoms_in += !(r.token[k] & NODE);
+    Level level;
+    int flip = root == 2 ? 7 : 0;
+    if (root == 0) {
+        level.atoms = 1;
+        level.length = 0;
+        level.atom[0] = r.token[0];
+        settle(&level);
+    } else {
+        rule(r.token, flip, &level);
+    }
+    Tree tree;
+    tree.atoms = tree.nodes = tree.forms = 0;
+    memset(tree.number, -1, sizeof tree.number);
+    int parts = level.atoms + parts_in(level.child, level.length);
+    if (parts != 1) tree.token[tree.nodes++] = NODE | (flip ? 2 : 1) << 13 | parts;
+    tell_atoms(&tree, level.atom, level.atoms, flip);
+    tell_children(&tree, level.child, level.length, flip ^ 7);
+    answer.verdict = tree.atoms ? "FORMULA" : tree.token[0] >> 13 & 1 ? "ALWAYS" : "UNSATISFIABLE";
+    answer.atoms_out = tree.atoms;
+    answer.polynomials_in = r.polynomials;
+    answer.polynomials_out = tree.forms;
+    answer.length = write_block(&tree, output);
+    return answer;
+}
+
+// ---- the program: a stream of blocks, each after its length in 2 bytes; or `repeat`: how often, in 4 bytes, then one block
+
+static uint8_t input[65536], output[65536];
+
+static void tell(const Answer *answer) {
+#ifdef COUNT
+    printf("%ld %ld\n", deductions, rounds);
+    deductions = rounds = 0;
+    return;
+#endif
+    if (answer->refusal) {
+        printf("REFUSED %d\n", answer->refusal);
+        return;
+    }
+    printf("%s %d %d %d %d\n", answer->verdict, answer->atoms_in, answer->atoms_out, answer->polynomials_in, answer->polynomials_out);
+    for (size_t k = 0; k < answer->length; k++) {
+        if (k) putchar(' ');
+        putchar("0123456789abcdef"[output[k] >> 4]);
+        putchar("0123456789abcdef"[output[k] & 15]);
+    }
+    putchar('\n');
+}
+
+static size_t most(size_t length) { return length < 32768 ? length : 32768; }
+
+int main(int count, char **words) {
+    uint8_t head[4];
+    if (count == 2 && !strcmp(words[1], "repeat")) {
+        if (fread(head, 1, 4, stdin) != 4) return 1;
+        uint32_t times = (uint32_t)head[0] << 24 | head[1] << 16 | head[2] << 8 | head[3];
+        size_t length = fread(input, 1, most(sizeof input), stdin);
+        Answer answer = simplify(input, length, output, length);
+        for (; times > 1; times--) answer = simplify(input, length, output, length);
+        tell(&answer);
+        return 0;
+    }
+    for (size_t got; (got = fread(head, 1, 2, stdin)) > 0;) {
+        size_t length = got == 2 ? (size_t)head[0] << 8 | head[1] : 0;
+        if (got < 2 || fread(input, 1, length, stdin) < length) {
+            puts("CUT OFF");
+            break;
+        }
+        Answer answer = simplify(input, most(length), output, most(length));
+        tell(&answer);
+    }
+    return 0;
+}

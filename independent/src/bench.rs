@@ -1,0 +1,271 @@
+//! The blocks that the cost is measured on, each made from a fixed seed.
+//! Random conditions are made to hold at a hidden point, so that they do not contradict each other.
+
+use std::collections::BTreeSet;
+
+use crate::block::{write, Formula};
+use crate::meaning::value;
+use crate::polynomial::{Polynomial, Term};
+use crate::random::Random;
+use crate::search::{candidate, SLOWEST};
+use crate::signs::{sign_of, SignSet};
+use crate::tree::Node;
+
+/// The block of a name.
+pub fn block(name: &str) -> Option<Vec<u8>> {
+    let formula = match name {
+        "chain" => chain(),
+        "linear" => linear(),
+        "mixed" => mixed(),
+        "deep" => deep(),
+        "back" => back(),
+        "worst" => worst(),
+        "slowest" => candidate(SLOWEST),
+        _ => list(name.strip_prefix("list-")?)?,
+    };
+    Some(write(&formula))
+}
+
+const VARIABLES: usize = 16;
+const POLYNOMIALS: usize = 64;
+
+/// The AND of 64 different differences x_i - x_j + c over 16 variables.
+fn chain() -> Formula {
+    let mut random = Random::new(1);
+    let point = hidden_point(&mut random);
+    let mut pairs = BTreeSet::new();
+    let mut table = vec![];
+    while table.len() < POLYNOMIALS {
+        let (i, j) = (random.below(VARIABLES), random.below(VARIABLES));
+        if i == j || !pairs.insert((i, j)) {
+            continue;
+        }
+        let c = random.pick(&[-9, -5, -2, -1, 1, 3, 4, 8]);
+        table.push(polynomial(vec![(1, variable(i)), (-1, variable(j)), (c, vec![0; VARIABLES])]));
+    }
+    conjunction(&mut random, &point, table)
+}
+
+/// 64 atoms of 16 terms of degree 1.
+fn linear() -> Formula {
+    let mut random = Random::new(2);
+    let point = hidden_point(&mut random);
+    let table = (0..POLYNOMIALS)
+        .map(|_| polynomial((0..VARIABLES).map(|i| (coefficient(&mut random), variable(i))).collect()))
+        .collect();
+    conjunction(&mut random, &point, table)
+}
+
+/// 64 atoms of 16 terms of mixed degree, exponents 0 to 3.
+fn mixed() -> Formula {
+    let mut random = Random::new(3);
+    let point = hidden_point(&mut random);
+    let table = (0..POLYNOMIALS).map(|_| mixed_polynomial(&mut random, 16)).collect();
+    conjunction(&mut random, &point, table)
+}
+
+/// Nesting 6 with 255 nodes over 64 polynomials, differences and mixed ones.
+fn deep() -> Formula {
+    let mut random = Random::new(4);
+    let point = hidden_point(&mut random);
+    let table: Vec<Polynomial> = (0..POLYNOMIALS)
+        .map(|k| match k % 4 {
+            0 => polynomial(vec![(1, variable(random.below(VARIABLES)))]),
+            1 => mixed_polynomial(&mut random, 4),
+            _ => {
+                let (i, j) = (random.below(VARIABLES), random.below(VARIABLES - 1));
+                let j = if j < i { j } else { j + 1 };
+                polynomial(vec![
+                    (1, variable(i)),
+                    (-1, variable(j)),
+                    (coefficient(&mut random), vec![0; VARIABLES]),
+                ])
+            }
+        })
+        .collect();
+    let mut nodes_left = 255;
+    let tree = deep_node(&mut random, &point, &table, true, 1, &mut nodes_left);
+    Formula { variables: VARIABLES, table, tree }
+}
+
+/// An AND or OR with its share of the nodes that are left: one child of the other kind at each nesting but the last, atoms beside it.
+fn deep_node(
+    random: &mut Random,
+    point: &[i128],
+    table: &[Polynomial],
+    and: bool,
+    nesting: usize,
+    nodes_left: &mut usize,
+) -> Node<usize> {
+    *nodes_left -= 1;
+    let mut parts = vec![];
+    if nesting < 6 {
+        let children = if nesting < 4 { 2 } else { 1 };
+        for child in 0..children {
+            let mut share = if child + 1 == children { *nodes_left * 3 / 4 } else { *nodes_left * 3 / 8 };
+            *nodes_left -= share;
+            parts.push(deep_node(random, point, table, !and, nesting + 1, &mut share));
+            *nodes_left += share;
+        }
+    }
+    while *nodes_left > 0 {
+        *nodes_left -= 1;
+        let number = random.below(table.len());
+        parts.push(Node::atom(number, set_at(random, point, &table[number], and)));
+    }
+    if and {
+        Node::And(parts)
+    } else {
+        Node::Or(parts)
+    }
+}
+
+// ------------------------------------------------------------------------------- many rounds on purpose
+
+/// 64 polynomials whose list, all of them at or above 0, takes 30 rounds: one change of the board in each but the last, while no atom is cut or
+/// implied, and most deductions find only at the last monomials that there is no t.
+///
+/// The links x_i - x_(i+1) - .. carry what is known of x_16 down to x_2, one variable in each round, since x_i has its turn before x_(i+1):
+/// first that it is at or above 0, then that it is above. x_16 - .. starts the first, 2 x_16 - x_2 - 1 - .. the second. With two such
+/// chains the rounds are as many when one atom is left out. The other polynomials are 1 - .. . The dots are even powers with x_1 in each:
+/// they come before all that decides. The list holds where x_1 is 0 and the others 1.
+fn slow_polynomials(chains: usize) -> Vec<Polynomial> {
+    let mut random = Random::new(5);
+    let powers = even_powers(&mut random);
+    let constant = vec![0; VARIABLES];
+    let last = VARIABLES - 1;
+    let mut starts = vec![];
+    for _ in 0..chains {
+        starts.push(vec![(1, variable(last))]);
+        starts.push(vec![(2, variable(last)), (-1, variable(1)), (-1, constant.clone())]);
+        for i in 1..last {
+            starts.push(vec![(1, variable(i)), (-1, variable(i + 1))]);
+        }
+    }
+    while starts.len() < POLYNOMIALS {
+        starts.push(vec![(1, constant.clone())]);
+    }
+    starts.into_iter().map(|start| with_even_powers(&mut random, &powers, 16, start)).collect()
+}
+
+/// Even powers with x_1 in each, so many that two polynomials share some of theirs: the slowest to go through.
+fn even_powers(random: &mut Random) -> Vec<Vec<u8>> {
+    let mut monomials = BTreeSet::new();
+    while monomials.len() < 45 {
+        let mut exponents: Vec<u8> = (0..VARIABLES).map(|_| random.pick(&[0, 0, 0, 2])).collect();
+        exponents[0] = random.pick(&[2, 4, 6]);
+        monomials.insert(exponents);
+    }
+    monomials.into_iter().collect()
+}
+
+/// The terms, and minus even powers up to a number of terms.
+fn with_even_powers(
+    random: &mut Random,
+    powers: &[Vec<u8>],
+    count: usize,
+    mut terms: Vec<(i128, Vec<u8>)>,
+) -> Polynomial {
+    let mut monomials = BTreeSet::new();
+    while terms.len() + monomials.len() < count {
+        monomials.insert(powers[random.below(powers.len())].clone());
+    }
+    terms.extend(monomials.into_iter().map(|exponents| (-random.between(1, 9), exponents)));
+    polynomial(terms)
+}
+
+/// `ATOMS-TERMS`: an AND of so many polynomials 1 - .. with so many terms, for the cost of a round by its size.
+fn list(size: &str) -> Option<Formula> {
+    let (atoms, terms) = size.split_once('-')?;
+    let (atoms, terms) = (atoms.parse::<usize>().ok()?, terms.parse::<usize>().ok()?);
+    if atoms > POLYNOMIALS || terms > 16 {
+        return None;
+    }
+    let mut random = Random::new(6);
+    let powers = even_powers(&mut random);
+    let table = (0..atoms)
+        .map(|_| with_even_powers(&mut random, &powers, terms, vec![(1, vec![0; VARIABLES])]))
+        .collect();
+    let tree = Node::And((0..atoms).map(|k| Node::atom(k, SignSet::GREATER_EQUAL)).collect());
+    Some(Formula { variables: VARIABLES, table, tree })
+}
+
+/// Lists of slow polynomials, three of 64 and one with what is left of 255 nodes. Each stands as an OR at nesting 6, alone in its nodes above,
+/// so that it is spliced into the ORs at 4 and at 2 and goes through its 65 runs three times.
+fn worst() -> Formula {
+    let table = slow_polynomials(2);
+    let children = [64, 64, 64, 42].iter().map(|&atoms| {
+        let below = |k| Node::atom(k, SignSet::GREATER_EQUAL.complement());
+        let mut node = Node::Or((0..atoms).map(below).collect());
+        for nesting in (2..6).rev() {
+            node = if nesting % 2 == 1 { Node::And(vec![node]) } else { Node::Or(vec![node]) };
+        }
+        node
+    });
+    let tree = Node::And(children.collect());
+    Formula { variables: VARIABLES, table, tree }
+}
+
+/// A list of slow polynomials and 63 children f_k ≤ 0 OR f_(k-1) > 0, the last f above 0 at first: one child joins at each way back to step 2.
+fn back() -> Formula {
+    let table = slow_polynomials(1);
+    let last = POLYNOMIALS - 1;
+    let mut parts: Vec<Node<usize>> = (0..POLYNOMIALS)
+        .map(|k| Node::atom(k, if k == last { SignSet::GREATER } else { SignSet::GREATER_EQUAL }))
+        .collect();
+    for k in 1..POLYNOMIALS {
+        parts.push(Node::Or(vec![Node::atom(k, SignSet::LESS_EQUAL), Node::atom(k - 1, SignSet::GREATER)]));
+    }
+    Formula { variables: VARIABLES, table, tree: Node::And(parts) }
+}
+
+// ------------------------------------------------------------------------------------- the pieces
+
+fn hidden_point(random: &mut Random) -> Vec<i128> {
+    (0..VARIABLES).map(|_| random.between(-3, 3)).collect()
+}
+
+/// The AND of one atom for each polynomial, all of which hold at the point.
+fn conjunction(random: &mut Random, point: &[i128], table: Vec<Polynomial>) -> Formula {
+    let atoms = table
+        .iter()
+        .enumerate()
+        .map(|(number, polynomial)| Node::atom(number, set_at(random, point, polynomial, true)))
+        .collect();
+    Formula { variables: VARIABLES, table, tree: Node::And(atoms) }
+}
+
+/// A set that says something, and has, or has not, the polynomial's sign at the point.
+fn set_at(random: &mut Random, point: &[i128], polynomial: &Polynomial, holds: bool) -> SignSet {
+    let set = SignSet::from_bits(1 + random.below(6) as u64);
+    match value(polynomial, point) {
+        Some(value) if set.has(sign_of(value)) != holds => set.complement(),
+        _ => set,
+    }
+}
+
+fn polynomial(mut terms: Vec<(i128, Vec<u8>)>) -> Polynomial {
+    terms.sort_by(|one, other| other.1.cmp(&one.1));
+    Polynomial {
+        terms: terms.into_iter().map(|(coefficient, exponents)| Term { coefficient, exponents }).collect(),
+    }
+}
+
+fn variable(i: usize) -> Vec<u8> {
+    (0..VARIABLES).map(|j| u8::from(i == j)).collect()
+}
+
+fn coefficient(random: &mut Random) -> i128 {
+    random.pick(&[-9, -7, -5, -4, -3, -2, -1, 1, 2, 3, 4, 5, 7, 9])
+}
+
+/// Different monomials with exponents 0 to 3.
+fn mixed_polynomial(random: &mut Random, terms: usize) -> Polynomial {
+    let mut monomials = BTreeSet::new();
+    while monomials.len() < terms {
+        let exponents: Vec<u8> =
+            (0..VARIABLES).map(|_| if random.percent(60) { 0 } else { random.below(4) as u8 }).collect();
+        monomials.insert(exponents);
+    }
+    polynomial(monomials.into_iter().map(|exponents| (coefficient(random), exponents)).collect())
+}
