@@ -61,13 +61,15 @@ def flags():
 
 
 def build(proved=True):
-    """Builds what is missing or older than its source."""
+    """Builds what is missing or older than its source; rt proves the program again only if it has changed."""
     subprocess.run(["cargo", "build", "--release", "--offline", "--quiet", "--manifest-path", "independent/Cargo.toml"], check=True)
     os.makedirs("target/bench", exist_ok=True)
     for path, more in [(PLAIN, []), (PLAIN_COUNT, ["-DCOUNT"])]:
         subprocess.run(compiler() + ["-std=c11"] + flags() + more + ["-o", path, "bench/plain.c"], check=True)
-    if proved and not os.path.exists(PROGRAM):
-        subprocess.run(["rt", "check", "placardpan_repeat"], check=True)
+    if proved:
+        checked = subprocess.run(["rt", "check", "placardpan_repeat"], stdout=subprocess.PIPE, stderr=subprocess.STDOUT)
+        if checked.returncode:
+            sys.exit(checked.stdout.decode())
 
 
 def corpus(words):
@@ -88,7 +90,7 @@ def blocks():
         rest = rest[2 + length :]
     yield "cases A to N", cases
     yield "load chart", [open("examples/load_chart.block", "rb").read()]
-    for name in ["chain", "linear", "mixed", "deep", "slowest", "back", "worst"]:
+    for name in ["chain", "linear", "mixed", "deep", "slowest", "back", "removed", "worst"]:
         yield name, [output([INDEPENDENT, "bench", name])]
 
 

@@ -2,6 +2,7 @@
 //! Random conditions are made to hold at a hidden point, so that they do not contradict each other.
 
 use std::collections::BTreeSet;
+use std::ops::Range;
 
 use crate::block::{write, Formula};
 use crate::meaning::value;
@@ -19,6 +20,7 @@ pub fn block(name: &str) -> Option<Vec<u8>> {
         "mixed" => mixed(),
         "deep" => deep(),
         "back" => back(),
+        "removed" => removed(),
         "worst" => worst(),
         "slowest" => candidate(SLOWEST),
         _ => list(name.strip_prefix("list-")?)?,
@@ -122,14 +124,14 @@ fn deep_node(
 
 // ------------------------------------------------------------------------------- many rounds on purpose
 
-/// 64 polynomials whose list, all of them at or above 0, takes 30 rounds: one change of the board in each but the last, while no atom is cut or
-/// implied, and most deductions find only at the last monomials that there is no t.
+/// 64 polynomials whose list, all of them at or above 0, takes 30 rounds: one change of the board in each but the last, while no atom is cut, and
+/// most deductions find only at the last monomials that there is no t.
 ///
 /// The links x_i - x_(i+1) - .. carry what is known of x_16 down to x_2, one variable in each round, since x_i has its turn before x_(i+1):
 /// first that it is at or above 0, then that it is above. x_16 - .. starts the first, 2 x_16 - x_2 - 1 - .. the second. With two such
-/// chains the rounds are as many when one atom is left out. The other polynomials are 1 - .. . The dots are even powers with x_1 in each:
-/// they come before all that decides. The list holds where x_1 is 0 and the others 1.
-fn slow_polynomials(chains: usize) -> Vec<Polynomial> {
+/// chains the rounds are as many when one atom is left out. The dots are even powers with x_1 in each: they come before all that decides.
+/// The list holds where x_1 is 0 and the others 1. The other polynomials are 1 - .. , which no atom implies, or .. , which the rounds do.
+fn slow_polynomials(chains: usize, implied: bool) -> Vec<Polynomial> {
     let mut random = Random::new(5);
     let powers = even_powers(&mut random);
     let constant = vec![0; VARIABLES];
@@ -142,10 +144,16 @@ fn slow_polynomials(chains: usize) -> Vec<Polynomial> {
             starts.push(vec![(1, variable(i)), (-1, variable(i + 1))]);
         }
     }
-    while starts.len() < POLYNOMIALS {
-        starts.push(vec![(1, constant.clone())]);
+    let mut table: Vec<Polynomial> =
+        starts.into_iter().map(|start| with_even_powers(&mut random, &powers, -1, 16, start)).collect();
+    while table.len() < POLYNOMIALS {
+        table.push(if implied {
+            with_even_powers(&mut random, &powers, 1, 16, vec![])
+        } else {
+            with_even_powers(&mut random, &powers, -1, 16, vec![(1, constant.clone())])
+        });
     }
-    starts.into_iter().map(|start| with_even_powers(&mut random, &powers, 16, start)).collect()
+    table
 }
 
 /// Even powers with x_1 in each, so many that two polynomials share some of theirs: the slowest to go through.
@@ -159,10 +167,11 @@ fn even_powers(random: &mut Random) -> Vec<Vec<u8>> {
     monomials.into_iter().collect()
 }
 
-/// The terms, and minus even powers up to a number of terms.
+/// The terms, and even powers with coefficients of one sign up to a number of terms.
 fn with_even_powers(
     random: &mut Random,
     powers: &[Vec<u8>],
+    sign: i128,
     count: usize,
     mut terms: Vec<(i128, Vec<u8>)>,
 ) -> Polynomial {
@@ -170,7 +179,7 @@ fn with_even_powers(
     while terms.len() + monomials.len() < count {
         monomials.insert(powers[random.below(powers.len())].clone());
     }
-    terms.extend(monomials.into_iter().map(|exponents| (-random.between(1, 9), exponents)));
+    terms.extend(monomials.into_iter().map(|exponents| (sign * random.between(1, 9), exponents)));
     polynomial(terms)
 }
 
@@ -184,7 +193,7 @@ fn list(size: &str) -> Option<Formula> {
     let mut random = Random::new(6);
     let powers = even_powers(&mut random);
     let table = (0..atoms)
-        .map(|_| with_even_powers(&mut random, &powers, terms, vec![(1, vec![0; VARIABLES])]))
+        .map(|_| with_even_powers(&mut random, &powers, -1, terms, vec![(1, vec![0; VARIABLES])]))
         .collect();
     let tree = Node::And((0..atoms).map(|k| Node::atom(k, SignSet::GREATER_EQUAL)).collect());
     Some(Formula { variables: VARIABLES, table, tree })
@@ -193,22 +202,30 @@ fn list(size: &str) -> Option<Formula> {
 /// Lists of slow polynomials, three of 64 and one with what is left of 255 nodes. Each stands as an OR at nesting 6, alone in its nodes above,
 /// so that it is spliced into the ORs at 4 and at 2 and goes through its 65 runs three times.
 fn worst() -> Formula {
-    let table = slow_polynomials(2);
-    let children = [64, 64, 64, 42].iter().map(|&atoms| {
-        let below = |k| Node::atom(k, SignSet::GREATER_EQUAL.complement());
-        let mut node = Node::Or((0..atoms).map(below).collect());
-        for nesting in (2..6).rev() {
-            node = if nesting % 2 == 1 { Node::And(vec![node]) } else { Node::Or(vec![node]) };
-        }
-        node
-    });
-    let tree = Node::And(children.collect());
-    Formula { variables: VARIABLES, table, tree }
+    let children = [64, 64, 64, 42].map(|atoms| spliced(0..atoms, 0..0, 0..0));
+    Formula { variables: VARIABLES, table: slow_polynomials(2, false), tree: Node::And(children.into()) }
+}
+
+/// Lists of which step 5 removes all but the 16 links, one after the other, each by a run of 30 rounds. The ORs at nesting 4 and 2 have those that
+/// are removed again, beside the links that are spliced.
+fn removed() -> Formula {
+    let children = vec![spliced(0..64, 16..64, 16..64), spliced(0..64, 16..36, 0..0)];
+    Formula { variables: VARIABLES, table: slow_polynomials(1, true), tree: Node::And(children) }
+}
+
+/// An OR at nesting 6, alone in an AND within the OR at 4, which is alone in an AND within the OR at 2; the polynomials of each OR.
+fn spliced(at_6: Range<usize>, at_4: Range<usize>, at_2: Range<usize>) -> Node<usize> {
+    let or = |polynomials: Range<usize>, below: Option<Node<usize>>| {
+        let atoms = polynomials.map(|k| Node::atom(k, SignSet::GREATER_EQUAL.complement()));
+        Node::Or(atoms.chain(below).collect())
+    };
+    let below = or(at_4, Some(Node::And(vec![or(at_6, None)])));
+    or(at_2, Some(Node::And(vec![below])))
 }
 
 /// A list of slow polynomials and 63 children f_k ≤ 0 OR f_(k-1) > 0, the last f above 0 at first: one child joins at each way back to step 2.
 fn back() -> Formula {
-    let table = slow_polynomials(1);
+    let table = slow_polynomials(1, false);
     let last = POLYNOMIALS - 1;
     let mut parts: Vec<Node<usize>> = (0..POLYNOMIALS)
         .map(|k| Node::atom(k, if k == last { SignSet::GREATER } else { SignSet::GREATER_EQUAL }))

@@ -1,0 +1,35 @@
+// Prints for each block of a stream how many bytes of stack one call of placardpan_simplify takes.
+// The call gets a stack of its own, filled with one value before: what lies below the deepest changed byte was not used.
+#define _GNU_SOURCE
+#include <stdio.h>
+#include <string.h>
+#include <ucontext.h>
+
+#include "placardpan.h"
+
+enum { ROOM = 1 << 20, FILL = 0xa5 };
+
+static uint8_t stack[ROOM], input[65536], output[65536];
+static size_t length;
+static ucontext_t caller, callee;
+
+static void call(void) { placardpan_simplify(input, length, output, length); }
+
+int main(void) {
+    uint8_t head[2];
+    while (fread(head, 1, 2, stdin) == 2) {
+        length = (size_t)head[0] << 8 | head[1];
+        if (fread(input, 1, length, stdin) < length) return 1;
+        memset(stack, FILL, ROOM);
+        getcontext(&callee);
+        callee.uc_stack.ss_sp = stack;
+        callee.uc_stack.ss_size = ROOM;
+        callee.uc_link = &caller;
+        makecontext(&callee, call, 0);
+        swapcontext(&caller, &callee);
+        size_t unused = 0;
+        while (unused < ROOM && stack[unused] == FILL) unused++;
+        printf("%zu\n", ROOM - unused);
+    }
+    return 0;
+}
