@@ -65,7 +65,8 @@ unfolding sameSets
 sameSets-same [] = refl
 sameSets-same (s ∷ l) = ap₂ _&&_ (eq-eqb s s refl) (sameSets-same l)
 
-same-unchanged : (st su : State) → su ≡ st → unchanged st su ≡ true
+-- A state that is the same is unchanged.
+pub same-unchanged : (st su : State) → su ≡ st → unchanged st su ≡ true
 unfolding unchanged
 same-unchanged st su e = rw e (ap₂ _&&_ (sameSets-same (st .board)) (sameSets-same (setsOf (st .atoms))))
 

@@ -16,13 +16,13 @@ use Rattle.rules.specs.Level.{Formula, complemented, dual, orParts, parts, unle
 use Rattle.sign_laws.specs.Sets.{intersect-below, complement-below}
 use Rattle.table.specs.Table.{Table, formAt}
 use Rattle.level.specs.declared.rows.Row.{Row}
-use Rattle.rounds.specs.declared.State.{State}
+use Rattle.round.specs.declared.State.{State}
 use Rattle.level.specs.declared.sweeping.Cut.{Cut}
 use Rattle.level.specs.declared.sweeping.Pruned.{Pruned}
 use Rattle.level.specs.Row.{Lists}
 use Rattle.level.specs.Token.{slot, atomOf, atomsIn}
 use Rattle.level.specs.Tape.{Children, orsIn}
-use Rattle.rounds.specs.Views.{stateOf}
+use Rattle.round.specs.Views.{stateOf}
 use Rattle.level.specs.Swept.{said, CutIs, unlessSo, PruneIs}
 use Rattle.level.proofs.Listing.{held-at}
 use Rattle.level.proofs.Entering.{complement-twice}

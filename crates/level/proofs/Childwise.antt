@@ -12,13 +12,13 @@ use Rattle.rules.specs.Level.{Formula, dual, parts, Entry, fails, joins, stays,
 use Rattle.table.specs.Table.{Table}
 use Rattle.level.specs.declared.rows.Row.{Row}
 use Rattle.level.specs.declared.walks.Walked.{Walked}
-use Rattle.rounds.specs.declared.State.{State}
+use Rattle.round.specs.declared.State.{State}
 use Rattle.level.specs.declared.sweeping.Pruned.{Pruned}
 use Rattle.level.specs.Row.{Lists}
 use Rattle.level.specs.Token.{atomsIn}
 use Rattle.level.specs.Tape.{Children, none, child, laid, orsIn, ChildAt}
 use Rattle.level.specs.Walked.{Shows, Stands, afterwards, Goes, room, load}
-use Rattle.rounds.specs.Views.{stateOf}
+use Rattle.round.specs.Views.{stateOf}
 use Rattle.level.specs.Swept.{unlessSo, PruneIs, afterPruned, EntersPruned, SweepIs}
 use Rattle.level.proofs.Listing.{held-at}
 use Rattle.level.proofs.Entering.{HeadOf, head-of}

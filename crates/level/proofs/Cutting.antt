@@ -14,13 +14,14 @@ use Rattle.terms.specs.View.{setsOf}
 use Rattle.table.specs.declared.Atoms.{Atoms}
 use Rattle.table.specs.Table.{Table, formAt, many, atomAt, atomsFrom, atomsOf}
 use Rattle.level.specs.declared.rows.Row.{Row}
-use Rattle.rounds.specs.declared.State.{State as Left}
+use Rattle.round.specs.declared.State.{State as Left}
 use Rattle.rounds.specs.declared.Ran.{Ran}
 use Rattle.level.specs.declared.carrying.Carrying.{Carrying}
 use Rattle.level.specs.Row.{Lists}
 use Rattle.level.specs.Token.{slot, atomOf, atomsIn}
+use Rattle.round.specs.Views.{stateOf}
 use Rattle.rounds.specs.declared.Remaining.{Remaining}
-use Rattle.rounds.specs.Views.{stateOf, ending, outcomeOf}
+use Rattle.rounds.specs.Views.{ending, outcomeOf}
 use Rattle.rounds.specs.Run.{consIf, keptFrom, keptOf, RunOf, Carried, RemainingOf}
 use Rattle.level.specs.Carried.{withSets, keptWhen, remaining, Carries, Remains}
 use Rattle.level.proofs.Merging.{rest-next, rest-none}

@@ -22,7 +22,8 @@ use Rattle.level.specs.Token.{atomOf, atomsIn}
 use Rattle.level.specs.Tape.{Children, none, child, laid, orsIn}
 use Rattle.level.specs.Walked.{walkOf, Shows, Stands, oneIf, room, load, sizeOf}
 use Rattle.level.specs.Tidied.{tidiedOf, Tidies}
-use Rattle.rounds.specs.Views.{stateOf, ending}
+use Rattle.round.specs.Views.{stateOf}
+use Rattle.rounds.specs.Views.{ending}
 use Rattle.level.specs.Carried.{Carries, LeftBy, Remains}
 use Rattle.level.specs.Swept.{SweepIs}
 use Rattle.level.specs.Settled.{NodeIsFalse, resultOf, StageIs, Ready, SettleIs, due, Gathered, FinishIs}

@@ -12,8 +12,9 @@ use Rattle.level.specs.declared.rows.Row.{Row}
 use Rattle.level.specs.declared.carrying.Carrying.{Carrying}
 use Rattle.level.specs.Row.{Lists}
 use Rattle.level.specs.Token.{atomsIn}
-use Rattle.rounds.specs.declared.State.{State}
-use Rattle.rounds.specs.Views.{stateOf, ending}
+use Rattle.round.specs.declared.State.{State}
+use Rattle.round.specs.Views.{stateOf}
+use Rattle.rounds.specs.Views.{ending}
 use Rattle.rounds.specs.Staying.{CarriedFrom}
 
 -- Tokens with the sets from place i on.

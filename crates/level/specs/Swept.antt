@@ -12,7 +12,7 @@ use Rattle.rules.specs.Level.{Formula, complemented, dual, parts, prune, enter,
 use Rattle.terms.specs.View.{setsOf}
 use Rattle.terms.specs.Signed.{Signed}
 use Rattle.table.specs.Table.{Table, formAt, Forms}
-use Rattle.rounds.specs.declared.State.{State}
+use Rattle.round.specs.declared.State.{State}
 use Rattle.level.specs.declared.walks.Walked.{Walked}
 use Rattle.level.specs.declared.sweeping.Cut.{Cut}
 use Rattle.level.specs.declared.sweeping.Pruned.{Pruned}
@@ -20,7 +20,7 @@ use Rattle.level.specs.Row.{Lists}
 use Rattle.level.specs.Token.{slot, atomOf, atomsIn}
 use Rattle.level.specs.Tape.{Children, laid, orsIn}
 use Rattle.level.specs.Walked.{Stands, afterwards, load}
-use Rattle.rounds.specs.Views.{stateOf}
+use Rattle.round.specs.Views.{stateOf}
 
 -- What asking the list needs: a state that rounds over the table left, and the signs of all monomials of the table on the state's board.
 pub record Hears (t : Table) (state : State) (sign : List ℕ) : Type 0 where

@@ -3,7 +3,7 @@
 ghost use Prim.Native.Nat.{ℕ};
 ghost use Rattle.rules.specs.Formula.{Node};
 ghost use Rattle.table.specs.Table.{Forms};
-ghost use Rattle.rounds.specs.Views.{lentTable};
+ghost use Rattle.round.specs.Views.{lentTable};
 ghost use Rattle.level.specs.Tree.{TreeHeld, RootIs, Simplified};
 
 mod carrying;

@@ -5,7 +5,7 @@ ghost use mathlib.Core.Bool.{true, false};
 ghost use mathlib.Core.List.{List};
 ghost use Prim.Native.Nat.{ℕ, suc, _+_};
 ghost use Rattle.table.specs.Table.{Forms};
-ghost use Rattle.rounds.specs.Views.{lentTable};
+ghost use Rattle.round.specs.Views.{lentTable};
 ghost use Rattle.level.specs.Source.{Forest, size, Holds, Stood, Done};
 use crate::rows::empty;
 use crate::rows::push;

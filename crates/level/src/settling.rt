@@ -4,7 +4,7 @@ ghost use Prim.Native.Nat.{ℕ, _+_};
 ghost use Rattle.rules.specs.Level.{Walk};
 ghost use Rattle.table.specs.Table.{Forms};
 ghost use Rattle.level.specs.Row.{Lists};
-ghost use Rattle.rounds.specs.Views.{lentTable};
+ghost use Rattle.round.specs.Views.{lentTable};
 ghost use Rattle.level.specs.Tape.{Children, laid};
 ghost use Rattle.level.specs.Walked.{Stands, room};
 ghost use Rattle.level.specs.Settled.{NodeIsFalse, StageIs, Ready, SettleIs, Gathered, FinishIs};

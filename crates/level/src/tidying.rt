@@ -9,7 +9,7 @@ ghost use Rattle.rules.specs.Signs.{inside};
 ghost use Rattle.table.specs.Table.{Table, Forms, atomsOf};
 ghost use Rattle.level.specs.Row.{Lists};
 ghost use Rattle.level.specs.Token.{slot, atomsIn};
-ghost use Rattle.rounds.specs.Views.{lentTable};
+ghost use Rattle.round.specs.Views.{lentTable};
 ghost use Rattle.level.specs.Tidied.{truthIf, TruthIs, MergesInto, Merges, WithoutFull, Tidies};
 use crate::rows::Row;
 use crate::rows::empty;

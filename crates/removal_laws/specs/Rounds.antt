@@ -30,7 +30,7 @@ pub record Low (st : State) : Type 0 where
   pub atoms : LowAtoms (st .atoms)
 
 -- A turn keeps the board's below 8, and so do all.
-turn-low : (n : ℕ) (atoms : List Atom) (board : Board) (i : ℕ) → LowBoard board → LowBoard (turn n atoms board i)
+pub turn-low : (n : ℕ) (atoms : List Atom) (board : Board) (i : ℕ) → LowBoard board → LowBoard (turn n atoms board i)
 unfolding turn
 turn-low n atoms board i h =
     every-set i _ (cutBy-below board (variable n i) atoms (getD board i full) (every-getD i full (lit< tt) h)) h
@@ -72,7 +72,7 @@ turns-wider n f h w low i zero = w
 turns-wider n {atoms} f h {board} w low i (suc k) =
     turns-wider n f h (set-wider w i (cutBy-wider w low (variable n i) f h (getD-wider w i))) (turn-low n atoms board i low) (suc i) k
 
-cutAtom-wider : {board wide : Board} → Wider board wide → LowBoard board → {others fewer : List Atom} → Fewer others fewer → LowAtoms others
+pub cutAtom-wider : {board wide : Board} → Wider board wide → LowBoard board → {others fewer : List Atom} → Fewer others fewer → LowAtoms others
     → {a b : Atom} → WiderAtom a b → WiderAtom (cutAtom board others a) (cutAtom wide fewer b)
 unfolding cutAtom
 cutAtom-wider {board} {wide} w low f h {a} {b} v = record {

@@ -16,7 +16,7 @@ use Rattle.sign_laws.specs.Booleans.{or-second, or-keeps, never-both}
 use Rattle.sign_laws.specs.Lists.{Every, every-none, every}
 use Rattle.sign_laws.specs.Sets.{setOf-small, in-full, in-intersect, PartOf}
 use Rattle.ending_laws.specs.Cuts.{cutBy-below}
-use Rattle.ending_laws.specs.Rounds.{along-run, run-ends}
+use Rattle.ending_laws.specs.Rounds.{Run, along-run, run-ends}
 use Rattle.level_laws.specs.Narrower.{AtomsWithin, no-atoms as none-within, one-more, Narrows, run-narrows}
 use Rattle.removal_laws.specs.Wider.{Wider, no-sets, sets}
 use Rattle.removal_laws.specs.Terms.{byTerms-wider}
@@ -106,25 +106,28 @@ atoms-empty (kept {a} {b} v f) (every h hs) e =
     or-keeps (eqb (b .set) empty) _ (eqb (a .set) empty) _
     (λ z. eq-eqb (a .set) empty (part-empty h (rw (eqb-true (b .set) empty z) at (v .set)))) (atoms-empty f hs) e
 
-state-empty : {st wide : State} → WiderState st wide → Low st → hasEmpty wide ≡ true → hasEmpty st ≡ true
+pub state-empty : {st wide : State} → WiderState st wide → Low st → hasEmpty wide ≡ true → hasEmpty st ≡ true
 unfolding hasEmpty
 state-empty {wide} w low e =
     or-keeps (anyEmpty (wide .board)) (anyEmpty (setsOf (wide .atoms))) _ _
     (board-empty (w .boards) (low .board)) (atoms-empty (w .lists) (low .atoms)) e
 
 -- An outcome is wider than a state if it is a wider state; so it is no contradiction.
-abbrev Widens : State → Outcome → Type 0
+abbrev pub Widens : State → Outcome → Type 0
 Widens st contradiction = ⊥
 Widens st (settled su) = WiderState st su
 
-module _ {n : ℕ} {l : List Atom} {st : State} (s : Settled n st) (c : Carries n (st .board) l (st .atoms) (carried n (st .board) l (st .atoms))) where
-  stays-wider : (wide : State) → WiderState st wide → WiderState st (round n wide)
-  stays-wider wide w = subst (λ (su : State). WiderState su (round n wide)) (s .still) (round-wider n (s .low) w)
+-- A run that starts wider than a settled state stays wider.
+pub widens-run : {n : ℕ} {st : State} → Settled n st → {wide : State} {k : ℕ} {o : Outcome} → Run n wide k o → WiderState st wide → Widens st o
+widens-run {n} {st} s = along-run (Widens st) (λ wide w e. never-both (state-empty (stays-wider wide w) (s .low) e) (s .filled)) stays-wider
+  where
+    stays-wider : (wide : State) → WiderState st wide → WiderState st (round n wide)
+    stays-wider wide w = subst (λ (su : State). WiderState su (round n wide)) (s .still) (round-wider n (s .low) w)
 
+module _ {n : ℕ} {l : List Atom} {st : State} (s : Settled n st) (c : Carries n (st .board) l (st .atoms) (carried n (st .board) l (st .atoms))) where
   -- Each state of such rounds is wider than the settled one.
   pub run-wider : {others : List Atom} → Fewer (carried n (st .board) l (st .atoms)) others → Widens st (run n others)
-  run-wider {others} f = along-run (Widens st)
-      (λ wide w e. never-both (state-empty (stays-wider wide w) (s .low) e) (s .filled)) stays-wider (run-ends n others) (start-wider s c f)
+  run-wider {others} f = widens-run s (run-ends n others) (start-wider s c f)
 
   -- What they say of a polynomial that they do not list is no narrower than what the settled state says by the others.
   pub says-wider : {others : List Atom} → Fewer (carried n (st .board) l (st .atoms)) others → (p : Polynomial) → which n p ≡ none → Every (Other p) others

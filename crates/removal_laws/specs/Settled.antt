@@ -59,11 +59,12 @@ pub record Settled (n : ℕ) (st : State) : Type 0 where
   pub low : Low st
   pub many : length (st .board) ≡ n
 
-abbrev Settles : ℕ → Outcome → Type 0
+abbrev pub Settles : ℕ → Outcome → Type 0
 Settles n contradiction = Unit {0}
 Settles n (settled st) = Settled n st
 
-settles-from : {n : ℕ} {st : State} {k : ℕ} {o : Outcome} → Run n st k o → LowBoard (st .board) → length (st .board) ≡ n → Settles n o
+-- What comes of a run from sets below 8 is a contradiction or one.
+pub settles-from : {n : ℕ} {st : State} {k : ℕ} {o : Outcome} → Run n st k o → LowBoard (st .board) → length (st .board) ≡ n → Settles n o
 settles-from (finds-contradiction e) low many = tt
 settles-from {n} (changes-nothing {st} e u) low many = record {
   still = ap (round n) (unchanged-still n st u);
@@ -78,7 +79,8 @@ unfolding placed
 placed-low none s board h = h
 placed-low (some i) s board h = every-set i _ (intersect-below (getD board i full) s) h
 
-start-low : (n : ℕ) (l : List Atom) → LowBoard (start n l .board)
+-- The start has sets below 8.
+pub start-low : (n : ℕ) (l : List Atom) → LowBoard (start n l .board)
 unfolding start
 start-low n l = along-placed LowBoard placed-low n l (replicate n full) (every-replicate n full (lit< tt))
 

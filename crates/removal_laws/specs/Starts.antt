@@ -40,7 +40,7 @@ module _ (n : ℕ) (board : Board) where
       by-which none w cut (one-more {l = rest} p f t) more = from-cut p (ap (which n) p ∙ w) (more rest t)
 
   -- Those that are no variable's are the cut atoms.
-  carries-cut : {l cut m : List Atom} → Carries l cut m → nonVariable n m ≡ cut
+  pub carries-cut : {l cut m : List Atom} → Carries l cut m → nonVariable n m ≡ cut
   unfolding nonVariable unlessVariable
   carries-cut none-carried = refl
   carries-cut (from-board w c) = rw w (carries-cut c)

@@ -15,11 +15,10 @@ use Rattle.rules.specs.Polynomial.{Atom, Polynomial, Board, which}
 use Rattle.rules.specs.Rounds.{unlessVariable, nonVariable, carriedOne, carried}
 use Rattle.table.specs.declared.Atoms.{Atoms}
 use Rattle.table.specs.Table.{Table, formAt, atomsFrom, atomsOf, many}
-use Rattle.rounds.specs.Views.{rest}
-use Rattle.rounds.specs.Signing.{atomSlot}
+use Rattle.round.specs.Views.{rest}
+use Rattle.round.specs.Signing.{atomSlot}
+use Rattle.round.specs.Walks.{stored-atom, rest-cons, rest-nil}
 use Rattle.rounds.specs.Run.{polynomialsOf, NonVariable, carriedSet, carriedNext, Carried}
-use Rattle.rounds.proofs.Walks.{rest-cons, rest-nil}
-use Rattle.rounds.proofs.Starts.{stored-atom}
 
 -- the first c atoms, and the next with the set that was stored for it
 stored-set : (t : Table) (numbers : List ℕ) (sets : List SignSet) (c : ℕ) (y : SignSet) → c < length numbers → c < length sets → (l : List Atom)

@@ -1,10 +1,11 @@
 -- How the rounds end: the tests for an empty set and for equal sets, place by place, and what a round does to the number of rounds left.
-use mathlib.Core.Path.{_≡_, refl, sym, _∙_, ap}
+use mathlib.Core.Path.{_≡_, refl, sym, _∙_, ap, subst}
 use mathlib.Core.Bool.{true, false}
 use mathlib.Core.List.{List, _∷_}
 use Prim.Native.Nat.{ℕ, zero, suc, _+_, _-_, _*_, _<_, _≤_}
 use native.Mathlib.Omega.{arith}
 use borrow.Author.Tests.{eq-eqb, ne-eqb}
+use lib.IntN.{ℤ}
 use lib.ListN.{length, getD}
 use Rattle.rules.specs.Signs.{SignSet}
 use Rattle.rules.specs.Deduce.{anyEmpty}
@@ -13,9 +14,12 @@ use Rattle.rules.specs.Rounds.{State as Standing}
 use Rattle.terms.specs.View.{few, numbersFrom, numbers-cons, numbers-nil, length-numbers}
 use Rattle.terms.specs.View.{setsOf as boardOf}
 use Rattle.table.specs.Table.{Table, atomsFrom, many}
-use Rattle.rounds.specs.declared.State.{State}
-use Rattle.rounds.specs.Views.{stateOf, heldSets}
-use Rattle.rounds.specs.Round.{Rounded, Ended}
+use Rattle.round.specs.declared.State.{State}
+use Rattle.round.specs.Views.{tableOf, stateOf}
+use Rattle.round.specs.Round.{Rounded}
+use Rattle.rounds.specs.Views.{heldSets}
+use Rattle.rounds.specs.declared.Counted.{Counted}
+use Rattle.rounds.specs.Ended.{Ended}
 
 -- ---- the sets at the places from i on
 
@@ -181,3 +185,8 @@ to-last {t} {total} {st} {left} {current} going e =
       count = going .count;
       number = going .number;
     }
+
+-- ---- a board's own number of variables is the table's
+
+pub ended-over : (cs : List ℤ) (ms ts : List ℕ) {n m : ℕ} → n ≡ m → {st : State} {r : Counted} → Ended (tableOf cs ms ts n) st r → Ended (tableOf cs ms ts m) st r
+ended-over cs ms ts same {st} {r} = subst (λ (k : ℕ). Ended (tableOf cs ms ts k) st r) same

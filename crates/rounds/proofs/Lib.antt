@@ -1,16 +1,7 @@
-pub mod Variables
-pub mod SignedSlots
-pub mod Over
-pub mod Walks
-pub mod Boards
-pub mod Narrowing
-pub mod Locals
-pub mod Lending
-pub mod LentBoard
-pub mod Again
 pub mod Ends
 pub mod Starts
 pub mod Said
+pub mod Beginnings
 pub mod Carrying
 pub mod Removing
 pub mod Others

@@ -20,15 +20,15 @@ use Rattle.removal_laws.specs.Staying.{noVariable, staysBy, removeFaster, remov
 use Rattle.terms.specs.View.{setsOf}
 use Rattle.table.specs.declared.Atoms.{Atoms}
 use Rattle.table.specs.Table.{Table, Forms, formAt, atomAt, atomsFrom, atomsOf, many}
-use Rattle.rounds.specs.declared.State.{State}
+use Rattle.round.specs.declared.State.{State}
+use Rattle.round.specs.declared.slots.Holds.{Holds}
+use Rattle.round.specs.declared.slots.Holds.the-variants.{Variable, Form}
+use Rattle.round.specs.Views.{variableOf, stateOf}
+use Rattle.round.specs.Signing.{atomSlot}
+use Rattle.round.specs.Walks.{atoms-cons, atoms-nil, cut-append}
 use Rattle.rounds.specs.declared.Remaining.{Remaining}
-use Rattle.rounds.specs.declared.slots.Holds.{Holds}
-use Rattle.rounds.specs.declared.slots.Holds.the-variants.{Variable, Form}
-use Rattle.rounds.specs.Views.{variableOf, stateOf}
-use Rattle.rounds.specs.Signing.{atomSlot}
 use Rattle.rounds.specs.Run.{RemainingOf}
 use Rattle.rounds.specs.Staying.{PlaceIs, CarriedFrom}
-use Rattle.rounds.proofs.Walks.{atoms-cons, atoms-nil, cut-append}
 
 -- ---- the atoms before an index, the one there, and those after it
 

@@ -15,14 +15,18 @@ use Rattle.rules.specs.Polynomial.{Atom}
 use Rattle.rules.specs.Rounds.{unlessVariable, State, run, says, saysIn}
 use Rattle.rules.specs.Level.{keptUnless, implied}
 use Rattle.removal_laws.specs.Staying.{staysBy, removeFaster}
+use Rattle.turn_laws.specs.Some.{Some, all-there, some-without, some-next}
 use Rattle.table.specs.declared.Atoms.{Atoms}
 use Rattle.table.specs.Table.{Table, atomAt, atomsFrom, atomsOf, many}
+use Rattle.round.specs.declared.State.{State as Left}
+use Rattle.round.specs.Views.{stateOf, rest}
+use Rattle.round.specs.Listed.{Listed}
+use Rattle.round.specs.Walks.{rest-cons, rest-nil}
 use Rattle.rounds.specs.declared.Ran.{Ran}
 use Rattle.rounds.specs.declared.Remaining.{Remaining}
-use Rattle.rounds.specs.Views.{stateOf, outcomeOf, rest}
-use Rattle.rounds.specs.Start.{Listed}
+use Rattle.rounds.specs.Views.{outcomeOf}
+use Rattle.rounds.specs.Staying.{AfreshFrom, CarriedFrom}
 use Rattle.rounds.specs.Run.{consIf, keptFrom, KeptUnless, RemainingOf}
-use Rattle.rounds.proofs.Walks.{rest-cons, rest-nil}
 
 -- ---- one atom
 
@@ -118,3 +122,27 @@ removing-last {t} {st} {list} {i} {r} removing e =
     let all : atomsOf t (r .atoms) ≡ removeFaster (t .variables) st [] (atomsOf t list) =
     rw (rest-nil t list i (omega arith)) at (removing .remaining) in
     record { atoms = all; keep = ap (λ (k : ℕ). keptFrom t (list .number) (list .set) (r .keep) 0 k) (sym e) ∙ removing .keep ∙ all }
+
+-- ---- the others
+
+-- of the list those that remain so far and those to come are some of its atoms; without the one at hand too, so that rounds over them are run afresh
+pub afresh-others : {t : Table} {state : Left} (list : Atoms) (kept : List Atom) {i : ℕ} {others : List Atom} → CarriedFrom t state (atomsOf t list)
+    → i < many (list .count) → Some (atomsOf t list) (kept ++ rest t list i) → others ≡ kept ++ rest t list (i + 1) → AfreshFrom t state others
+afresh-others {t} list kept {i} from low some e = record {
+  given = from .given;
+  settles = from .settles;
+  variables = from .variables;
+  some = rw (from .atoms, ← e) at (some-without kept (atomAt t (list .number) (list .set) i) (rest t list (i + 1)) (rw (rest-cons t list i low) at some));
+}
+
+pub some-first : (t : Table) (list : Atoms) (numbers : List ℕ) (sets : List SignSet)
+    → Some (atomsOf t list) (atomsOf t (record { count = 0; number = numbers; set = sets }) ++ rest t list 0)
+unfolding atomsFrom
+some-first t list numbers sets = rw sub-zero (all-there (atomsOf t list))
+
+pub some-more : (t : Table) {list : Atoms} {i : ℕ} {kept r : Remaining} {out : Bool} → i < many (list .count)
+    → Some (atomsOf t list) (atomsOf t (kept .atoms) ++ rest t list i) → KeptUnless out kept list i r
+    → Some (atomsOf t list) (atomsOf t (r .atoms) ++ rest t list (i + 1))
+some-more t {list} {i} {kept} {out} low some one =
+    rw (one .atoms t) (some-next out (atomsOf t (kept .atoms)) (atomAt t (list .number) (list .set) i) (rest t list (i + 1))
+    (rw (rest-cons t list i low) at some))

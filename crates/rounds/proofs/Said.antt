@@ -1,39 +1,19 @@
--- What is listed, and what a state holds for a polynomial: by the number of its slot, as no form stands in two slots.
+-- What a state holds for a polynomial: its atom's set in the list, or its variable's on the board.
 -- And the polynomials of a list, whatever its sets.
 use mathlib.Core.Path.{_≡_, refl, sym}
 use mathlib.Core.List.{List}
-use Prim.Native.Nat.{ℕ, zero, suc, _+_, _-_, _<_, _≤_}
-use native.Mathlib.Omega.{arith}
-use borrow.Author.Tests.{eq-eqb, ne-eqb}
+use Prim.Native.Nat.{ℕ, zero, suc, _<_}
 use lib.ListN.{getD}
-use Rattle.rules.specs.Signs.{SignSet, full}
-use Rattle.rules.specs.Rounds.{orNext, listed, held}
+use Rattle.rules.specs.Signs.{SignSet}
+use Rattle.rules.specs.Rounds.{listed, held}
 use Rattle.terms.specs.View.{few}
-use Rattle.table.specs.Table.{Table, Forms, formAt, atomsFrom, atomsOf}
-use Rattle.rounds.specs.declared.State.{State}
-use Rattle.rounds.specs.declared.slots.Holds.{Holds}
-use Rattle.rounds.specs.declared.slots.Holds.the-variants.{Variable, Form}
-use Rattle.rounds.specs.Views.{variableOf, stateOf}
-use Rattle.rounds.specs.Signing.{atomSlot}
+use Rattle.table.specs.Table.{Table, formAt, atomsFrom, atomsOf}
+use Rattle.round.specs.declared.State.{State}
+use Rattle.round.specs.declared.slots.Holds.{Holds}
+use Rattle.round.specs.declared.slots.Holds.the-variants.{Variable, Form}
+use Rattle.round.specs.Views.{variableOf, stateOf}
+use Rattle.round.specs.Boards.{set-at}
 use Rattle.rounds.specs.Run.{polynomialsOf}
-use Rattle.rounds.proofs.Boards.{set-at}
-use Rattle.rounds.proofs.Walks.{atoms-cons, atoms-nil}
-
--- ---- the list from the atom at i on
-
-module _ {t : Table} (forms : Forms t) (numbers : List ℕ) (sets : List SignSet) (number i n : ℕ) (low : number < 64) where
-  pub listed-here : i < n → number ≡ atomSlot numbers i → listed (formAt t number) (atomsFrom t numbers sets i (n - i)) ≡ getD sets i 0
-  unfolding listed orNext
-  listed-here h e = rw (atoms-cons t numbers sets i n h) (simp (forms .distinct number (atomSlot numbers i) low (omega arith), eq-eqb _ _ e))
-
-  pub listed-later : i < n → (number ≡ atomSlot numbers i → ⊥)
-      → listed (formAt t number) (atomsFrom t numbers sets i (n - i)) ≡ listed (formAt t number) (atomsFrom t numbers sets (i + 1) (n - (i + 1)))
-  unfolding listed orNext
-  listed-later h e = rw (atoms-cons t numbers sets i n h) (simp (forms .distinct number (atomSlot numbers i) low (omega arith), ne-eqb _ _ e))
-
-  pub listed-nowhere : n ≤ i → listed (formAt t number) (atomsFrom t numbers sets i (n - i)) ≡ full
-  unfolding listed
-  listed-nowhere h = rw (atoms-nil t numbers sets i n h)
 
 -- ---- what a state holds
 

@@ -1,13 +1,12 @@
 -- The start of the rounds, atom by atom: a variable's set is placed on the board, any other atom goes to the end of the list.
 -- The board starts with full sets, the list with no atom.
 use mathlib.Core.Path.{_≡_, refl, sym, _∙_, ap, ap₂}
-use mathlib.Core.List.{List, [], _∷_, _++_, append-nil, append-assoc}
+use mathlib.Core.List.{List, _∷_, _++_, append-nil}
 use mathlib.Core.Option.{Option, none}
-use Prim.Native.Nat.{ℕ, zero, suc, _+_, _-_, _%_, _<_, _≤_}
+use Prim.Native.Nat.{ℕ, zero, suc, _+_, _-_, _<_, _≤_}
 use native.Mathlib.Nat.{sub-zero}
 use native.Mathlib.Omega.{arith}
 use lib.ListN.{length, getD, set, replicate, getD-replicate}
-use lib.Seq.{getD-set-same, getD-set-other}
 use Rattle.rules.specs.Signs.{SignSet, full, intersect}
 use Rattle.rules.specs.Polynomial.{Atom, Board, which}
 use Rattle.rules.specs.Rounds.{unlessVariable, nonVariable, placed, placedAll, start}
@@ -15,13 +14,14 @@ use Rattle.terms.specs.View.{few, numbersFrom, setsOf}
 use Rattle.terms.specs.declared.Board.{Board as Sets}
 use Rattle.table.specs.declared.Atoms.{Atoms}
 use Rattle.table.specs.Table.{Table, formAt, atomsFrom, atomsOf, many}
-use Rattle.rounds.specs.declared.slots.Holds.{Holds}
-use Rattle.rounds.specs.declared.slots.Holds.the-variants.{Variable, Form}
-use Rattle.rounds.specs.Views.{variableOf, stateOf, rest}
-use Rattle.rounds.specs.Signing.{atomSlot}
-use Rattle.rounds.specs.Start.{Placed, Listed}
-use Rattle.rounds.proofs.Boards.{set-at, changed-at}
-use Rattle.rounds.proofs.Walks.{before-next, rest-cons, rest-nil}
+use Rattle.round.specs.declared.slots.Holds.{Holds}
+use Rattle.round.specs.declared.slots.Holds.the-variants.{Variable, Form}
+use Rattle.round.specs.Views.{variableOf, stateOf, rest}
+use Rattle.round.specs.Signing.{atomSlot}
+use Rattle.round.specs.Listed.{Listed}
+use Rattle.round.specs.Boards.{set-at, changed-at}
+use Rattle.round.specs.Walks.{rest-cons, rest-nil}
+use Rattle.rounds.specs.Start.{Placed}
 
 -- ---- one atom
 
@@ -42,32 +42,6 @@ not-listed number s a e = record { count = omega arith; atoms = λ t l. rw e }
 
 pub listed-as-form : {holds : Holds} {number : ℕ} {s : SignSet} {a r : Atoms} → holds ≡ Form → Listed none number s a r → Listed (variableOf holds) number s a r
 listed-as-form e l = rw e l
-
-module _ (t : Table) (numbers : List ℕ) (sets : List SignSet) (c x : ℕ) (y : SignSet) where
-  kept-before : (i k : ℕ) → i + k ≤ c → atomsFrom t (set numbers c x) (set sets c y) i k ≡ atomsFrom t numbers sets i k
-  unfolding atomsFrom
-  kept-before i zero h = refl
-  kept-before i (suc k) h =
-      let other : i ≡ c → ⊥ = λ e. omega arith in
-      rw (getD-set-other numbers c i x 0 other, getD-set-other sets c i y 0 other, kept-before (suc i) k (omega arith))
-
-  -- the first c atoms, with one more stored at place c
-  pub stored-atom : c < length numbers → c < length sets → (l : List Atom)
-      → atomsFrom t (set numbers c x) (set sets c y) 0 (suc c) ++ l ≡ atomsFrom t numbers sets 0 c ++ (record { polynomial = formAt t (x % 64); set = y } ∷ l)
-  stored-atom h k l =
-      rw (before-next t (set numbers c x) (set sets c y) c, kept-before 0 c (omega arith), getD-set-same numbers c x 0 h, getD-set-same sets c y 0 k)
-      (append-assoc (atomsFrom t numbers sets 0 c) (record { polynomial = formAt t (x % 64); set = y } ∷ []) l)
-
-pub pushed : (a : Atoms) (number : ℕ) (s : SignSet) → a .count < 64 → a .count < length (a .number) → a .count < length (a .set)
-    → Listed none number s a (record { count = a .count + 1; number = set (a .number) (a .count) number; set = set (a .set) (a .count) s })
-unfolding unlessVariable
-pushed a number s low h k = record {
-  count = omega arith;
-  atoms = λ t l.
-      let e : many (a .count + 1) ≡ suc (a .count) = omega arith in
-      let f : many (a .count) ≡ a .count = omega arith in
-      rw (e, f) (stored-atom t (a .number) (a .set) (a .count) number s h k l);
-}
 
 -- ---- the board of full sets
 

@@ -1,6 +1,5 @@
 pub mod Views
-pub mod Signing
-pub mod Round
+pub mod Ended
 pub mod Start
 pub mod Run
 pub mod Staying

@@ -3,17 +3,21 @@ use mathlib.Core.Path.{_≡_}
 use mathlib.Core.Bool.{Bool, true, false, not}
 use mathlib.Core.List.{List, [], _∷_, map}
 use mathlib.Core.Option.{Option, none, some}
-use Prim.Native.Nat.{ℕ, zero, suc, _+_, _≤_}
+use Prim.Native.Nat.{ℕ, zero, suc, _+_, _<_, _≤_}
 use lib.ListN.{getD, set}
 use Rattle.rules.specs.Signs.{SignSet, full}
 use Rattle.rules.specs.Polynomial.{Atom, Polynomial, Board}
 use Rattle.rules.specs.Rounds.{run, start, begun, enough, nonVariable}
 use Rattle.rules.specs.Level.{keptUnless}
+use Rattle.turn_laws.specs.AfterTurns.{AfterTurns, Idle}
+use Rattle.terms.specs.View.{setsOf}
 use Rattle.table.specs.declared.Atoms.{Atoms}
 use Rattle.table.specs.Table.{Table, atomAt, atomsOf, many}
 use Rattle.rounds.specs.declared.Ran.{Ran}
+use Rattle.rounds.specs.declared.Counted.{Counted}
+use Rattle.rounds.specs.declared.narrow.Beginning.{Beginning}
 use Rattle.rounds.specs.declared.Remaining.{Remaining}
-use Rattle.rounds.specs.Views.{outcomeOf}
+use Rattle.rounds.specs.Views.{outcomeOf, countedOutcome}
 
 -- the polynomials of a list
 abbrev pub polynomialsOf : List Atom → List Polynomial
@@ -23,12 +27,27 @@ polynomialsOf l = map (λ (a : Atom). a .polynomial) l
 pub record NonVariable (t : Table) (list atoms : Atoms) : Type 0 where
   pub polynomials : polynomialsOf (atomsOf t atoms) ≡ polynomialsOf (nonVariable (t .variables) (atomsOf t list))
 
--- r is the run of the rounds over the list
+-- r is what the rounds over the list come to
 pub record RunOf (t : Table) (list : Atoms) (r : Ran) : Type 0 where
   pub outcome : outcomeOf t r ≡ run (t .variables) (atomsOf t list)
+  pub variables : r .state .board .variables ≡ t .variables
+  pub atoms : NonVariable t list (r .state .atoms)
+
+-- the same with the number of rounds begun
+pub record CountedRun (t : Table) (list : Atoms) (r : Counted) : Type 0 where
+  pub outcome : countedOutcome t r ≡ run (t .variables) (atomsOf t list)
   pub begun : r .begun ≡ begun (t .variables) (enough (start (t .variables) (atomsOf t list))) (start (t .variables) (atomsOf t list))
   pub variables : r .state .board .variables ≡ t .variables
   pub atoms : NonVariable t list (r .state .atoms)
+
+-- st is the start of the list, but for turns of its variables, in some order, that have been taken ahead of the rounds; if it is still, each is idle
+pub record NarrowedStart (t : Table) (list : Atoms) (r : Beginning) : Type 0 where
+  pub variables : r .state .board .variables ≡ t .variables
+  pub atoms : atomsOf t (r .state .atoms) ≡ start (t .variables) (atomsOf t list) .atoms
+  pub after : AfterTurns (t .variables) (start (t .variables) (atomsOf t list) .atoms) (start (t .variables) (atomsOf t list) .board)
+      (setsOf (r .state .board))
+  pub idle : r .still ≡ true
+      → (i : ℕ) → i < t .variables → Idle (t .variables) (start (t .variables) (atomsOf t list) .atoms) (setsOf (r .state .board)) i
 
 -- ---- the sets that the atoms carry
 

@@ -1,22 +1,14 @@
--- What the functions of the start ensure: a set on the board, an atom in the list.
+-- What the start of the rounds ensures of a variable's atom: its set is on the board.
+-- What it ensures of any other atom is `Listed` of the crate `round`.
 use mathlib.Core.Path.{_≡_}
-use mathlib.Core.List.{List, _++_}
 use mathlib.Core.Option.{Option}
-use Prim.Native.Nat.{ℕ, _+_, _%_, _≤_}
+use Prim.Native.Nat.{ℕ}
 use Rattle.rules.specs.Signs.{SignSet}
-use Rattle.rules.specs.Polynomial.{Atom}
-use Rattle.rules.specs.Rounds.{placed, unlessVariable}
+use Rattle.rules.specs.Rounds.{placed}
 use Rattle.terms.specs.View.{setsOf}
 use Rattle.terms.specs.declared.Board.{Board}
-use Rattle.table.specs.declared.Atoms.{Atoms}
-use Rattle.table.specs.Table.{Table, formAt, atomsOf}
 
 -- r is the board b with the set of the variable's atom placed on it
 pub record Placed (variable : Option ℕ) (s : SignSet) (b r : Board) : Type 0 where
   pub variables : r .variables ≡ b .variables
   pub sets : setsOf r ≡ placed variable s (setsOf b)
-
--- r is the list a with one atom more at its end, unless that is a variable's
-pub record Listed (variable : Option ℕ) (number : ℕ) (s : SignSet) (a r : Atoms) : Type 0 where
-  pub count : r .count ≤ a .count + 1
-  pub atoms : (t : Table) (l : List Atom) → atomsOf t r ++ l ≡ atomsOf t a ++ unlessVariable variable (record { polynomial = formAt t (number % 64); set = s }) l

@@ -1,41 +1,16 @@
--- What the structs of the rounds stand for over a table: a state, an outcome, the variable that a slot holds.
--- The table is lent as slices; `tableOf` is what their lists are together.
+-- What the end of the rounds stands for over a table: an outcome.
+-- And the sets of all atoms of a list, which tell whether a round found a contradiction or changed nothing.
 use mathlib.Core.Bool.{Bool, true, false}
-use mathlib.Core.List.{List, _++_}
-use mathlib.Core.Option.{Option, none, some}
-use Prim.Native.Nat.{ℕ, _+_, _-_, _<_}
-use lib.IntN.{ℤ}
-use denote.Ref.{RefT, now}
+use mathlib.Core.List.{List}
 use Rattle.rules.specs.Signs.{SignSet}
-use Rattle.rules.specs.Polynomial.{Atom, Board}
-use Rattle.rules.specs.Rounds.{cutAtom, Outcome, contradiction, settled}
+use Rattle.rules.specs.Rounds.{Outcome, contradiction, settled}
 use Rattle.rules.specs.Rounds.{State as Standing}
-use Rattle.terms.specs.View.{setsOf, numbersFrom}
+use Rattle.terms.specs.View.{numbersFrom}
 use Rattle.table.specs.declared.Atoms.{Atoms}
-use Rattle.table.specs.Table.{Table, atomAt, atomsFrom, atomsOf, many}
-use Rattle.rounds.specs.declared.State.{State}
+use Rattle.table.specs.Table.{Table, many}
+use Rattle.round.specs.Views.{stateOf}
 use Rattle.rounds.specs.declared.Ran.{Ran}
-use Rattle.rounds.specs.declared.slots.Holds.{Holds}
-use Rattle.rounds.specs.declared.slots.Holds.the-variants.{Variable, Form}
-
-abbrev pub tableOf : List ℤ → List ℕ → List ℕ → ℕ → Table
-tableOf coefficient monomial terms variables = record { variables = variables; coefficient = coefficient; monomial = monomial; terms = terms }
-
-abbrev pub lentTable : RefT (List ℤ) → RefT (List ℕ) → RefT (List ℕ) → ℕ → Table
-lentTable coefficient monomial terms variables = tableOf (now coefficient) (now monomial) (now terms) variables
-
--- the variable that a slot was found to hold
-abbrev pub variableOf : Holds → Option ℕ
-variableOf (Variable i) = some i
-variableOf Form = none
-
--- and that it is one of the first n
-abbrev pub Below : ℕ → Holds → Type 0
-Below n (Variable i) = i < n
-Below n Form = Unit {0}
-
-abbrev pub stateOf : Table → State → Standing
-stateOf t st = record { board = setsOf (st .board); atoms = atomsOf t (st .atoms) }
+use Rattle.rounds.specs.declared.Counted.{Counted}
 
 abbrev pub ending : Bool → Standing → Outcome
 ending true st = contradiction
@@ -44,14 +19,8 @@ ending false st = settled st
 abbrev pub outcomeOf : Table → Ran → Outcome
 outcomeOf t r = ending (r .contradiction) (stateOf t (r .state))
 
--- the atoms of a list from the one at i on, and the sets of them all
-abbrev pub rest : Table → Atoms → ℕ → List Atom
-rest t a i = atomsFrom t (a .number) (a .set) i (many (a .count) - i)
+abbrev pub countedOutcome : Table → Counted → Outcome
+countedOutcome t r = ending (r .contradiction) (stateOf t (r .state))
 
 abbrev pub heldSets : Atoms → List SignSet
 heldSets a = numbersFrom (a .set) 0 (many (a .count))
-
--- the set of the atom at i, one of the first n, cut by a round
-abbrev pub cutSet : Table → List ℕ → List SignSet → Board → ℕ → ℕ → SignSet
-cutSet t numbers sets board n i =
-    cutAtom board (atomsFrom t numbers sets 0 i ++ atomsFrom t numbers sets (i + 1) (n - (i + 1))) (atomAt t numbers sets i) .set

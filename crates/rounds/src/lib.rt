@@ -14,49 +14,69 @@ ghost use Rattle.removal_laws.specs.Staying.{staysBy, removeFaster};
 ghost use Rattle.terms.specs.View.{setsOf};
 ghost use Rattle.terms.specs.Signed.{Signed};
 ghost use Rattle.table.specs.Table.{Table, Forms, formAt, atomsOf};
-ghost use Rattle.rounds.specs.Views.{lentTable, variableOf, Below, stateOf};
-ghost use Rattle.rounds.specs.Signing.{SignedSlot, Ready};
-ghost use Rattle.rounds.specs.Staying.{CarriedFrom};
-ghost use Rattle.rounds.specs.Run.{RunOf, NonVariable, Carried, carriedSet, carriedNext, KeptUnless, RemainingOf};
-use crate::list::joined;
-use crate::list::listed;
-use crate::list::many;
-use crate::list::push;
-use crate::round::cut_by;
+ghost use Rattle.round.specs.Views.{lentTable, variableOf, Below, stateOf};
+ghost use Rattle.round.specs.Signing.{SignedSlot, Ready};
+ghost use Rattle.rounds.specs.Staying.{AfreshFrom, CarriedFrom};
+ghost use Rattle.rounds.specs.Run.{RunOf, CountedRun, NonVariable, Carried, carriedSet, carriedNext, KeptUnless, RemainingOf};
+use crate::narrow::afresh;
+use crate::narrow::narrowed;
 use crate::settle::rounds;
-use crate::slots::Holds;
-use crate::slots::places;
-use crate::slots::sign_list;
-use crate::slots::sign_slot;
-use crate::slots::which;
 use crate::start::start;
 use crate::staying::stays;
+use round::State;
+use round::list::joined;
+use round::list::listed;
+use round::list::many;
+use round::list::push;
+use round::round::cut_by;
+use round::slots::Holds;
+use round::slots::places;
+use round::slots::sign_list;
+use round::slots::sign_slot;
+use round::slots::which;
 use signs::SignSet;
 use table::Atoms;
 use terms::Board;
 use terms::by_terms;
 
-pub mod list; // lists of atoms
-pub mod slots; // the slots of the table, and the signs in them
-pub mod round; // one round
-pub mod lent; // its turns, on a board that is lent
 pub mod settle; // the rounds to their end
 pub mod start; // where they start
+pub mod narrow; // the start, narrowed ahead of them
 pub mod staying; // which atoms stay whatever else is removed
 
-// What the rounds work on: the board, and the atoms that are no variable's.
-pub struct State {
-    pub board: Board,
-    pub atoms: Atoms,
+// How the rounds ended, and the state that the last one left.
+pub struct Ran {
+    pub contradiction: bool,
+    pub state: State,
 }
 
-// How the rounds ended, how many were begun, and the state that the last one left.
-pub struct Ran {
+// The same, and how many rounds were begun.
+pub struct Counted {
     pub contradiction: bool,
     pub begun: usize,
     pub state: State,
 }
 
+// The rounds in document 01's order, counted.
+pub fn run_counted(
+    coefficient: &[i32],
+    monomial: &[u64],
+    terms: &[u8],
+    variables: usize,
+    list: Atoms,
+) -> Counted
+    requires { ⌜ Forms (lentTable coefficient monomial terms variables) ⌝ }
+    ensures { λ r. ⌜ CountedRun (lentTable (coefficient .entry) (monomial .entry) (terms .entry) variables) list r ⌝ }
+{
+    rounds(
+        coefficient,
+        monomial,
+        terms,
+        start(coefficient, monomial, terms, variables, list),
+    )
+}
+
+// What the rounds come to, with turns ahead of them.
 pub fn run(
     coefficient: &[i32],
     monomial: &[u64],
@@ -67,12 +87,18 @@ pub fn run(
     requires { ⌜ Forms (lentTable coefficient monomial terms variables) ⌝ }
     ensures { λ r. ⌜ RunOf (lentTable (coefficient .entry) (monomial .entry) (terms .entry) variables) list r ⌝ }
 {
-    rounds(
-        coefficient,
-        monomial,
-        terms,
-        start(coefficient, monomial, terms, variables, list),
-    )
+    let nothing = Board {
+        variables,
+        sets: [0; 16],
+    };
+    let begin = narrowed(coefficient, monomial, terms, variables, list, nothing);
+    let state = begin.state;
+    let end = rounds(coefficient, monomial, terms, state);
+    let left = end.state;
+    Ran {
+        contradiction: end.contradiction,
+        state: left,
+    }
 }
 
 // ---- what a list says of a polynomial
@@ -225,15 +251,17 @@ fn implied(
     terms: &[u8],
     variables: usize,
     others: Atoms,
+    settled: State,
     number: usize,
     set: SignSet,
 ) -> bool
-    requires { ⌜ Forms (lentTable coefficient monomial terms variables) × (number < 64) ⌝ }
+    requires { let t = lentTable coefficient monomial terms variables in
+        ⌜ Forms t × ((number < 64) × AfreshFrom t settled (atomsOf t others)) ⌝ }
     ensures { λ r.
         let t = lentTable (coefficient .entry) (monomial .entry) (terms .entry) variables in
         ⌜ r ≡ impliedOf variables (atomsOf t others) (record { polynomial = formAt t number; set = set .0 }) ⌝ }
 {
-    let ran = run(coefficient, monomial, terms, variables, others);
+    let ran = afresh(coefficient, monomial, terms, variables, others, settled);
     if ran.contradiction {
         return SignSet::EMPTY.inside(set);
     }
@@ -269,7 +297,7 @@ fn goes(
     requires { let t = lentTable coefficient monomial terms variables in
         ⌜ Ready t (setsOf (state .board)) (state .atoms) (now sign) × ((state .board .variables ≡ variables) × (number < 64)) ⌝ }
     requires { let t = lentTable coefficient monomial terms variables in
-        ⌜ SignedSlot t (setsOf (state .board)) (now sign) number × Apart (atomsOf t (state .atoms)) ⌝ }
+        ⌜ SignedSlot t (setsOf (state .board)) (now sign) number × (Apart (atomsOf t (state .atoms)) × AfreshFrom t state (atomsOf t others)) ⌝ }
     ensures { λ r.
         let t = lentTable (coefficient .entry) (monomial .entry) (terms .entry) variables in
         let a : Atom = record { polynomial = formAt t number; set = set .0 } in
@@ -287,7 +315,16 @@ fn goes(
     ) {
         return false;
     }
-    implied(coefficient, monomial, terms, variables, others, number, set)
+    implied(
+        coefficient,
+        monomial,
+        terms,
+        variables,
+        others,
+        state,
+        number,
+        set,
+    )
 }
 
 // The atom at index i of the list remains, unless it is implied.
@@ -319,7 +356,7 @@ fn remove(
     state: State,
 ) -> Remaining
     requires { let t = lentTable coefficient monomial terms variables in
-        ⌜ Ready t (setsOf (state .board)) (state .atoms) (now sign) × ((state .board .variables ≡ variables) × Apart (atomsOf t (state .atoms))) ⌝ }
+        ⌜ Ready t (setsOf (state .board)) (state .atoms) (now sign) × CarriedFrom t state (atomsOf t list) ⌝ }
     requires { let t = lentTable coefficient monomial terms variables in
         ⌜ Ready t (setsOf (state .board)) list (now sign) ⌝ }
     ensures { λ r.

@@ -7,12 +7,12 @@ ghost use Rattle.rules.specs.Deduce.{anyEmpty};
 ghost use Rattle.rules.specs.Rounds.{sameSets, hasEmpty, unchanged as unchangedOf};
 ghost use Rattle.terms.specs.View.{numbersFrom};
 ghost use Rattle.table.specs.Table.{Table, Forms};
-ghost use Rattle.rounds.specs.Views.{lentTable, stateOf};
-ghost use Rattle.rounds.specs.Round.{Ended};
-use crate::Ran;
-use crate::State;
-use crate::list::many;
-use crate::round::round;
+ghost use Rattle.round.specs.Views.{lentTable, stateOf};
+ghost use Rattle.rounds.specs.Ended.{Ended};
+use crate::Counted;
+use round::State;
+use round::list::many;
+use round::round::round;
 use terms::few;
 
 // Whether one of the first n sets is empty.
@@ -81,7 +81,7 @@ fn unchanged(before: State, after: State) -> bool
     }
 }
 
-pub fn rounds(coefficient: &[i32], monomial: &[u64], terms: &[u8], start: State) -> Ran
+pub fn rounds(coefficient: &[i32], monomial: &[u64], terms: &[u8], start: State) -> Counted
     requires { ⌜ Forms (lentTable coefficient monomial terms (start .board .variables)) ⌝ }
     ensures { λ r. ⌜ Ended (lentTable (coefficient .entry) (monomial .entry) (terms .entry) (start .board .variables)) start r ⌝ }
 {
@@ -94,14 +94,14 @@ pub fn rounds(coefficient: &[i32], monomial: &[u64], terms: &[u8], start: State)
         left -= 1;
         let next = round(coefficient, monomial, terms, current);
         if has_empty(next) {
-            return Ran {
+            return Counted {
                 contradiction: true,
                 begun: enough - left,
                 state: next,
             };
         }
         if unchanged(current, next) {
-            return Ran {
+            return Counted {
                 contradiction: false,
                 begun: enough - left,
                 state: next,
@@ -109,7 +109,7 @@ pub fn rounds(coefficient: &[i32], monomial: &[u64], terms: &[u8], start: State)
         }
         current = next;
     }
-    Ran {
+    Counted {
         contradiction: false,
         begun: enough,
         state: current,

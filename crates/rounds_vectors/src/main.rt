@@ -8,8 +8,8 @@ use block::Held;
 use forms::WorkingTable;
 use frames::Kind;
 use libc::STDOUT_FILENO;
-use rounds::State;
-use rounds::list::many;
+use round::State;
+use round::list::many;
 use table::Atoms;
 
 // The list: the tokens behind the AND.
@@ -96,7 +96,7 @@ fn tell_rounds(held: Held)
     let forms_coefficient = table.coefficient;
     let forms_monomial = table.monomial;
     let forms_terms = table.terms;
-    let ran = rounds::run(
+    let ran = rounds::run_counted(
         &forms_coefficient,
         &forms_monomial,
         &forms_terms,

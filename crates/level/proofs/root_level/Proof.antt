@@ -3,7 +3,7 @@ use mathlib.Core.List.{[]}
 use borrow.Author.Needs.{needs}
 use native.Mathlib.Omega.{arith}
 use Rattle.rules.specs.Level.{still}
-use Rattle.rounds.specs.Views.{tableOf}
+use Rattle.round.specs.Views.{tableOf}
 use Rattle.level.proofs.Rooted.{root-there, finish-small, root-atom, held-and, held-or, root-done}
 use Rattle.level.proofs.root_level.Statement.{statement}
 use Rattle.level.proofs.root_level.Tie as tie

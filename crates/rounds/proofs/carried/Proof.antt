@@ -6,8 +6,8 @@ use native.Mathlib.Omega.{arith}
 use lib.ListN.{length}
 use Rattle.terms.specs.View.{setsOf}
 use Rattle.table.specs.Table.{many}
-use Rattle.rounds.specs.Views.{tableOf}
-use Rattle.rounds.proofs.Over.{below-over}
+use Rattle.round.specs.Views.{tableOf}
+use Rattle.round.specs.Over.{below-over}
 use Rattle.rounds.proofs.Carrying.{Carrying, carrying-first, carrying-low, carrying-next, carrying-last}
 use Rattle.rounds.proofs.carried.Statement.{statement}
 use Rattle.rounds.proofs.carried.Tie as tie

@@ -3,9 +3,9 @@ use borrow.Author.Needs.{needs}
 use mathlib.Core.Path.{refl, sym, subst, ap}
 use Prim.Native.Nat.{_<_}
 use native.Mathlib.Omega.{arith}
-use Rattle.rounds.specs.Views.{variableOf, Below}
+use Rattle.round.specs.Views.{variableOf, Below}
+use Rattle.round.specs.Boards.{set-at}
 use Rattle.rounds.specs.Run.{carriedSet, carriedNext}
-use Rattle.rounds.proofs.Boards.{set-at}
 use Rattle.rounds.proofs.carried_one.Statement.{statement}
 use Rattle.rounds.proofs.carried_one.Tie as tie
 

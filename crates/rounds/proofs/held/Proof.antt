@@ -3,7 +3,7 @@ use borrow.Author.Needs.{needs}
 use mathlib.Core.Path.{subst, _∙_}
 use Prim.Native.Nat.{_<_}
 use native.Mathlib.Omega.{arith}
-use Rattle.rounds.specs.Views.{Below}
+use Rattle.round.specs.Views.{Below}
 use Rattle.rounds.proofs.Said.{held-in-list, held-on-board}
 use Rattle.rounds.proofs.held.Statement.{statement}
 use Rattle.rounds.proofs.held.Tie as tie

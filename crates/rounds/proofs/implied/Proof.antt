@@ -7,8 +7,8 @@ use lib.ListN.{length-replicate}
 use Rattle.rules.specs.Signs.{SignSet}
 use Rattle.rules.specs.Signs.{inside as insideOf}
 use Rattle.table.specs.Table.{Table}
-use Rattle.rounds.specs.Views.{lentTable}
-use Rattle.rounds.proofs.SignedSlots.{list-ready, slot-ready, slot-there, form-slots}
+use Rattle.round.specs.Views.{lentTable}
+use Rattle.round.specs.SignedSlots.{list-ready, slot-ready, slot-there, form-slots}
 use Rattle.rounds.proofs.Removing.{implied-by-contradiction, implied-by-state}
 use Rattle.rounds.proofs.implied.Statement.{statement}
 use Rattle.rounds.proofs.implied.Tie as tie
@@ -19,8 +19,8 @@ table s = lentTable (s .args .coefficient) (s .args .monomial) (s .args .terms) 
 says-at-requires : tie.Need-says-at-requires
 says-at-requires c κs =
     let s = c .before .before .before .before .before .before .before .before .before .before .before .before .before .before in
-    let (forms, low) = s .pre in
-    let r = c .before .before .before .before .before .before .before .before .before .before .before .run in
+    let (forms, (low, from)) = s .pre in
+    let r = c .before .before .before .before .before .before .before .before .before .before .before .afresh in
     let st = r .result .state in
     let listed = list-ready {t = table s} (st .board) (st .atoms) _ forms (r .ensures .variables) (length-replicate {A = ℕ} 1280 0) in
     rw (c .before .before .sign-slot .ensures, c .before .before .before .before .before .sign-list .ensures) (
@@ -31,13 +31,13 @@ says-at-requires c κs =
 returns : tie.Need-returns
 returns c =
     let s = c .before .before .before .before .before in
-    let r = c .before .before .run in
+    let r = c .before .before .afresh in
     c .inside .ensures ∙ implied-by-contradiction (table s) _ _ (r .result) (r .ensures .outcome) (c .before .if1 .taken)
 
 returns-2 : tie.Need-returns-2
 returns-2 c =
     let s = c .before .before .before .before .before .before .before .before .before .before .before .before .before .before .before .before in
-    let r = c .before .before .before .before .before .before .before .before .before .before .before .before .before .run in
+    let r = c .before .before .before .before .before .before .before .before .before .before .before .before .before .afresh in
     let settled = c .before .before .before .before .before .before .before .before .before .before .before .before .if1 .left in
     c .inside2 .ensures ∙ ap (λ (x : SignSet). insideOf x (s .args .set .0)) (c .before .says-at .ensures)
     ∙ implied-by-state (table s) _ _ (r .result) (r .ensures .outcome) settled

@@ -2,23 +2,26 @@
 use borrow.Author.Needs.{needs}
 use mathlib.Core.Path.{_≡_, _∙_, ap}
 use mathlib.Core.Bool.{Bool, false, not, _&&_}
-use mathlib.Core.List.{List}
+use mathlib.Core.List.{List, _++_}
 use Prim.Native.Nat.{_≤_, _-_}
 use native.Mathlib.Omega.{arith}
 use lib.ListN.{length-replicate}
 use Rattle.rules.specs.Polynomial.{Atom}
 use Rattle.rules.specs.Level.{implied as impliedBy}
 use Rattle.removal_laws.specs.Staying.{staysBy}
-use Rattle.table.specs.Table.{Table, atomAt, many}
-use Rattle.rounds.specs.Views.{tableOf, lentTable, stateOf}
-use Rattle.rounds.proofs.Removing.{Removing, removing-first, removing-next, removing-last}
+use Rattle.turn_laws.specs.Some.{Some}
+use Rattle.table.specs.Table.{Table, atomAt, atomsOf, many}
+use Rattle.round.specs.Views.{tableOf, lentTable, stateOf, rest}
+use Rattle.rounds.proofs.Removing.{Removing, removing-first, removing-next, removing-last, afresh-others, some-first, some-more}
+use Rattle.rounds.proofs.Others.{state-apart}
 use Rattle.rounds.proofs.remove.Statement.{statement}
 use Rattle.rounds.proofs.remove.Tie as tie
 
 abbrev Inv-loop : tie.InvT-loop
 Inv-loop coefficient monomial terms sign variables state list end kept₀ i₀ kept i =
     let t = tableOf coefficient monomial terms variables in
-    (i ≤ end) × ((end ≡ many (list .count)) × Removing t (stateOf t state) list i kept)
+    (i ≤ end) × ((end ≡ many (list .count))
+    × (Removing t (stateOf t state) list i kept × Some (atomsOf t list) (atomsOf t (kept .atoms) ++ rest t list i)))
 
 abbrev μ-loop : tie.MeasureT-loop
 μ-loop coefficient monomial terms sign variables state list end kept₀ i₀ kept i = end - i
@@ -29,8 +32,10 @@ table s = lentTable (s .args .coefficient) (s .args .monomial) (s .args .terms) 
 goes-requires : tie.Need-goes-requires Inv-loop μ-loop
 goes-requires c κs =
     let s = c .before .before .before .before .before .before .before .before .before .before in
-    let (ready, (same, distinct)) = s .pre .0 in
-    ((ready, (same, omega arith)), (s .pre .1 .atoms (c .before .before .before .before .before .loop .i) (omega arith), distinct))
+    let (ready, from) = s .pre .0 in
+    let l = c .before .before .before .before .before .loop in
+    let afresh = afresh-others (s .args .t6) (atomsOf (table s) (l .kept .atoms)) from (omega (arith, l .inv .1 .0)) (l .inv .1 .1 .1) (c .joined .ensures (table s)) in
+    ((ready, (from .variables, omega arith)), (s .pre .1 .atoms (l .i) (omega arith), (state-apart from, afresh)))
 
 loop-again : tie.Need-loop-again Inv-loop μ-loop
 loop-again c =
@@ -41,15 +46,23 @@ loop-again c =
     let stays : Bool = staysBy (s .args .variables) (stateOf (table s) (s .args .state)) atom in
     let out = c .before .goes .ensures
     ∙ ap (λ (others : List Atom). not stays && impliedBy (s .args .variables) others atom)
-    (c .before .before .joined .ensures (table s)) in
-    (omega arith, (l .inv .1 .0, removing-next (l .inv .1 .1) (omega arith) out (c .kept-unless .ensures)))
+    (c .before .before .joined .ensures (table s)) in (
+      omega arith,
+      (
+        l .inv .1 .0,
+        (
+          removing-next (l .inv .1 .1 .0) (omega arith) out (c .kept-unless .ensures),
+          some-more (table s) (omega (arith, l .inv .1 .0)) (l .inv .1 .1 .1) (c .kept-unless .ensures),
+        ),
+      ),
+    )
 
 pub remove-spec : {M : Type 1} → statement M
 remove-spec =
     tie.close
     (tie.spec Inv-loop μ-loop (λ c κs. search needs)
-    (λ c. (omega arith, (c .many .ensures, removing-first _ _ _ _ _ _ (length-replicate {A = Bool} 64 false))))
+    (λ c. (omega arith, (c .many .ensures, (removing-first _ _ _ _ _ _ (length-replicate {A = Bool} 64 false), some-first _ _ _ _))))
     (λ c. omega arith) (λ c. omega arith) (λ c. omega arith) (λ c. omega arith)
-    (λ c κs. omega (arith, c .before .before .before .before .loop .inv .1 .1 .count)) goes-requires
-    (λ c κs. (omega arith, omega (arith, c .before .before .before .before .before .before .loop .inv .1 .1 .count)))
-    (λ c. omega arith) (λ c. omega arith) loop-again (λ c. removing-last (c .before .loop .inv .1 .1) (omega arith)))
+    (λ c κs. omega (arith, c .before .before .before .before .loop .inv .1 .1 .0 .count)) goes-requires
+    (λ c κs. (omega arith, omega (arith, c .before .before .before .before .before .before .loop .inv .1 .1 .0 .count)))
+    (λ c. omega arith) (λ c. omega arith) loop-again (λ c. removing-last (c .before .loop .inv .1 .1 .0) (omega arith)))

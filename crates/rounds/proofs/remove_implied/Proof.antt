@@ -3,9 +3,9 @@ use borrow.Author.Needs.{needs}
 use Prim.Native.Nat.{ℕ}
 use lib.ListN.{length-replicate}
 use Rattle.table.specs.Table.{Table}
-use Rattle.rounds.specs.Views.{lentTable}
-use Rattle.rounds.proofs.SignedSlots.{list-ready, list-keeps}
-use Rattle.rounds.proofs.Others.{test-first, state-apart}
+use Rattle.round.specs.Views.{lentTable}
+use Rattle.round.specs.SignedSlots.{list-ready, list-keeps}
+use Rattle.rounds.proofs.Others.{test-first}
 use Rattle.rounds.proofs.remove_implied.Statement.{statement}
 use Rattle.rounds.proofs.remove_implied.Tie as tie
 
@@ -19,7 +19,7 @@ remove-requires c κs =
     let st = s .args .state in
     let first = list-ready {t = table s} (st .board) (st .atoms) _ forms (from .variables) (length-replicate {A = ℕ} 1280 0) in
     rw (c .before .before .sign-list2 .ensures, c .before .before .before .before .before .sign-list .ensures) (
-      (list-keeps (st .board) (s .args .list) (from .variables) first, (from .variables, state-apart from)),
+      (list-keeps (st .board) (s .args .list) (from .variables) first, from),
       list-ready {t = table s} (st .board) (s .args .list) _ forms (from .variables) (first .places),
     )
 

@@ -1,34 +1,23 @@
--- `run` meets its contract: the rounds from the start.
-use mathlib.Core.Path.{sym, _∙_, ap}
-use Rattle.rules.specs.Rounds.{rounds, begun, enough}
-use Rattle.rules.specs.Rounds.{run as runOf, start as startOf, State as Standing}
-use Rattle.table.specs.Table.{many}
-use Rattle.rounds.specs.Run.{polynomialsOf}
-use Rattle.rounds.proofs.Over.{forms-over, ended-over}
-use Rattle.rounds.proofs.Said.{same-polynomials}
+-- `run` meets its contract: the rounds from the narrowed start.
+use mathlib.Core.Path.{refl, sym}
+use Rattle.round.specs.Over.{forms-over}
+use Rattle.rounds.proofs.Ends.{ended-over}
+use Rattle.rounds.proofs.Beginnings.{nothing-below, run-narrowed}
 use Rattle.rounds.proofs.run.Statement.{statement}
 use Rattle.rounds.proofs.run.Tie as tie
 
+narrowed-requires : tie.Need-narrowed-requires
+narrowed-requires c κs =
+    let s = c .before .before in
+    (s .pre, (refl, nothing-below (s .args .variables) (s .pre .variables) _ _))
+
+rounds-requires : tie.Need-rounds-requires
+rounds-requires c κs = forms-over _ _ _ (sym (c .before .narrowed .ensures .variables)) (c .before .before .before .before .pre)
+
 returns : tie.Need-returns
-unfolding runOf startOf
 returns c =
-    let n = c .before .before .before .before .args .variables in
-    let first = c .before .start .result .atoms in
-    let last = c .rounds .result .state .atoms in
-    let (same, is-start) = c .before .start .ensures in
-    let ended = ended-over _ _ _ same (c .rounds .ensures) in
-    record {
-      outcome = ended .outcome ∙ ap (λ (st : Standing). rounds n (enough st) st) is-start;
-      begun = ended .begun ∙ ap (λ (st : Standing). begun n (enough st) st) is-start;
-      variables = ended .variables;
-      atoms = record {
-        polynomials =
-            rw (ended .count, ended .number) (same-polynomials _ (first .number) (first .set) (last .set) 0 (many (first .count)))
-            ∙ ap (λ (st : Standing). polynomialsOf (st .atoms)) is-start;
-      };
-    }
+    let begin = c .before .before .before .narrowed .ensures in
+    run-narrowed begin (ended-over _ _ _ (begin .variables) (c .before .rounds .ensures))
 
 pub run-spec : {M : Type 1} → statement M
-run-spec =
-    tie.close
-    (tie.spec (λ c κs. c .before .before .pre) (λ c κs. forms-over _ _ _ (sym (c .start .ensures .0)) (c .before .before .before .pre)) returns)
+run-spec = tie.close (tie.spec narrowed-requires rounds-requires returns)

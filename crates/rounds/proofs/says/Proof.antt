@@ -1,6 +1,6 @@
 -- `says` meets its contract: signs at all places are more than what it takes.
 use native.Mathlib.Omega.{arith}
-use Rattle.rounds.proofs.SignedSlots.{all-signed, all-ready}
+use Rattle.round.specs.SignedSlots.{all-signed, all-ready}
 use Rattle.rounds.proofs.says.Statement.{statement}
 use Rattle.rounds.proofs.says.Tie as tie
 

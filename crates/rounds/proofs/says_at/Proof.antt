@@ -7,10 +7,10 @@ use Rattle.rules.specs.Rounds.{saysIn}
 use Rattle.terms.specs.View.{setsOf}
 use Rattle.terms.specs.Signed.{Held}
 use Rattle.table.specs.Table.{Table}
-use Rattle.rounds.specs.Views.{lentTable}
-use Rattle.rounds.proofs.SignedSlots.{run-held}
-use Rattle.rounds.proofs.Over.{below-over, ready-over, cut-by-over}
-use Rattle.rounds.proofs.Walks.{by-terms-at}
+use Rattle.round.specs.Views.{lentTable}
+use Rattle.round.specs.SignedSlots.{run-held}
+use Rattle.round.specs.Over.{below-over, ready-over, cut-by-over}
+use Rattle.round.specs.Walks.{by-terms-at}
 use Rattle.rounds.proofs.says_at.Statement.{statement}
 use Rattle.rounds.proofs.says_at.Tie as tie
 

@@ -5,7 +5,7 @@ use native.Mathlib.Omega.{arith}
 use lib.ListN.{getD}
 use borrow.Fn.Kinds.{In}
 use borrow.Fn.PlainCycle.{Measures, is, falls, and}
-use Rattle.rounds.specs.Views.{tableOf}
+use Rattle.round.specs.Views.{tableOf}
 use Rattle.level.proofs.Gathering.{Runs, stood-first, runs-start, runs-gathered, runs-end, runs-inside, runs-leaf, runs-ready, runs-room, runs-node, runs-skip}
 use Rattle.level.proofs.nesting.and_rule.Reads as and-rule
 use Rattle.level.proofs.nesting.and_rule.Kinds as and-rule-kinds

@@ -4,7 +4,7 @@ use Prim.Native.Nat.{ℕ, _+_}
 use native.Mathlib.Omega.{arith}
 use borrow.Author.Tests.{not-true, not-false}
 use Rattle.level.specs.Row.{Lists}
-use Rattle.rounds.specs.Views.{tableOf}
+use Rattle.round.specs.Views.{tableOf}
 use Rattle.level.specs.Tape.{Children, laid}
 use Rattle.level.specs.Settled.{StageIs, due}
 use Rattle.level.proofs.Stages.{stage-start, stage-ready, stage-end, stage-turn, stage-less}

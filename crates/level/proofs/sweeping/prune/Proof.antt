@@ -5,7 +5,7 @@ use native.Mathlib.Omega.{arith}
 use borrow.Author.Tests.{not-true, not-false}
 use lib.ListN.{length, take, drop}
 use Rattle.level.specs.Row.{Lists}
-use Rattle.rounds.specs.Views.{tableOf}
+use Rattle.round.specs.Views.{tableOf}
 use Rattle.level.proofs.Atomwise.{Pruning, prune-start, prune-end, prune-drop, prune-gone, prune-keep, part-next, part-done}
 use Rattle.level.proofs.sweeping.prune.Statement.{statement}
 use Rattle.level.proofs.sweeping.prune.Tie as tie

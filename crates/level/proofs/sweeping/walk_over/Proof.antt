@@ -2,7 +2,7 @@ use mathlib.Core.Path.{_≡_}
 use Prim.Native.Nat.{ℕ, _+_, _-_, _≤_}
 use native.Mathlib.Omega.{arith}
 use Rattle.level.specs.Row.{Lists}
-use Rattle.rounds.specs.Views.{tableOf}
+use Rattle.round.specs.Views.{tableOf}
 use Rattle.level.specs.Tape.{Children, laid}
 use Rattle.level.proofs.Childwise.{Sweeping, sweep-start, sweep-here, sweep-turn, sweep-end}
 use Rattle.level.proofs.sweeping.walk_over.Statement.{statement}

@@ -5,7 +5,7 @@ use borrow.Author.Needs.{needs}
 use native.Mathlib.Omega.{arith}
 use lib.ListN.{drop}
 use Rattle.level.specs.Row.{Lists}
-use Rattle.rounds.specs.Views.{tableOf}
+use Rattle.round.specs.Views.{tableOf}
 use Rattle.level.proofs.Merging.{rest-next, rest-none, Merging, merge-start, merge-end, merge-false, merge-true, merge-open}
 use Rattle.level.proofs.tidying.if_constant.Reads as if-constant-reads
 use Rattle.level.proofs.rows.empty.Reads as empty-reads

@@ -3,9 +3,9 @@ use borrow.Author.Needs.{needs}
 use mathlib.Core.Path.{refl, sym, _∙_}
 use native.Mathlib.Omega.{arith}
 use Rattle.table.specs.Table.{Table}
-use Rattle.rounds.specs.Views.{tableOf, lentTable}
-use Rattle.rounds.specs.Round.{Rounded}
-use Rattle.rounds.proofs.Over.{forms-over, rounded-over}
+use Rattle.round.specs.Views.{tableOf, lentTable}
+use Rattle.round.specs.Round.{Rounded}
+use Rattle.round.specs.Over.{forms-over, rounded-over}
 use Rattle.rounds.proofs.Ends.{enough-is, Going, at-first, to-contradiction, to-rest, onward, to-last}
 use Rattle.rounds.proofs.settle.rounds.Statement.{statement}
 use Rattle.rounds.proofs.settle.rounds.Tie as tie

@@ -4,7 +4,7 @@ use mathlib.Core.Path.{_≡_, subst}
 use Prim.Native.Nat.{_<_}
 use native.Mathlib.Omega.{arith}
 use lib.ListN.{length}
-use Rattle.rounds.specs.Views.{Below}
+use Rattle.round.specs.Views.{Below}
 use Rattle.rounds.proofs.Starts.{not-placed, placed-at}
 use Rattle.rounds.proofs.start.placed.Statement.{statement}
 use Rattle.rounds.proofs.start.placed.Tie as tie

@@ -4,8 +4,8 @@ use mathlib.Core.Path.{_≡_, sym}
 use Prim.Native.Nat.{_≤_, _-_}
 use native.Mathlib.Omega.{arith}
 use Rattle.table.specs.Table.{Table, many}
-use Rattle.rounds.specs.Views.{tableOf, lentTable}
-use Rattle.rounds.proofs.Over.{below-over}
+use Rattle.round.specs.Views.{tableOf, lentTable}
+use Rattle.round.specs.Over.{below-over}
 use Rattle.rounds.proofs.Starts.{Starting, starting-first, starting-next, starting-last}
 use Rattle.rounds.proofs.start.start.Statement.{statement}
 use Rattle.rounds.proofs.start.start.Tie as tie

@@ -5,7 +5,7 @@ use mathlib.Core.Path.{_≡_}
 use Prim.Native.Nat.{ℕ, _<_, _≤_, _-_}
 use native.Mathlib.Omega.{arith}
 use Rattle.table.specs.Table.{many}
-use Rattle.rounds.specs.Signing.{atomSlot}
+use Rattle.round.specs.Signing.{atomSlot}
 use Rattle.rounds.specs.Staying.{PlaceIs}
 use Rattle.rounds.proofs.staying.place.Statement.{statement}
 use Rattle.rounds.proofs.staying.place.Tie as tie

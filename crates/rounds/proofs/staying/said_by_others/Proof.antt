@@ -6,10 +6,10 @@ use native.Mathlib.Omega.{arith}
 use Rattle.terms.specs.View.{setsOf}
 use Rattle.terms.specs.Signed.{Held}
 use Rattle.table.specs.Table.{Table}
-use Rattle.rounds.specs.Views.{lentTable}
-use Rattle.rounds.proofs.SignedSlots.{run-held}
-use Rattle.rounds.proofs.Over.{ready-over, cut-by-over}
-use Rattle.rounds.proofs.Walks.{by-terms-at}
+use Rattle.round.specs.Views.{lentTable}
+use Rattle.round.specs.SignedSlots.{run-held}
+use Rattle.round.specs.Over.{ready-over, cut-by-over}
+use Rattle.round.specs.Walks.{by-terms-at}
 use Rattle.rounds.proofs.Others.{said-by-place}
 use Rattle.rounds.proofs.staying.said_by_others.Statement.{statement}
 use Rattle.rounds.proofs.staying.said_by_others.Tie as tie

@@ -1,7 +1,7 @@
 -- `stays` meets its contract, by what the slot holds.
 use borrow.Author.Needs.{needs}
 use Rattle.table.specs.Table.{Table}
-use Rattle.rounds.specs.Views.{lentTable}
+use Rattle.round.specs.Views.{lentTable}
 use Rattle.rounds.proofs.Others.{variable-goes, form-stays}
 use Rattle.rounds.proofs.staying.stays.Statement.{statement}
 use Rattle.rounds.proofs.staying.stays.Tie as tie

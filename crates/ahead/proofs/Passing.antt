@@ -1,0 +1,138 @@
+-- A pass after the turns of i variables: what they have left of the first board, and what is told of it.
+-- `passing-first` is how it begins, `passing-next` a turn more, `passing-last` how it ends.
+use mathlib.Core.Path.{_≡_, refl, sym, _∙_, ap, subst}
+use mathlib.Core.Bool.{Bool, true, false}
+use mathlib.Core.List.{List}
+use Prim.Native.Nat.{ℕ, _+_, _-_, _<_, _≤_}
+use native.Mathlib.Decide.{decLt}
+use native.Mathlib.Omega.{arith}
+use lib.IntN.{ℤ}
+use lib.ListN.{getD, set}
+use lib.Seq.{getD-set-same, set-getD}
+use Rattle.rules.specs.Signs.{SignSet, full}
+use Rattle.rules.specs.Polynomial.{Atom, variable}
+use Rattle.rules.specs.Polynomial.{Board as Sets}
+use Rattle.rules.specs.Rounds.{cutBy, turn}
+use Rattle.terms.specs.declared.Board.{Board}
+use Rattle.terms.specs.View.{numbersFrom, length-numbers, setsOf}
+use Rattle.table.specs.declared.Atoms.{Atoms}
+use Rattle.table.specs.Table.{Table, atomsOf}
+use Rattle.turn_laws.specs.AfterTurns.{AfterTurns, no-turn, one-more, after-both, Idle, Floor}
+use Rattle.round.specs.Views.{tableOf}
+use Rattle.round.specs.Signing.{Ready}
+use Rattle.round.specs.Boards.{set-at}
+use Rattle.ahead.specs.declared.Passed.{Passed}
+use Rattle.ahead.specs.Ahead.{placeOf, FloorAt, Stepped, Ahead}
+
+-- ---- the places
+
+pub place-below : (up : Bool) (n i : ℕ) → i < n → placeOf up n i < n
+unfolding placeOf
+place-below true n i h = h
+place-below false n i h = omega arith
+
+-- the place of the place of i is i
+place-back : (up : Bool) (n i : ℕ) → i < n → placeOf up n (placeOf up n i) ≡ i
+unfolding placeOf
+place-back true n i h = refl
+place-back false n i h = omega arith
+
+-- ---- a turn that leaves the variable's set
+
+module _ (n : ℕ) (atoms : List Atom) (xs ys : List SignSet) (i k : ℕ) (low : i < k) where
+  pub same-idle : numbersFrom ys 0 k ≡ turn n atoms (numbersFrom xs 0 k) i → getD ys i 0 ≡ getD xs i 0 → Idle n atoms (numbersFrom xs 0 k) i
+  unfolding turn
+  same-idle e same =
+      let b = numbersFrom xs 0 k in
+      let v = cutBy b (variable n i) atoms (getD b i full) in
+      let cut : v ≡ getD b i full =
+      sym (getD-set-same b i v full (omega (arith, length-numbers xs 0 k))) ∙ sym (ap (λ (l : Sets). getD l i full) e) ∙ set-at ys i k low ∙ same
+      ∙ sym (set-at xs i k low) in
+      ap (set b i) cut ∙ set-getD b i full
+
+-- ---- a board's own number of variables is the table's
+
+module _ (cs : List ℤ) (ms ts : List ℕ) {n m : ℕ} (same : n ≡ m) where
+  pub stepped-over : {a : Atoms} {p : Passed} {i : ℕ} {r : Passed} {ss : List SignSet} → Stepped (tableOf cs ms ts n) a p i r ss
+      → Stepped (tableOf cs ms ts m) a p i r ss
+  stepped-over {a} {p} {i} {r} {ss} = subst (λ (k : ℕ). Stepped (tableOf cs ms ts k) a p i r ss) same
+
+  pub floor-at-over : (a : Atoms) (b floor : Board) (i : ℕ) → FloorAt (tableOf cs ms ts n) a b floor i → FloorAt (tableOf cs ms ts m) a b floor i
+  floor-at-over a b floor i = subst (λ (k : ℕ). FloorAt (tableOf cs ms ts k) a b floor i) same
+
+  pub floor-over : (a : Atoms) (b floor : Sets) → Floor n (atomsOf (tableOf cs ms ts n) a) b floor → Floor m (atomsOf (tableOf cs ms ts m) a) b floor
+  floor-over a b floor = subst (λ (k : ℕ). Floor k (atomsOf (tableOf cs ms ts k) a) b floor) same
+
+  pub ahead-over : {a : Atoms} {b : Board} {r : Passed} {ss : List SignSet} → Ahead (tableOf cs ms ts n) a b r ss → Ahead (tableOf cs ms ts m) a b r ss
+  ahead-over {a} {b} {r} {ss} = subst (λ (k : ℕ). Ahead (tableOf cs ms ts k) a b r ss) same
+
+-- ---- a pass
+
+module _ (t : Table) (a : Atoms) (first : Board) (up : Bool) where
+  pub record Passing (i : ℕ) (p : Passed) (ss : List SignSet) : Type 0 where
+    pub variables : p .board .variables ≡ t .variables
+    pub after : AfterTurns (t .variables) (atomsOf t a) (setsOf first) (setsOf (p .board))
+    pub ready : Ready t (setsOf (p .board)) a ss
+    pub still : p .still ≡ true
+        → (setsOf (p .board) ≡ setsOf first) × ((k : ℕ) → k < i → Idle (t .variables) (atomsOf t a) (setsOf first) (placeOf up (t .variables) k))
+
+  pub passing-first : {ss : List SignSet} → first .variables ≡ t .variables → Ready t (setsOf first) a ss
+      → Passing 0 (record { board = first; still = true }) ss
+  passing-first same ready = record { variables = same; after = no-turn; ready = ready; still = λ e. (refl, λ k h. absurd (omega arith)) }
+
+  -- what the floor says of the board at hand
+  pub floor-here : {i : ℕ} {p : Passed} {ss : List SignSet} (floor : Board) → Passing i p ss → t .variables ≤ 16 → floor .variables ≡ t .variables
+      → Floor (t .variables) (atomsOf t a) (setsOf first) (setsOf floor) → (j : ℕ) → j < t .variables → FloorAt t a (p .board) floor j
+  floor-here {p} floor passing few-of same below j h e =
+      below .idle (passing .after) j h
+      (set-at (p .board .sets) j _ (omega (arith, passing .variables)) ∙ e ∙ sym (set-at (floor .sets) j _ (omega (arith, same))))
+
+  pub passing-next : {i : ℕ} {p r : Passed} {ss zs : List SignSet} → Passing i p ss → i < t .variables
+      → Stepped t a p (placeOf up (t .variables) i) r zs → Passing (i + 1) r zs
+  passing-next {i} {p} {r} passing low one =
+      let n = t .variables in
+      let j = placeOf up n i in
+      record {
+        variables = one .variables;
+        after = subst (AfterTurns n (atomsOf t a) (setsOf first)) (sym (one .sets)) (one-more j (place-below up n i low) (passing .after));
+        ready = one .ready;
+        still = λ e.
+            let (before, idle) = one .still e in
+            let (same, idles) = passing .still before in
+            (one .sets ∙ idle ∙ same, λ k h. by-place k h (subst (λ (b : Sets). Idle n (atomsOf t a) b j) same idle) idles (decLt k i));
+      }
+    where
+      by-place : (k : ℕ) → k < i + 1 → Idle (t .variables) (atomsOf t a) (setsOf first) (placeOf up (t .variables) i)
+          → ((k : ℕ) → k < i → Idle (t .variables) (atomsOf t a) (setsOf first) (placeOf up (t .variables) k)) → Dec (k < i)
+          → Idle (t .variables) (atomsOf t a) (setsOf first) (placeOf up (t .variables) k)
+      by-place k h here before (yes l) = before k l
+      by-place k h here before (no l) = let e : i ≡ k = omega arith in rw e at here
+
+  pub passing-last : {i : ℕ} {p : Passed} {ss : List SignSet} → Passing i p ss → t .variables ≤ i → Ahead t a first p ss
+  passing-last {i} {p} passing all = record {
+    variables = passing .variables;
+    after = passing .after;
+    ready = passing .ready;
+    idle = λ e j h.
+        let n = t .variables in
+        let (same, idles) = passing .still e in
+        let idle = idles (placeOf up n j) (omega (arith, place-below up n j h)) in
+        subst (λ (b : Sets). Idle n (atomsOf t a) b j) (sym same) (rw (place-back up n j h) at idle);
+  }
+
+-- ---- passes one after the other
+
+-- what the passes so far have left, and a pass more that is not told to be still
+pub record Passes (t : Table) (a : Atoms) (first at : Board) (ss : List SignSet) : Type 0 where
+  pub variables : at .variables ≡ t .variables
+  pub after : AfterTurns (t .variables) (atomsOf t a) (setsOf first) (setsOf at)
+  pub ready : Ready t (setsOf at) a ss
+
+pub passes-next : {t : Table} {a : Atoms} {first at : Board} {r : Passed} {ss zs : List SignSet} → Passes t a first at ss → Ahead t a at r zs
+    → Passes t a first (r .board) zs
+passes-next passes one = record { variables = one .variables; after = after-both (passes .after) (one .after); ready = one .ready }
+
+pub passes-last : {t : Table} {a : Atoms} {first at : Board} {r : Passed} {ss zs : List SignSet} → Passes t a first at ss → Ahead t a at r zs
+    → Ahead t a first r zs
+passes-last passes one =
+    record { variables = one .variables; after = after-both (passes .after) (one .after); ready = one .ready; idle = one .idle }

@@ -1,0 +1,16 @@
+-- `place` meets its contract.
+use borrow.Author.Needs.{needs}
+use Rattle.ahead.specs.Ahead.{placeOf}
+use Rattle.ahead.proofs.place.Statement.{statement}
+use Rattle.ahead.proofs.place.Tie as tie
+
+returns : tie.Need-returns
+unfolding placeOf
+returns c = rw (c .if1 .taken)
+
+returns-2 : tie.Need-returns-2
+unfolding placeOf
+returns-2 c = rw (c .if1 .left)
+
+pub place-spec : {M : Type 1} → statement M
+place-spec = tie.close (tie.spec (λ c. search needs) (λ c. search needs) returns returns-2)

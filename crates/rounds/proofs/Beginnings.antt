@@ -1,0 +1,109 @@
+-- The narrowed start of a list: how it is begun, that rounds from it come to what the run of the list comes to, and that fresh rounds that are still
+-- are over. `narrowed-start`, `narrowed-end` and `still-end` say so.
+use mathlib.Core.Path.{_≡_, sym, _∙_, ap, subst}
+use mathlib.Core.Bool.{true, false}
+use mathlib.Core.List.{List}
+use Prim.Native.Nat.{ℕ, _≤_}
+use native.Mathlib.Omega.{arith}
+use lib.IntN.{ℤ}
+use lib.ListN.{replicate, getD-replicate}
+use Rattle.rules.specs.Signs.{SignSet, empty}
+use Rattle.rules.specs.Polynomial.{Atom, Board as Sets}
+use Rattle.rules.specs.Rounds.{start, rounds, enough, run, settled}
+use Rattle.rules.specs.Rounds.{State as Standing}
+use Rattle.removal_laws.specs.Settled.{start-low}
+use Rattle.ending_laws.specs.Rounds.{start-length}
+use Rattle.turn_laws.specs.AfterTurns.{AfterTurns, end, same-end, Idle, Floor, floor-empty}
+use Rattle.turn_laws.specs.Afresh.{afresh-start, floor-settled, run-by-turns}
+use Rattle.terms.specs.declared.Board.{Board}
+use Rattle.terms.specs.View.{few, numbersFrom, setsOf}
+use Rattle.table.specs.declared.Atoms.{Atoms}
+use Rattle.table.specs.Table.{Table, atomsOf, many}
+use Rattle.round.specs.declared.State.{State}
+use Rattle.round.specs.Views.{tableOf, stateOf}
+use Rattle.round.specs.Boards.{set-at}
+use Rattle.ahead.specs.declared.Passed.{Passed}
+use Rattle.ahead.specs.Ahead.{Ahead}
+use Rattle.rounds.specs.declared.Counted.{Counted}
+use Rattle.rounds.specs.declared.narrow.Beginning.{Beginning}
+use Rattle.rounds.specs.Run.{polynomialsOf, NarrowedStart, RunOf}
+use Rattle.rounds.specs.Ended.{Ended}
+use Rattle.rounds.specs.Staying.{AfreshFrom}
+use Rattle.rounds.proofs.Said.{same-polynomials}
+
+-- ---- how it is begun
+
+-- the board's own number of variables m is the table's n
+module _ (cs : List ℤ) (ms ts : List ℕ) {n m : ℕ} (same : m ≡ n) (first : State) (l : List Atom)
+    (is-start : stateOf (tableOf cs ms ts n) first ≡ start n l) where
+  pub floor-begins : (floor : Sets) → Floor n (start n l .atoms) (start n l .board) floor
+      → Floor m (atomsOf (tableOf cs ms ts m) (first .atoms)) (setsOf (first .board)) floor
+  floor-begins floor below =
+      subst (λ (k : ℕ). Floor k (atomsOf (tableOf cs ms ts k) (first .atoms)) (setsOf (first .board)) floor) (sym same)
+      (subst (λ (st : Standing). Floor n (st .atoms) (st .board) floor) (sym is-start) below)
+
+pub narrowed-start : (cs : List ℤ) (ms ts : List ℕ) {n m : ℕ} → m ≡ n → {first : State} (list : Atoms)
+    → stateOf (tableOf cs ms ts n) first ≡ start n (atomsOf (tableOf cs ms ts n) list) → {r : Passed} {ss : List SignSet}
+    → Ahead (tableOf cs ms ts m) (first .atoms) (first .board) r ss
+    → NarrowedStart (tableOf cs ms ts n) list (record { still = r .still; state = record { board = r .board; atoms = first .atoms } })
+narrowed-start cs ms ts {n} same {first} list is-start {r} {ss} passed =
+    let a = subst (λ (k : ℕ). Ahead (tableOf cs ms ts k) (first .atoms) (first .board) r ss) same passed in
+    record {
+      variables = a .variables;
+      atoms = ap (λ (st : Standing). st .atoms) is-start;
+      after = subst (λ (st : Standing). AfterTurns n (st .atoms) (st .board) (setsOf (r .board))) is-start (a .after);
+      idle = λ e i h. subst (λ (st : Standing). Idle n (st .atoms) (setsOf (r .board)) i) is-start (a .idle e i h);
+    }
+
+-- a board of empty sets is a floor
+pub nothing-below : (n : ℕ) → n ≤ 16 → (atoms : List Atom) (first : Sets) → Floor n atoms first (numbersFrom (replicate 16 0) 0 (few n))
+nothing-below n h atoms first = floor-empty (λ i low.
+    set-at (replicate 16 0) i (few n) (omega arith) ∙ getD-replicate 16 i 0 0 (omega arith))
+
+-- and so are the settled sets, of fresh rounds
+pub settled-below : {t : Table} {state : State} {others : List Atom} → AfreshFrom t state others
+    → Floor (t .variables) (start (t .variables) others .atoms) (start (t .variables) others .board) (setsOf (state .board))
+settled-below {t} from = floor-settled (afresh-start (t .variables) (from .given) (from .settles) (from .some))
+
+-- ---- what comes of it
+
+pub narrowed-end : {t : Table} {list : Atoms} {r : Beginning} → NarrowedStart t list r
+    → rounds (t .variables) (enough (stateOf t (r .state))) (stateOf t (r .state)) ≡ run (t .variables) (atomsOf t list)
+unfolding run
+narrowed-end {t} {list} {r} begin =
+    let n = t .variables in
+    let l = atomsOf t list in
+    ap (λ (atoms : List Atom). end n (record { board = setsOf (r .state .board); atoms = atoms })) (begin .atoms)
+    ∙ same-end (start-low n l) (start-length n l) (begin .after)
+
+pub still-end : {t : Table} {state : State} {others : Atoms} {r : Beginning} → AfreshFrom t state (atomsOf t others) → NarrowedStart t others r
+    → r .still ≡ true → settled (stateOf t (r .state)) ≡ run (t .variables) (atomsOf t others)
+still-end {t} {state} {others} {r} from begin e =
+    ap (λ (atoms : List Atom). settled (record { board = setsOf (r .state .board); atoms = atoms })) (begin .atoms)
+    ∙ sym (run-by-turns (t .variables) (from .given) (from .settles) (atomsOf t others) (from .some) (begin .after) (begin .idle e))
+
+-- so rounds from it are the run
+pub run-narrowed : {t : Table} {list : Atoms} {b : Beginning} {r : Counted} → NarrowedStart t list b → Ended t (b .state) r
+    → RunOf t list (record { contradiction = r .contradiction; state = r .state })
+unfolding start
+run-narrowed {t} {list} {b} {r} begin ended =
+    let first = b .state .atoms in
+    record {
+      outcome = ended .outcome ∙ narrowed-end begin;
+      variables = ended .variables;
+      atoms = record {
+        polynomials =
+            rw (ended .count, ended .number) (same-polynomials t (first .number) (first .set) (r .state .atoms .set) 0 (many (first .count)))
+            ∙ ap polynomialsOf (begin .atoms);
+      };
+    }
+
+-- and fresh rounds need none
+pub run-still : {t : Table} {state : State} {others : Atoms} {b : Beginning} → AfreshFrom t state (atomsOf t others) → NarrowedStart t others b
+    → b .still ≡ true → RunOf t others (record { contradiction = false; state = b .state })
+unfolding start
+run-still from begin e = record {
+  outcome = still-end from begin e;
+  variables = begin .variables;
+  atoms = record { polynomials = ap polynomialsOf (begin .atoms) };
+}

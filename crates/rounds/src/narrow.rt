@@ -1,0 +1,81 @@
+// Where the rounds over a list are begun: its start, narrowed by turns of the variables ahead of them, 01 "Rounds". What the rounds come to is the same.
+// Over atoms that carry the sets of a settled state no atom's set is cut, so that the turns are the whole of the rounds (crate turn_laws).
+ghost use mathlib.Core.Path.{_≡_};
+ghost use Rattle.rules.specs.Rounds.{start as startOf};
+ghost use Rattle.terms.specs.View.{setsOf};
+ghost use Rattle.table.specs.Table.{Forms, atomsOf};
+ghost use Rattle.turn_laws.specs.AfterTurns.{Floor};
+ghost use Rattle.round.specs.Views.{lentTable};
+ghost use Rattle.rounds.specs.Run.{NarrowedStart, RunOf};
+ghost use Rattle.rounds.specs.Staying.{AfreshFrom};
+use crate::Ran;
+use crate::settle::rounds;
+use crate::start::start;
+use ahead::ahead;
+use round::State;
+use round::slots::sign_list;
+use table::Atoms;
+use terms::Board;
+
+// The narrowed start, and whether no variable's turn would narrow it further.
+pub struct Beginning {
+    pub still: bool,
+    pub state: State,
+}
+
+// The start of a list, narrowed. No turn goes below the sets of the floor.
+pub fn narrowed(
+    coefficient: &[i32],
+    monomial: &[u64],
+    terms: &[u8],
+    variables: usize,
+    list: Atoms,
+    floor: Board,
+) -> Beginning
+    requires { let t = lentTable coefficient monomial terms variables in
+        let st = startOf variables (atomsOf t list) in
+        ⌜ Forms t × ((floor .variables ≡ variables) × Floor variables (st .atoms) (st .board) (setsOf floor)) ⌝ }
+    ensures { λ r. ⌜ NarrowedStart (lentTable (coefficient .entry) (monomial .entry) (terms .entry) variables) list r ⌝ }
+{
+    let first = start(coefficient, monomial, terms, variables, list);
+    let board = first.board;
+    let atoms = first.atoms;
+    let mut sign = [0u8; 1280];
+    sign_list(board, monomial, terms, atoms, &mut sign);
+    let passed = ahead(coefficient, monomial, terms, &mut sign, board, atoms, floor);
+    let left = passed.board;
+    Beginning {
+        still: passed.still,
+        state: State { board: left, atoms },
+    }
+}
+
+// "rounds run afresh" over some of the atoms that carry the sets of a state that rounds settled in.
+pub fn afresh(
+    coefficient: &[i32],
+    monomial: &[u64],
+    terms: &[u8],
+    variables: usize,
+    others: Atoms,
+    settled: State,
+) -> Ran
+    requires { let t = lentTable coefficient monomial terms variables in
+        ⌜ Forms t × AfreshFrom t settled (atomsOf t others) ⌝ }
+    ensures { λ r. ⌜ RunOf (lentTable (coefficient .entry) (monomial .entry) (terms .entry) variables) others r ⌝ }
+{
+    let floor = settled.board;
+    let begin = narrowed(coefficient, monomial, terms, variables, others, floor);
+    let state = begin.state;
+    if begin.still {
+        return Ran {
+            contradiction: false,
+            state,
+        };
+    }
+    let end = rounds(coefficient, monomial, terms, state);
+    let left = end.state;
+    Ran {
+        contradiction: end.contradiction,
+        state: left,
+    }
+}

@@ -1,0 +1,130 @@
+-- Fresh rounds over some of the atoms that carry a settled state's sets cut no atom and find no contradiction: only the variables have their turns,
+-- in any order. 01, "A level", step 5: "what the other remaining atoms (rounds run afresh on them alone) say of it".
+use mathlib.Core.Path.{_≡_, refl, sym, ap, ap₂, _∙_, subst}
+use mathlib.Core.Bool.{false}
+use mathlib.Core.List.{List, [], _∷_, _++_}
+use Prim.Native.Nat.{ℕ, suc, _+_, _*_, _<_}
+use native.Mathlib.Omega.{arith}
+use lib.Dec.{lit<}
+use lib.ListN.{length, getD, set}
+use lib.Seq.{set-getD}
+use Rattle.rules.specs.Signs.{SignSet, full}
+use Rattle.rules.specs.Polynomial.{Atom, Board, variable}
+use Rattle.rules.specs.Rounds.{turn, turns, cutAtom, cutAtoms, State, round, setsOf, sameSets, hasEmpty, unchanged, settled, afterRound, rounds}
+use Rattle.rules.specs.Rounds.{start, enough, run, carried}
+use Rattle.sign_laws.specs.Booleans.{never-true, never-both}
+use Rattle.sign_laws.specs.Lists.{every-none, every, every-append, every-getD}
+use Rattle.sign_laws.specs.Sets.{PartOf}
+use Rattle.ending_laws.specs.Cuts.{cutBy-part, cutBy-below, cutAtom-part, cutAtom-below}
+use Rattle.ending_laws.specs.FirstRound.{same-unchanged}
+use Rattle.ending_laws.specs.Rounds.{start-length}
+use Rattle.removal_laws.specs.Wider.{Wider}
+use Rattle.removal_laws.specs.Fewer.{Fewer, itself}
+use Rattle.removal_laws.specs.Rounds.{LowBoard, LowAtoms, round-low, WiderState, cutAtom-wider, round-wider}
+use Rattle.removal_laws.specs.Settled.{Settled, run-settles, start-low}
+use Rattle.removal_laws.specs.Starts.{carries-cut, run-carries, start-wider}
+use Rattle.removal_laws.specs.Said.{state-empty}
+use Rattle.turn_laws.specs.Equal.{parts-equal}
+use Rattle.turn_laws.specs.AfterTurns.{AfterTurns, after-low, after-wider, cut-wider, same-end, Idle, all-idle, Floor}
+use Rattle.turn_laws.specs.Some.{Some, none-there, not-there, there, some-fewer, some-append, last-not-there, nonVariable-some}
+
+-- ---- A cut that leaves all atoms leaves some of them, on a wider board.
+
+first-stays : {a b : Atom} {k m : List Atom} → a ∷ k ≡ b ∷ m → a ≡ b
+first-stays e = cc
+
+rest-stays : {a b : Atom} {k m : List Atom} → a ∷ k ≡ b ∷ m → k ≡ m
+rest-stays e = cc
+
+cutAtom-stays : {board wide : Board} → Wider board wide → LowBoard board → {others fewer : List Atom} → Fewer others fewer → LowAtoms others
+    → {a : Atom} → a .set < 8 → cutAtom board others a ≡ a → cutAtom wide fewer a ≡ a
+unfolding cutAtom
+cutAtom-stays {wide} w low {fewer} f h {a} k e =
+    let wider : PartOf (a .set) (cutAtom wide fewer a .set) =
+    subst (λ (c : Atom). PartOf (c .set) (cutAtom wide fewer a .set)) e (cutAtom-wider w low f h (itself a) .set) in
+    ap (λ (s : SignSet). record { polynomial = a .polynomial; set = s })
+    (parts-equal (cutAtom-below wide fewer a) k (cutAtom-part wide fewer a) wider)
+
+cutAtoms-stay : {board wide : Board} → Wider board wide → LowBoard board → {before fewer : List Atom} → Some before fewer → LowAtoms before
+    → {l m : List Atom} → Some l m → LowAtoms l → cutAtoms board before l ≡ l → cutAtoms wide fewer m ≡ m
+unfolding cutAtoms
+cutAtoms-stay w low f h none-there every-none e = refl
+cutAtoms-stay w low f h (not-there {a} g) (every k ks) e =
+    cutAtoms-stay w low (last-not-there a f) (every-append h (every k every-none)) g ks (rest-stays e)
+cutAtoms-stay w low f h (there g) (every k ks) e =
+    ap₂ (λ (a : Atom) (l : List Atom). a ∷ l) (cutAtom-stays w low (some-fewer (some-append f g)) (every-append h ks) k (first-stays e))
+    (cutAtoms-stay w low (some-append f (there none-there)) (every-append h (every k every-none)) g ks (rest-stays e))
+
+-- ---- The states of such rounds.
+
+-- st is settled, and su has a board that is wider than st's, and some of st's atoms with the sets that they have there.
+pub record Afresh (n : ℕ) (st su : State) : Type 0 where
+  pub still : Settled n st
+  pub boards : Wider (st .board) (su .board)
+  pub lists : Some (st .atoms) (su .atoms)
+
+abbrev afresh-wider : {n : ℕ} {st su : State} → Afresh n st su → WiderState st su
+afresh-wider t = record { boards = t .boards; lists = some-fewer (t .lists) }
+
+-- At the start.
+pub afresh-start : (n : ℕ) (l : List Atom) {st : State} → run n l ≡ settled st → {others : List Atom}
+    → Some (carried n (st .board) l (st .atoms)) others → Afresh n st (start n others)
+unfolding start
+afresh-start n l {st} e f =
+    let s = run-settles n l e in
+    let c = run-carries n l e in
+    record { still = s; boards = start-wider s c (some-fewer f) .boards; lists = rw (carries-cut n (st .board) c) at (nonVariable-some n f) }
+
+-- After turns.
+pub afresh-after : {n : ℕ} {st su : State} → Afresh n st su → {board : Board} → AfterTurns n (su .atoms) (su .board) board
+    → Afresh n st (record { board = board; atoms = su .atoms })
+afresh-after t a = record { still = t .still; boards = after-wider (t .still) (afresh-wider t) a .boards; lists = t .lists }
+
+module _ {n : ℕ} {st su : State} (t : Afresh n st su) where
+  -- No set is empty.
+  no-empty : hasEmpty su ≡ false
+  no-empty = never-true (hasEmpty su) (λ e. never-both (state-empty (afresh-wider t) (t .still .low) e) (t .still .filled))
+
+  -- A variable that has the settled set needs no turn.
+  settled-needless : (i : ℕ) → i < n → getD (su .board) i full ≡ getD (st .board) i full → Idle n (su .atoms) (su .board) i
+  unfolding turn
+  settled-needless i h e =
+      let s = getD (su .board) i full in
+      let low : s < 8 = rw e (every-getD i full (lit< tt) (t .still .low .board)) in
+      let same = parts-equal (cutBy-below (su .board) (variable n i) (su .atoms) s low) low (cutBy-part (su .board) (variable n i) (su .atoms) s)
+      (rw (← e) at (cut-wider (t .still) (afresh-wider t) i h)) in
+      ap (set (su .board) i) same ∙ set-getD (su .board) i full
+
+  -- A round in which each variable's turn is idle changes nothing: no atom's set is cut.
+  idle-round : ((i : ℕ) → i < n → Idle n (su .atoms) (su .board) i) → round n su ≡ su
+  unfolding round
+  idle-round h =
+      let boards = round-wider n (t .still .low) (afresh-wider t) .boards in
+      let turned = all-idle n (su .atoms) (su .board) 0 n (λ j b. h j (omega arith)) in
+      let cut = cutAtoms-stay boards (round-low n st (t .still .low .board) .board) none-there every-none (t .lists) (t .still .low .atoms)
+      (ap (λ (sv : State). sv .atoms) (t .still .still)) in
+      ap₂ (λ (b : Board) (l : List Atom). record { board = b; atoms = l }) turned cut
+
+-- The settled sets are a floor of the turns.
+pub floor-settled : {n : ℕ} {st su : State} → Afresh n st su → Floor n (su .atoms) (su .board) (st .board)
+floor-settled t = record { idle = λ a i h e. settled-needless (afresh-after t a) i h e }
+
+-- Rounds from a state where each variable's turn is idle end there.
+idle-ends : {n : ℕ} (k : ℕ) {st su : State} → Afresh n st su → ((i : ℕ) → i < n → Idle n (su .atoms) (su .board) i) → rounds n (suc k) su ≡ settled su
+unfolding rounds afterRound
+idle-ends {n} k {su} t h =
+    let still = idle-round t h in
+    rw (still, no-empty t, same-unchanged su su refl)
+
+-- So the run over some of the atoms that carry the sets of a settled state settles where turns, in any order, have come to a board
+-- on which each is idle.
+pub run-by-turns : (n : ℕ) (l : List Atom) {st : State} → run n l ≡ settled st → (others : List Atom)
+    → Some (carried n (st .board) l (st .atoms)) others → {board : Board} → AfterTurns n (start n others .atoms) (start n others .board) board
+    → ((i : ℕ) → i < n → Idle n (start n others .atoms) board i) → run n others ≡ settled (record { board = board; atoms = start n others .atoms })
+unfolding run enough
+run-by-turns n l e others f {board} a h =
+    let su : State = start n others in
+    let more = 2 * (length board + length (su .atoms)) in
+    let one : 2 * (length board + length (su .atoms)) + 1 ≡ suc more = omega arith in
+    sym (same-end (start-low n others) (start-length n others) a)
+    ∙ rw one (idle-ends more (afresh-after (afresh-start n l e f) a) h)

@@ -1,0 +1,167 @@
+-- Turns of variables in any order, each as often as one likes, lead to the end that the rounds lead to.
+-- 01, "Rounds": "for i from 1 to n"; what the rounds settle in does not depend on that order, only the number of rounds begun does.
+use mathlib.Core.Path.{_≡_, refl, sym, ap, _∙_, subst}
+use mathlib.Core.List.{List, [], _∷_}
+use Prim.Native.Nat.{ℕ, zero, suc, _+_, _<_, _≤_}
+use native.Mathlib.Decide.{decLt}
+use native.Mathlib.Omega.{arith}
+use lib.Dec.{lit<}
+use lib.ListN.{length, getD, set, length-set}
+use lib.Seq.{set-getD, getD-set-same, getD-set-other}
+use Rattle.rules.specs.Signs.{SignSet, empty, full}
+use Rattle.rules.specs.Polynomial.{Polynomial, Atom, Board, variable}
+use Rattle.rules.specs.Rounds.{cutBy, turn, turns, State, round, rounds, enough, Outcome, contradiction, settled}
+use Rattle.sign_laws.specs.Sets.{PartOf}
+use Rattle.ending_laws.specs.Cuts.{cutBy-part, cutBy-below}
+use Rattle.ending_laws.specs.Rounds.{Run, rounds-end}
+use Rattle.removal_laws.specs.Wider.{Wider}
+use Rattle.removal_laws.specs.Fewer.{part-empty, getD-wider, set-wide}
+use Rattle.removal_laws.specs.Rounds.{LowBoard, WiderState, turn-low, cutBy-wider}
+use Rattle.removal_laws.specs.Settled.{Settled, Settles, settles-from}
+use Rattle.removal_laws.specs.Said.{Widens, widens-run}
+use Rattle.turn_laws.specs.Equal.{states-equal, board-itself, wider-both, turn-narrow, Narrows, run-narrow}
+
+-- The boards that turns of the n variables over the atoms leave of a first board, in any order.
+pub data AfterTurns (n : ℕ) (atoms : List Atom) (first : Board) : Board → Type 0 where
+  no-turn : AfterTurns n atoms first first
+  one-more : {board : Board} (i : ℕ) → i < n → AfterTurns n atoms first board → AfterTurns n atoms first (turn n atoms board i)
+
+-- ---- What holds of each.
+
+module _ {n : ℕ} {atoms : List Atom} {first : Board} where
+  -- Its sets are below 8 if the first one's are.
+  pub after-low : LowBoard first → {board : Board} → AfterTurns n atoms first board → LowBoard board
+  after-low low no-turn = low
+  after-low low (one-more {board} i h t) = turn-low n atoms board i (after-low low t)
+
+  -- It has as many sets.
+  pub after-length : {board : Board} → AfterTurns n atoms first board → length board ≡ length first
+  unfolding turn
+  after-length no-turn = refl
+  after-length (one-more {board} i h t) = length-set board i _ ∙ after-length t
+
+  -- The first one is wider.
+  pub after-narrow : {board : Board} → AfterTurns n atoms first board → Wider board first
+  after-narrow no-turn = board-itself first
+  after-narrow (one-more i h t) = turn-narrow n atoms i (after-narrow t)
+
+-- Turns after turns.
+pub after-both : {n : ℕ} {atoms : List Atom} {first second third : Board} → AfterTurns n atoms first second → AfterTurns n atoms second third
+    → AfterTurns n atoms first third
+after-both t no-turn = t
+after-both t (one-more i h u) = one-more i h (after-both t u)
+
+-- ---- Turns that leave the board leave each variable's set.
+
+turns-before : (n : ℕ) (atoms : List Atom) (board : Board) (i k j : ℕ) → j < i → getD (turns n atoms board i k) j full ≡ getD board j full
+unfolding turns turn
+turns-before n atoms board i zero j h = refl
+turns-before n atoms board i (suc k) j h =
+    turns-before n atoms (turn n atoms board i) (suc i) k j (omega arith) ∙ getD-set-other board i j _ full (λ e. omega arith)
+
+first-idle : (n : ℕ) (atoms : List Atom) (board : Board) (i k : ℕ) → i < length board → turns n atoms board i (suc k) ≡ board
+    → cutBy board (variable n i) atoms (getD board i full) ≡ getD board i full
+unfolding turns turn
+first-idle n atoms board i k h e =
+    sym (getD-set-same board i _ full h) ∙ sym (turns-before n atoms (turn n atoms board i) (suc i) k i (omega arith))
+    ∙ ap (λ (b : Board). getD b i full) e
+
+turns-idle : (n : ℕ) (atoms : List Atom) (board : Board) (i k : ℕ) → i + k ≤ length board → turns n atoms board i k ≡ board
+    → (j : ℕ) → i ≤ j → j < i + k → cutBy board (variable n j) atoms (getD board j full) ≡ getD board j full
+unfolding turns turn
+turns-idle n atoms board i zero h e j g l = absurd (omega arith)
+turns-idle n atoms board i (suc k) h e j g l =
+    let first = first-idle n atoms board i k (omega arith) e in
+    let same : turn n atoms board i ≡ board = ap (set board i) first ∙ set-getD board i full in
+    by-place first (decLt i j) (λ b. turns-idle n atoms board (suc i) k (omega arith) (rw same at e) j b (omega arith))
+  where
+    by-place : cutBy board (variable n i) atoms (getD board i full) ≡ getD board i full → Dec (i < j)
+        → (i < j → cutBy board (variable n j) atoms (getD board j full) ≡ getD board j full)
+        → cutBy board (variable n j) atoms (getD board j full) ≡ getD board j full
+    by-place first (yes b) later = later b
+    by-place first (no b) later = let here : i ≡ j = omega arith in rw here at first
+
+settled-idle : {n : ℕ} {st : State} → Settled n st → (i : ℕ) → i < n
+    → cutBy (st .board) (variable n i) (st .atoms) (getD (st .board) i full) ≡ getD (st .board) i full
+unfolding round
+settled-idle {n} {st} s i h =
+    turns-idle n (st .atoms) (st .board) 0 n (omega (arith, s .many)) (ap (λ (sv : State). sv .board) (s .still)) i (omega arith) (omega arith)
+
+-- ---- Turns from a state that is wider than a settled one leave a state that is.
+
+-- What a turn cuts a wider state's set to is no narrower than the settled set.
+pub cut-wider : {n : ℕ} {st su : State} → Settled n st → WiderState st su → (i : ℕ) → i < n
+    → PartOf (getD (st .board) i full) (cutBy (su .board) (variable n i) (su .atoms) (getD (su .board) i full))
+cut-wider {n} s w i h =
+    rw (settled-idle s i h) at (cutBy-wider (w .boards) (s .low .board) (variable n i) (w .lists) (s .low .atoms) (getD-wider (w .boards) i))
+
+pub after-wider : {n : ℕ} {st : State} → Settled n st → {atoms : List Atom} {first : Board} → WiderState st (record { board = first; atoms = atoms })
+    → {board : Board} → AfterTurns n atoms first board → WiderState st (record { board = board; atoms = atoms })
+unfolding turn
+after-wider s w no-turn = w
+after-wider s w (one-more i h t) =
+    let v = after-wider s w t in record { boards = set-wide (v .boards) i (cut-wider s v i h); lists = v .lists }
+
+-- ---- The same end.
+
+-- What the rounds from a state come to.
+abbrev pub end : ℕ → State → Outcome
+end n st = rounds n (enough st) st
+
+-- Turns in any order change nothing about it.
+pub same-end : {n : ℕ} {atoms : List Atom} {first board : Board} → LowBoard first → length first ≡ n → AfterTurns n atoms first board
+    → end n (record { board = board; atoms = atoms }) ≡ end n (record { board = first; atoms = atoms })
+same-end {n} {atoms} {first} {board} low many t =
+    by-outcome _ _ (rounds-end n after) (rounds-end n before) (settles-from (rounds-end n after) (after-low low t) (after-length t ∙ many))
+    (settles-from (rounds-end n before) low many)
+  where
+    before : State
+    before = record { board = first; atoms = atoms }
+
+    after : State
+    after = record { board = board; atoms = atoms }
+
+    back : {st : State} → WiderState st after → WiderState st before
+    back w = record { boards = wider-both (w .boards) (after-narrow t); lists = w .lists }
+
+    by-outcome : (o q : Outcome) {j k : ℕ} → Run n after j o → Run n before k q → Settles n o → Settles n q → o ≡ q
+    by-outcome contradiction contradiction r s a b = refl
+    by-outcome contradiction (settled st) r s a b = absurd (widens-run b r (after-wider b (run-narrow s) t))
+    by-outcome (settled st) contradiction r s a b = absurd (widens-run a s (back (run-narrow r)))
+    by-outcome (settled st) (settled su) r s a b =
+        ap settled (states-equal (a .low) (b .low) (widens-run a s (back (run-narrow r))) (widens-run b r (after-wider b (run-narrow s) t)))
+
+-- ---- Turns that are needless.
+
+-- A turn that leaves the board as it is.
+abbrev pub Idle : ℕ → List Atom → Board → ℕ → Type 0
+Idle n atoms board i = turn n atoms board i ≡ board
+
+-- Where each variable's is idle, so are the turns of a round.
+pub all-idle : (n : ℕ) (atoms : List Atom) (board : Board) (i k : ℕ) → ((j : ℕ) → j < i + k → Idle n atoms board j) → turns n atoms board i k ≡ board
+unfolding turns
+all-idle n atoms board i zero h = refl
+all-idle n atoms board i (suc k) h =
+    ap (λ (b : Board). turns n atoms b (suc i) k) (h i (omega arith)) ∙ all-idle n atoms board (suc i) k (λ j b. h j (omega arith))
+
+-- Sets below which no turn goes: a variable that has its set of them needs no turn.
+pub record Floor (n : ℕ) (atoms : List Atom) (first floor : Board) : Type 0 where
+  pub idle : {board : Board} → AfterTurns n atoms first board → (i : ℕ) → i < n → getD board i full ≡ getD floor i full → Idle n atoms board i
+
+-- So they stay, turns later.
+pub floor-later : {n : ℕ} {atoms : List Atom} {first second floor : Board} → AfterTurns n atoms first second → Floor n atoms first floor
+    → Floor n atoms second floor
+floor-later a f = record { idle = λ t i h e. f .idle (after-both a t) i h e }
+
+-- Empty sets are such.
+pub floor-empty : {n : ℕ} {atoms : List Atom} {first floor : Board} → ((i : ℕ) → i < n → getD floor i full ≡ empty) → Floor n atoms first floor
+unfolding turn
+floor-empty {n} {atoms} none = record {
+  idle = λ {board} t i h e.
+      ap (set board i) (empty-stays board (variable n i) (getD board i full) (e ∙ none i h)) ∙ set-getD board i full;
+}
+  where
+    empty-stays : (board : Board) (p : Polynomial) (s : SignSet) → s ≡ empty → cutBy board p atoms s ≡ s
+    empty-stays board p s is =
+        let cut = cutBy board p atoms s in
+        part-empty (cutBy-below board p atoms s (rw is (lit< tt))) (subst (PartOf cut) is (cutBy-part board p atoms s)) ∙ sym is

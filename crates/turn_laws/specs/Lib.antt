@@ -1,0 +1,4 @@
+pub mod Equal
+pub mod AfterTurns
+pub mod Some
+pub mod Afresh
