@@ -21,8 +21,9 @@ use Rattle.turn_laws.specs.AfterTurns.{AfterTurns, no-turn, one-more, after-bot
 use Rattle.round.specs.Views.{tableOf}
 use Rattle.round.specs.Signing.{Ready}
 use Rattle.round.specs.Boards.{set-at}
+use Rattle.ahead.specs.declared.Order.{Order}
 use Rattle.ahead.specs.declared.Passed.{Passed}
-use Rattle.ahead.specs.Ahead.{placeOf, FloorAt, Stepped, Ahead}
+use Rattle.ahead.specs.Ahead.{placeOf, FloorAt, Stepped, After, Ahead}
 
 -- ---- the places
 
@@ -63,6 +64,9 @@ module _ (cs : List ℤ) (ms ts : List ℕ) {n m : ℕ} (same : n ≡ m) where
   pub floor-over : (a : Atoms) (b floor : Sets) → Floor n (atomsOf (tableOf cs ms ts n) a) b floor → Floor m (atomsOf (tableOf cs ms ts m) a) b floor
   floor-over a b floor = subst (λ (k : ℕ). Floor k (atomsOf (tableOf cs ms ts k) a) b floor) same
 
+  pub after-over : {a : Atoms} {b r : Board} {ss : List SignSet} → After (tableOf cs ms ts n) a b r ss → After (tableOf cs ms ts m) a b r ss
+  after-over {a} {b} {r} {ss} = subst (λ (k : ℕ). After (tableOf cs ms ts k) a b r ss) same
+
   pub ahead-over : {a : Atoms} {b : Board} {r : Passed} {ss : List SignSet} → Ahead (tableOf cs ms ts n) a b r ss → Ahead (tableOf cs ms ts m) a b r ss
   ahead-over {a} {b} {r} {ss} = subst (λ (k : ℕ). Ahead (tableOf cs ms ts k) a b r ss) same
 
@@ -76,16 +80,9 @@ module _ (t : Table) (a : Atoms) (first : Board) (up : Bool) where
     pub still : p .still ≡ true
         → (setsOf (p .board) ≡ setsOf first) × ((k : ℕ) → k < i → Idle (t .variables) (atomsOf t a) (setsOf first) (placeOf up (t .variables) k))
 
-  pub passing-first : {ss : List SignSet} → first .variables ≡ t .variables → Ready t (setsOf first) a ss
-      → Passing 0 (record { board = first; still = true }) ss
-  passing-first same ready = record { variables = same; after = no-turn; ready = ready; still = λ e. (refl, λ k h. absurd (omega arith)) }
-
-  -- what the floor says of the board at hand
-  pub floor-here : {i : ℕ} {p : Passed} {ss : List SignSet} (floor : Board) → Passing i p ss → t .variables ≤ 16 → floor .variables ≡ t .variables
-      → Floor (t .variables) (atomsOf t a) (setsOf first) (setsOf floor) → (j : ℕ) → j < t .variables → FloorAt t a (p .board) floor j
-  floor-here {p} floor passing few-of same below j h e =
-      below .idle (passing .after) j h
-      (set-at (p .board .sets) j _ (omega (arith, passing .variables)) ∙ e ∙ sym (set-at (floor .sets) j _ (omega (arith, same))))
+  pub passing-first : {ss : List SignSet} (order : Order) → first .variables ≡ t .variables → Ready t (setsOf first) a ss
+      → Passing 0 (record { board = first; still = true; order = order }) ss
+  passing-first order same ready = record { variables = same; after = no-turn; ready = ready; still = λ e. (refl, λ k h. absurd (omega arith)) }
 
   pub passing-next : {i : ℕ} {p r : Passed} {ss zs : List SignSet} → Passing i p ss → i < t .variables
       → Stepped t a p (placeOf up (t .variables) i) r zs → Passing (i + 1) r zs
@@ -108,6 +105,9 @@ module _ (t : Table) (a : Atoms) (first : Board) (up : Bool) where
       by-place k h here before (yes l) = before k l
       by-place k h here before (no l) = let e : i ≡ k = omega arith in rw e at here
 
+  pub passing-after : {i : ℕ} {p : Passed} {ss : List SignSet} → Passing i p ss → After t a first (p .board) ss
+  passing-after passing = record { variables = passing .variables; after = passing .after; ready = passing .ready }
+
   pub passing-last : {i : ℕ} {p : Passed} {ss : List SignSet} → Passing i p ss → t .variables ≤ i → Ahead t a first p ss
   passing-last {i} {p} passing all = record {
     variables = passing .variables;
@@ -120,19 +120,32 @@ module _ (t : Table) (a : Atoms) (first : Board) (up : Bool) where
         subst (λ (b : Sets). Idle n (atomsOf t a) b j) (sym same) (rw (place-back up n j h) at idle);
   }
 
--- ---- passes one after the other
+-- ---- turns after turns
 
--- what the passes so far have left, and a pass more that is not told to be still
-pub record Passes (t : Table) (a : Atoms) (first at : Board) (ss : List SignSet) : Type 0 where
-  pub variables : at .variables ≡ t .variables
-  pub after : AfterTurns (t .variables) (atomsOf t a) (setsOf first) (setsOf at)
-  pub ready : Ready t (setsOf at) a ss
+pub after-more : {t : Table} {a : Atoms} {first at r : Board} {ss zs : List SignSet} → After t a first at ss → After t a at r zs → After t a first r zs
+after-more before one = record { variables = one .variables; after = after-both (before .after) (one .after); ready = one .ready }
 
-pub passes-next : {t : Table} {a : Atoms} {first at : Board} {r : Passed} {ss zs : List SignSet} → Passes t a first at ss → Ahead t a at r zs
-    → Passes t a first (r .board) zs
-passes-next passes one = record { variables = one .variables; after = after-both (passes .after) (one .after); ready = one .ready }
+-- one turn more
+pub after-step : {t : Table} {a : Atoms} {first : Board} {p r : Passed} {ss zs : List SignSet} {i : ℕ} → After t a first (p .board) ss → i < t .variables
+    → Stepped t a p i r zs → After t a first (r .board) zs
+after-step {t} {a} {first} {i} before low one = record {
+  variables = one .variables;
+  after = subst (AfterTurns (t .variables) (atomsOf t a) (setsOf first)) (sym (one .sets)) (one-more i low (before .after));
+  ready = one .ready;
+}
 
-pub passes-last : {t : Table} {a : Atoms} {first at : Board} {r : Passed} {ss zs : List SignSet} → Passes t a first at ss → Ahead t a at r zs
+-- a pass more, and the last one
+pub after-pass : {t : Table} {a : Atoms} {first at : Board} {r : Passed} {ss zs : List SignSet} → After t a first at ss → Ahead t a at r zs
+    → After t a first (r .board) zs
+after-pass before one = record { variables = one .variables; after = after-both (before .after) (one .after); ready = one .ready }
+
+pub after-last : {t : Table} {a : Atoms} {first at : Board} {r : Passed} {ss zs : List SignSet} → After t a first at ss → Ahead t a at r zs
     → Ahead t a first r zs
-passes-last passes one =
-    record { variables = one .variables; after = after-both (passes .after) (one .after); ready = one .ready; idle = one .idle }
+after-last before one =
+    record { variables = one .variables; after = after-both (before .after) (one .after); ready = one .ready; idle = one .idle }
+
+-- what the floor says of the board at hand
+pub floor-after : {t : Table} {a : Atoms} {first at : Board} {ss : List SignSet} (floor : Board) → After t a first at ss → t .variables ≤ 16
+    → floor .variables ≡ t .variables → Floor (t .variables) (atomsOf t a) (setsOf first) (setsOf floor) → (j : ℕ) → j < t .variables → FloorAt t a at floor j
+floor-after {at} floor before few-of same below j h e =
+    below .idle (before .after) j h (set-at (at .sets) j _ (omega (arith, before .variables)) ∙ e ∙ sym (set-at (floor .sets) j _ (omega (arith, same))))

@@ -31,7 +31,13 @@ pub record Stepped (t : Table) (a : Atoms) (before : Passed) (i : ℕ) (r : Pass
   pub ready : Ready t (setsOf (r .board)) a ss
   pub still : r .still ≡ true → (before .still ≡ true) × Idle (t .variables) (atomsOf t a) (setsOf (before .board)) i
 
--- r is what turns leave of the board b, and the signs are those of its board
+-- r is what turns leave of the board b, and the signs are those of its sets
+pub record After (t : Table) (a : Atoms) (b r : Board) (ss : List SignSet) : Type 0 where
+  pub variables : r .variables ≡ t .variables
+  pub after : AfterTurns (t .variables) (atomsOf t a) (setsOf b) (setsOf r)
+  pub ready : Ready t (setsOf r) a ss
+
+-- the same, and where it is told that they left every set, each variable's turn is idle
 pub record Ahead (t : Table) (a : Atoms) (b : Board) (r : Passed) (ss : List SignSet) : Type 0 where
   pub variables : r .board .variables ≡ t .variables
   pub after : AfterTurns (t .variables) (atomsOf t a) (setsOf b) (setsOf (r .board))

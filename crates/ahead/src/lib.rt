@@ -2,21 +2,53 @@
 // What the rounds come to does not depend on the order of the turns (crate turn_laws). What x_1 learns of x_9 by way of the variables between them
 // takes a round for each in document 01's order, and here one pass.
 ghost use mathlib.Core.Path.{_≡_};
-ghost use Prim.Native.Nat.{_<_};
+ghost use Prim.Native.Nat.{_+_, _<_, _≤_};
 ghost use Rattle.terms.specs.View.{setsOf};
 ghost use Rattle.table.specs.Table.{atomsOf};
 ghost use Rattle.turn_laws.specs.AfterTurns.{Floor};
 ghost use Rattle.round.specs.Views.{lentTable};
 ghost use Rattle.round.specs.Signing.{Ready};
-ghost use Rattle.ahead.specs.Ahead.{placeOf, FloorAt, Stepped, Ahead};
+ghost use Rattle.ahead.specs.Ahead.{placeOf, FloorAt, Stepped, After, Ahead};
+use round::list::many;
 use round::round::turned;
 use table::Atoms;
 use terms::Board;
 
-// The board that turns have left, and whether they left every set as it was.
+// Variables in the order of their turns. It may be any: no promise goes by it, the cost alone.
+pub struct Order {
+    pub count: usize,
+    pub variable: [u8; 64],
+}
+
+// The board that turns have left, whether they left every set as it was, and the variables whose turns did not.
 pub struct Passed {
     pub board: Board,
     pub still: bool,
+    pub order: Order,
+}
+
+// No variable.
+pub fn no_order() -> Order
+    ensures { λ r. ⌜ r .count ≡ 0 ⌝ }
+{
+    Order {
+        count: 0,
+        variable: [0; 64],
+    }
+}
+
+// One variable more, as long as there is room.
+fn then(order: Order, i: usize) -> Order
+    ensures { λ r. ⌜ r .count ≤ order .count + 1 ⌝ }
+{
+    let count = order.count;
+    if 64 <= count {
+        return order;
+    }
+    let mut more = order;
+    more.variable[count] = (i % 16) as u8;
+    more.count = count + 1;
+    more
 }
 
 // Which of n variables has the turn after i others: up from the first one, or down from the last one.
@@ -47,6 +79,7 @@ fn step(
 {
     let board = passed.board;
     let still = passed.still;
+    let order = passed.order;
     let old = board.sets[i];
     let low = floor.sets[i];
     if old == low {
@@ -55,12 +88,18 @@ fn step(
     let next = turned(coefficient, monomial, terms, sign, board, atoms, i);
     let new = next.sets[i];
     if new != old {
+        let longer = then(order, i);
         return Passed {
             board: next,
             still: false,
+            order: longer,
         };
     }
-    Passed { board: next, still }
+    Passed {
+        board: next,
+        still,
+        order,
+    }
 }
 
 // The turns of all variables in one direction.
@@ -72,6 +111,7 @@ fn pass(
     board: Board,
     atoms: Atoms,
     floor: Board,
+    order: Order,
     up: bool,
 ) -> Passed
     requires { let t = lentTable coefficient monomial terms (board .variables) in
@@ -82,7 +122,11 @@ fn pass(
         ⌜ Ahead t atoms board r (now (sign .exit)) ⌝ }
 {
     let n = board.variables;
-    let mut passed = Passed { board, still: true };
+    let mut passed = Passed {
+        board,
+        still: true,
+        order,
+    };
     let mut i = 0;
     while i < n {
         let j = place(up, n, i);
@@ -92,7 +136,45 @@ fn pass(
     passed
 }
 
-// Passes in turn down and up until one changes nothing, or until as many are over as a board of so many variables can change its sets.
+// The turns of an order's variables.
+fn replay(
+    coefficient: &[i32],
+    monomial: &[u64],
+    terms: &[u8],
+    sign: &mut [u8],
+    board: Board,
+    atoms: Atoms,
+    floor: Board,
+    order: Order,
+) -> Passed
+    requires { let t = lentTable coefficient monomial terms (board .variables) in
+        ⌜ Ready t (setsOf board) atoms (now sign)
+        × ((floor .variables ≡ board .variables) × Floor (board .variables) (atomsOf t atoms) (setsOf board) (setsOf floor)) ⌝ }
+    ensures { λ r.
+        let t = lentTable (coefficient .entry) (monomial .entry) (terms .entry) (board .variables) in
+        ⌜ After t atoms board (r .board) (now (sign .exit)) ⌝ }
+{
+    let n = board.variables;
+    let end = many(order.count);
+    let nothing = no_order();
+    let mut passed = Passed {
+        board,
+        still: true,
+        order: nothing,
+    };
+    let mut i = 0;
+    while i < end {
+        let j = order.variable[i] as usize;
+        i += 1;
+        if j < n {
+            passed = step(coefficient, monomial, terms, sign, passed, atoms, floor, j);
+        }
+    }
+    passed
+}
+
+// The turns of an order first, then passes, two down, two up, and so on, until one changes nothing, or until as many are over as a board of so many
+// variables can change its sets.
 pub fn ahead(
     coefficient: &[i32],
     monomial: &[u64],
@@ -101,6 +183,7 @@ pub fn ahead(
     board: Board,
     atoms: Atoms,
     floor: Board,
+    order: Order,
 ) -> Passed
     requires { let t = lentTable coefficient monomial terms (board .variables) in
         ⌜ Ready t (setsOf board) atoms (now sign)
@@ -110,19 +193,40 @@ pub fn ahead(
         ⌜ Ahead t atoms board r (now (sign .exit)) ⌝ }
 {
     let mut left = 2 * board.variables + 1;
-    let mut up = false;
-    let mut at = board;
+    let mut passed = replay(
+        coefficient,
+        monomial,
+        terms,
+        sign,
+        board,
+        atoms,
+        floor,
+        order,
+    );
     while 0 < left {
         left -= 1;
-        let passed = pass(coefficient, monomial, terms, sign, at, atoms, floor, up);
+        let at = passed.board;
+        let so_far = passed.order;
+        passed = pass(
+            coefficient,
+            monomial,
+            terms,
+            sign,
+            at,
+            atoms,
+            floor,
+            so_far,
+            left / 2 % 2 == 1,
+        );
         if passed.still {
             return passed;
         }
-        at = passed.board;
-        up = !up;
     }
+    let at = passed.board;
+    let so_far = passed.order;
     Passed {
         board: at,
         still: false,
+        order: so_far,
     }
 }

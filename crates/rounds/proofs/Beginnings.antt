@@ -45,7 +45,7 @@ module _ (cs : List ℤ) (ms ts : List ℕ) {n m : ℕ} (same : m ≡ n) (first 
 pub narrowed-start : (cs : List ℤ) (ms ts : List ℕ) {n m : ℕ} → m ≡ n → {first : State} (list : Atoms)
     → stateOf (tableOf cs ms ts n) first ≡ start n (atomsOf (tableOf cs ms ts n) list) → {r : Passed} {ss : List SignSet}
     → Ahead (tableOf cs ms ts m) (first .atoms) (first .board) r ss
-    → NarrowedStart (tableOf cs ms ts n) list (record { still = r .still; state = record { board = r .board; atoms = first .atoms } })
+    → NarrowedStart (tableOf cs ms ts n) list (record { still = r .still; state = record { board = r .board; atoms = first .atoms }; order = r .order })
 narrowed-start cs ms ts {n} same {first} list is-start {r} {ss} passed =
     let a = subst (λ (k : ℕ). Ahead (tableOf cs ms ts k) (first .atoms) (first .board) r ss) same passed in
     record {

@@ -23,6 +23,8 @@ use crate::narrow::narrowed;
 use crate::settle::rounds;
 use crate::start::start;
 use crate::staying::stays;
+use ahead::Order;
+use ahead::no_order;
 use round::State;
 use round::list::joined;
 use round::list::listed;
@@ -91,7 +93,15 @@ pub fn run(
         variables,
         sets: [0; 16],
     };
-    let begin = narrowed(coefficient, monomial, terms, variables, list, nothing);
+    let begin = narrowed(
+        coefficient,
+        monomial,
+        terms,
+        variables,
+        list,
+        nothing,
+        no_order(),
+    );
     let state = begin.state;
     let end = rounds(coefficient, monomial, terms, state);
     let left = end.state;
@@ -244,6 +254,12 @@ pub struct Remaining {
     pub keep: [bool; 64],
 }
 
+// Whether an atom is implied or goes, and the order of turns that is worth trying for the next one.
+struct Told {
+    yes: bool,
+    order: Order,
+}
+
 // Whether what the other atoms say of the polynomial in slot number, after rounds of their own, lies inside the set.
 fn implied(
     coefficient: &[i32],
@@ -252,18 +268,32 @@ fn implied(
     variables: usize,
     others: Atoms,
     settled: State,
+    order: Order,
     number: usize,
     set: SignSet,
-) -> bool
+) -> Told
     requires { let t = lentTable coefficient monomial terms variables in
         ⌜ Forms t × ((number < 64) × AfreshFrom t settled (atomsOf t others)) ⌝ }
     ensures { λ r.
         let t = lentTable (coefficient .entry) (monomial .entry) (terms .entry) variables in
-        ⌜ r ≡ impliedOf variables (atomsOf t others) (record { polynomial = formAt t number; set = set .0 }) ⌝ }
+        ⌜ r .yes ≡ impliedOf variables (atomsOf t others) (record { polynomial = formAt t number; set = set .0 }) ⌝ }
 {
-    let ran = afresh(coefficient, monomial, terms, variables, others, settled);
+    let fresh = afresh(
+        coefficient,
+        monomial,
+        terms,
+        variables,
+        others,
+        settled,
+        order,
+    );
+    let turns = fresh.order;
+    let ran = fresh.ran;
     if ran.contradiction {
-        return SignSet::EMPTY.inside(set);
+        return Told {
+            yes: SignSet::EMPTY.inside(set),
+            order: turns,
+        };
     }
     let state = ran.state;
     let board = state.board;
@@ -271,7 +301,7 @@ fn implied(
     let mut sign = [0u8; 1280];
     sign_list(board, monomial, terms, atoms, &mut sign);
     sign_slot(board, monomial, terms, &mut sign, number);
-    says_at(
+    let said = says_at(
         coefficient,
         monomial,
         terms,
@@ -279,7 +309,11 @@ fn implied(
         variables,
         state,
         number,
-    ).inside(set)
+    );
+    Told {
+        yes: said.inside(set),
+        order: turns,
+    }
 }
 
 // Whether the atom is removed: the rounds over the others are run only if the settled state leaves it open.
@@ -291,9 +325,10 @@ fn goes(
     variables: usize,
     state: State,
     others: Atoms,
+    order: Order,
     number: usize,
     set: SignSet,
-) -> bool
+) -> Told
     requires { let t = lentTable coefficient monomial terms variables in
         ⌜ Ready t (setsOf (state .board)) (state .atoms) (now sign) × ((state .board .variables ≡ variables) × (number < 64)) ⌝ }
     requires { let t = lentTable coefficient monomial terms variables in
@@ -301,7 +336,7 @@ fn goes(
     ensures { λ r.
         let t = lentTable (coefficient .entry) (monomial .entry) (terms .entry) variables in
         let a : Atom = record { polynomial = formAt t number; set = set .0 } in
-        ⌜ r ≡ not (staysBy variables (stateOf t state) a) && impliedOf variables (atomsOf t others) a ⌝ }
+        ⌜ r .yes ≡ not (staysBy variables (stateOf t state) a) && impliedOf variables (atomsOf t others) a ⌝ }
 {
     if stays(
         coefficient,
@@ -313,7 +348,7 @@ fn goes(
         number,
         set,
     ) {
-        return false;
+        return Told { yes: false, order };
     }
     implied(
         coefficient,
@@ -322,6 +357,7 @@ fn goes(
         variables,
         others,
         state,
+        order,
         number,
         set,
     )
@@ -372,6 +408,7 @@ fn remove(
         },
         keep: [false; 64],
     };
+    let mut order = no_order();
     let mut i = 0;
     while i < end {
         let number = list.number[i];
@@ -379,7 +416,7 @@ fn remove(
         let k = (number % 64) as usize;
         let atoms = kept.atoms;
         let others = joined(atoms, list, i + 1);
-        let out = goes(
+        let told = goes(
             coefficient,
             monomial,
             terms,
@@ -387,9 +424,12 @@ fn remove(
             variables,
             state,
             others,
+            order,
             k,
             SignSet(set),
         );
+        let out = told.yes;
+        order = told.order;
         kept = kept_unless(out, kept, list, i);
         i += 1;
     }

@@ -11,19 +11,27 @@ ghost use Rattle.rounds.specs.Staying.{AfreshFrom};
 use crate::Ran;
 use crate::settle::rounds;
 use crate::start::start;
+use ahead::Order;
 use ahead::ahead;
 use round::State;
 use round::slots::sign_list;
 use table::Atoms;
 use terms::Board;
 
-// The narrowed start, and whether no variable's turn would narrow it further.
+// The narrowed start, whether no variable's turn would narrow it further, and the variables whose turns narrowed it.
 pub struct Beginning {
     pub still: bool,
     pub state: State,
+    pub order: Order,
 }
 
-// The start of a list, narrowed. No turn goes below the sets of the floor.
+// What fresh rounds come to, and the variables whose turns narrowed their start.
+pub struct Fresh {
+    pub ran: Ran,
+    pub order: Order,
+}
+
+// The start of a list, narrowed. No turn goes below the sets of the floor; those of the order come first.
 pub fn narrowed(
     coefficient: &[i32],
     monomial: &[u64],
@@ -31,6 +39,7 @@ pub fn narrowed(
     variables: usize,
     list: Atoms,
     floor: Board,
+    order: Order,
 ) -> Beginning
     requires { let t = lentTable coefficient monomial terms variables in
         let st = startOf variables (atomsOf t list) in
@@ -42,11 +51,22 @@ pub fn narrowed(
     let atoms = first.atoms;
     let mut sign = [0u8; 1280];
     sign_list(board, monomial, terms, atoms, &mut sign);
-    let passed = ahead(coefficient, monomial, terms, &mut sign, board, atoms, floor);
+    let passed = ahead(
+        coefficient,
+        monomial,
+        terms,
+        &mut sign,
+        board,
+        atoms,
+        floor,
+        order,
+    );
     let left = passed.board;
+    let turns = passed.order;
     Beginning {
         still: passed.still,
         state: State { board: left, atoms },
+        order: turns,
     }
 }
 
@@ -58,24 +78,36 @@ pub fn afresh(
     variables: usize,
     others: Atoms,
     settled: State,
-) -> Ran
+    order: Order,
+) -> Fresh
     requires { let t = lentTable coefficient monomial terms variables in
         ⌜ Forms t × AfreshFrom t settled (atomsOf t others) ⌝ }
-    ensures { λ r. ⌜ RunOf (lentTable (coefficient .entry) (monomial .entry) (terms .entry) variables) others r ⌝ }
+    ensures { λ r. ⌜ RunOf (lentTable (coefficient .entry) (monomial .entry) (terms .entry) variables) others (r .ran) ⌝ }
 {
     let floor = settled.board;
-    let begin = narrowed(coefficient, monomial, terms, variables, others, floor);
+    let begin = narrowed(
+        coefficient,
+        monomial,
+        terms,
+        variables,
+        others,
+        floor,
+        order,
+    );
     let state = begin.state;
+    let turns = begin.order;
     if begin.still {
-        return Ran {
+        let ran = Ran {
             contradiction: false,
             state,
         };
+        return Fresh { ran, order: turns };
     }
     let end = rounds(coefficient, monomial, terms, state);
     let left = end.state;
-    Ran {
+    let ran = Ran {
         contradiction: end.contradiction,
         state: left,
-    }
+    };
+    Fresh { ran, order: turns }
 }

@@ -1,2 +1,3 @@
-pub mod Monomials
+pub mod Coefficients
+pub mod Building
 pub mod Places

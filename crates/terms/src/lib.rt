@@ -4,10 +4,13 @@ ghost use mathlib.Core.Path.{_≡_};
 ghost use Prim.Native.Nat.{_≤_};
 ghost use lib.ListN.{length};
 ghost use Rattle.rules.specs.Signs.{only, signOf};
-ghost use Rattle.rules.specs.Polynomial.{multiplied as multipliedBy, monomialSign};
+ghost use Rattle.rules.specs.Polynomial.{monomialSign};
 ghost use Rattle.terms.specs.View.{few as fewOf, setsOf};
 ghost use Rattle.terms.specs.Signed.{signed, bySigns};
+use crate::masks::masks_of;
 use signs::SignSet;
+
+mod masks; // the sign of a monomial from four masks of the board
 
 // The sign sets of the variables, in order; a count above sixteen counts as sixteen.
 pub struct Board {
@@ -22,44 +25,22 @@ pub fn few(n: usize) -> usize
     if n < 16 { n } else { 16 }
 }
 
-// The product so far, multiplied by a variable's set if its exponent is odd, by the square of the set if even.
-// Exponent 0 is even and multiplies nothing: the monomial 1 stays positive.
-fn multiplied(exponent: u64, set: SignSet, sofar: SignSet) -> SignSet
-    ensures { λ r. ⌜ r .0 ≡ multipliedBy exponent (set .0) (sofar .0) ⌝ }
-{
-    if exponent == 0 {
-        return sofar;
-    }
-    if exponent % 2 == 1 {
-        return sofar.product(set);
-    }
-    sofar.product(set.square())
-}
-
-// "Sign of a monomial: start from {positive}." The first variable's exponent is foremost.
+// "Sign of a monomial."
 pub fn monomial_sign(b: Board, m: u64) -> SignSet
     ensures { λ r. ⌜ r .0 ≡ monomialSign (setsOf b) m ⌝ }
 {
-    let n = few(b.variables);
-    let mut sofar = SignSet(1);
-    let mut i = 0;
-    while i < n {
-        let set = b.sets[i];
-        i += 1;
-        let exponent = (m >> (4 * (n - i))) % 16;
-        sofar = multiplied(exponent, SignSet(set), sofar);
-    }
-    sofar
+    masks_of(b).sign(m)
 }
 
-// Works out the signs at the places from..to, once for a board.
+// Works out the signs at the places from..to, once for a board: its masks are made once, and serve every place.
 pub fn sign_terms(b: Board, monomial: &[u64], sign: &mut [u8], from: usize, to: usize)
     requires { ⌜ (to ≤ length (now monomial)) × (to ≤ length (now sign)) ⌝ }
     ensures { λ r. ⌜ now (sign .exit) ≡ signed (setsOf b) (now (monomial .entry)) (now (sign .entry)) from to ⌝ }
 {
+    let masks = masks_of(b);
     let mut i = from;
     while i < to {
-        let s = monomial_sign(b, monomial[i]);
+        let s = masks.sign(monomial[i]);
         sign[i] = s.0;
         i += 1;
     }

@@ -11,7 +11,7 @@ use Rattle.round.specs.Views.{tableOf, lentTable}
 use Rattle.round.specs.Boards.{set-at}
 use Rattle.round.specs.Over.{ready-over}
 use Rattle.ahead.specs.Ahead.{placeOf, FloorAt}
-use Rattle.ahead.proofs.Passing.{place-below, stepped-over, floor-at-over, Passing, floor-here, passing-first, passing-next, passing-last}
+use Rattle.ahead.proofs.Passing.{place-below, stepped-over, floor-at-over, floor-after, Passing, passing-after, passing-first, passing-next, passing-last}
 use Rattle.ahead.proofs.pass.Statement.{statement}
 use Rattle.ahead.proofs.pass.Tie as tie
 
@@ -24,7 +24,7 @@ abbrev μ-loop : tie.MeasureT-loop
 μ-loop coefficient monomial terms sign₀ atoms floor up n passed₀ i₀ sign passed i = n - i
 
 loop-holds : tie.Need-loop-holds Inv-loop μ-loop
-loop-holds c = (refl, (omega arith, passing-first _ _ _ _ refl (c .before .before .before .pre .0)))
+loop-holds c = (refl, (omega arith, passing-first _ _ _ _ _ refl (c .before .before .before .pre .0)))
 
 place-requires : tie.Need-place-requires Inv-loop μ-loop
 place-requires c κs = omega arith
@@ -42,7 +42,7 @@ step-requires c κs =
       rw is (
         omega (arith, low, passing .variables),
         floor-at-over _ _ _ (sym (passing .variables)) (s .args .atoms) (l .passed .board) (s .args .floor) _
-            (floor-here _ _ _ _ (s .args .floor) passing (ready .forms .variables) same below _ low),
+            (floor-after (s .args .floor) (passing-after _ _ _ _ passing) (ready .forms .variables) same below _ low),
       ),
     )
 

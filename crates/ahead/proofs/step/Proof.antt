@@ -13,18 +13,18 @@ use Rattle.ahead.proofs.step.Tie as tie
 
 returns : tie.Need-returns
 returns c =
-    let s = c .before .before .before .before .before .before .before in
+    let s = c .before .before .before .before .before .before .before .before in
     let idle = s .pre .1 .1 (c .if1 .taken) in
     record { variables = refl; sets = sym idle; ready = s .pre .0; still = λ e. (e, idle) }
 
 returns-2 : tie.Need-returns-2
 returns-2 c =
-    let r = c .before .before .before .before .turned .ensures in
+    let r = c .before .before .before .before .before .turned .ensures in
     record { variables = r .variables; sets = r .sets; ready = r .ready; still = λ e. absurd (false≢true e) }
 
 returns-3 : tie.Need-returns-3
 returns-3 c =
-    let s = c .before .before .before .before .before .before .before .before .before .before .before .before .before in
+    let s = c .before .before .before .before .before .before .before .before .before .before .before .before .before .before in
     let r = c .before .before .before .before .turned in
     let b = s .args .passed .board in
     let low : s .args .i < few (b .variables) = omega (arith, s .pre .0 .forms .variables) in
@@ -36,5 +36,5 @@ returns-3 c =
 pub step-spec : {M : Type 1} → statement M
 step-spec =
     tie.close
-    (tie.spec (λ c. search needs) (λ c. search needs) returns (λ c κs. search needs) (λ c. search needs) (λ c. search needs) returns-2 (λ c. search needs)
-    returns-3)
+    (tie.spec (λ c. search needs) (λ c. search needs) returns (λ c κs. search needs) (λ c. search needs) (λ c κs. search needs) (λ c. search needs) returns-2
+    (λ c. search needs) returns-3)

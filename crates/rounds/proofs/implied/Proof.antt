@@ -18,10 +18,10 @@ table s = lentTable (s .args .coefficient) (s .args .monomial) (s .args .terms) 
 
 says-at-requires : tie.Need-says-at-requires
 says-at-requires c κs =
-    let s = c .before .before .before .before .before .before .before .before .before .before .before .before .before .before in
+    let s = c .before .before .before .before .before .before .before .before .before .before .before .before .before .before .before .before in
     let (forms, (low, from)) = s .pre in
-    let r = c .before .before .before .before .before .before .before .before .before .before .before .afresh in
-    let st = r .result .state in
+    let r = c .before .before .before .before .before .before .before .before .before .before .before .before .before .afresh in
+    let st = r .result .ran .state in
     let listed = list-ready {t = table s} (st .board) (st .atoms) _ forms (r .ensures .variables) (length-replicate {A = ℕ} 1280 0) in
     rw (c .before .before .sign-slot .ensures, c .before .before .before .before .before .sign-list .ensures) (
       (slot-ready (s .args .number) (omega arith) listed, (r .ensures .variables, low)),
@@ -30,17 +30,17 @@ says-at-requires c κs =
 
 returns : tie.Need-returns
 returns c =
-    let s = c .before .before .before .before .before in
-    let r = c .before .before .afresh in
-    c .inside .ensures ∙ implied-by-contradiction (table s) _ _ (r .result) (r .ensures .outcome) (c .before .if1 .taken)
+    let s = c .before .before .before .before .before .before .before in
+    let r = c .before .before .before .before .afresh in
+    c .inside .ensures ∙ implied-by-contradiction (table s) _ _ (r .result .ran) (r .ensures .outcome) (c .before .if1 .taken)
 
 returns-2 : tie.Need-returns-2
 returns-2 c =
-    let s = c .before .before .before .before .before .before .before .before .before .before .before .before .before .before .before .before in
-    let r = c .before .before .before .before .before .before .before .before .before .before .before .before .before .afresh in
+    let s = c .before .before .before .before .before .before .before .before .before .before .before .before .before .before .before .before .before .before in
+    let r = c .before .before .before .before .before .before .before .before .before .before .before .before .before .before .before .afresh in
     let settled = c .before .before .before .before .before .before .before .before .before .before .before .before .if1 .left in
     c .inside2 .ensures ∙ ap (λ (x : SignSet). insideOf x (s .args .set .0)) (c .before .says-at .ensures)
-    ∙ implied-by-state (table s) _ _ (r .result) (r .ensures .outcome) settled
+    ∙ implied-by-state (table s) _ _ (r .result .ran) (r .ensures .outcome) settled
 
 pub implied-spec : {M : Type 1} → statement M
 implied-spec =

@@ -18,20 +18,20 @@ use Rattle.rounds.proofs.remove.Statement.{statement}
 use Rattle.rounds.proofs.remove.Tie as tie
 
 abbrev Inv-loop : tie.InvT-loop
-Inv-loop coefficient monomial terms sign variables state list end kept₀ i₀ kept i =
+Inv-loop coefficient monomial terms sign variables state list end kept₀ order₀ i₀ kept order i =
     let t = tableOf coefficient monomial terms variables in
     (i ≤ end) × ((end ≡ many (list .count))
     × (Removing t (stateOf t state) list i kept × Some (atomsOf t list) (atomsOf t (kept .atoms) ++ rest t list i)))
 
 abbrev μ-loop : tie.MeasureT-loop
-μ-loop coefficient monomial terms sign variables state list end kept₀ i₀ kept i = end - i
+μ-loop coefficient monomial terms sign variables state list end kept₀ order₀ i₀ kept order i = end - i
 
 abbrev table : tie.Start Inv-loop μ-loop → Table
 table s = lentTable (s .args .coefficient) (s .args .monomial) (s .args .terms) (s .args .variables)
 
 goes-requires : tie.Need-goes-requires Inv-loop μ-loop
 goes-requires c κs =
-    let s = c .before .before .before .before .before .before .before .before .before .before in
+    let s = c .before .before .before .before .before .before .before .before .before .before .before in
     let (ready, from) = s .pre .0 in
     let l = c .before .before .before .before .before .loop in
     let afresh = afresh-others (s .args .t6) (atomsOf (table s) (l .kept .atoms)) from (omega (arith, l .inv .1 .0)) (l .inv .1 .1 .1) (c .joined .ensures (table s)) in
@@ -39,14 +39,14 @@ goes-requires c κs =
 
 loop-again : tie.Need-loop-again Inv-loop μ-loop
 loop-again c =
-    let s = c .before .before .before .before .before .before .before .before .before .before .before .before in
+    let s = c .before .before .before .before .before .before .before .before .before .before .before .before .before .before in
     let a = s .args .t6 in
-    let l = c .before .before .before .before .before .before .before .loop in
+    let l = c .before .before .before .before .before .before .before .before .loop in
     let atom : Atom = atomAt (table s) (a .number) (a .set) (l .i) in
     let stays : Bool = staysBy (s .args .variables) (stateOf (table s) (s .args .state)) atom in
-    let out = c .before .goes .ensures
+    let out = c .before .before .goes .ensures
     ∙ ap (λ (others : List Atom). not stays && impliedBy (s .args .variables) others atom)
-    (c .before .before .joined .ensures (table s)) in (
+    (c .before .before .before .joined .ensures (table s)) in (
       omega arith,
       (
         l .inv .1 .0,
@@ -60,9 +60,9 @@ loop-again c =
 pub remove-spec : {M : Type 1} → statement M
 remove-spec =
     tie.close
-    (tie.spec Inv-loop μ-loop (λ c κs. search needs)
-    (λ c. (omega arith, (c .many .ensures, (removing-first _ _ _ _ _ _ (length-replicate {A = Bool} 64 false), some-first _ _ _ _))))
+    (tie.spec Inv-loop μ-loop (λ c κs. search needs) (λ c κs. search needs)
+    (λ c. (omega arith, (c .before .many .ensures, (removing-first _ _ _ _ _ _ (length-replicate {A = Bool} 64 false), some-first _ _ _ _))))
     (λ c. omega arith) (λ c. omega arith) (λ c. omega arith) (λ c. omega arith)
     (λ c κs. omega (arith, c .before .before .before .before .loop .inv .1 .1 .0 .count)) goes-requires
-    (λ c κs. (omega arith, omega (arith, c .before .before .before .before .before .before .loop .inv .1 .1 .0 .count)))
+    (λ c κs. (omega arith, omega (arith, c .before .before .before .before .before .before .before .loop .inv .1 .1 .0 .count)))
     (λ c. omega arith) (λ c. omega arith) loop-again (λ c. removing-last (c .before .loop .inv .1 .1 .0) (omega arith)))

@@ -1,4 +1,5 @@
 -- `run` meets its contract: the rounds from the narrowed start.
+use borrow.Author.Needs.{needs}
 use mathlib.Core.Path.{refl, sym}
 use Rattle.round.specs.Over.{forms-over}
 use Rattle.rounds.proofs.Ends.{ended-over}
@@ -8,11 +9,11 @@ use Rattle.rounds.proofs.run.Tie as tie
 
 narrowed-requires : tie.Need-narrowed-requires
 narrowed-requires c κs =
-    let s = c .before .before in
+    let s = c .before .before .before in
     (s .pre, (refl, nothing-below (s .args .variables) (s .pre .variables) _ _))
 
 rounds-requires : tie.Need-rounds-requires
-rounds-requires c κs = forms-over _ _ _ (sym (c .before .narrowed .ensures .variables)) (c .before .before .before .before .pre)
+rounds-requires c κs = forms-over _ _ _ (sym (c .before .narrowed .ensures .variables)) (c .before .before .before .before .before .pre)
 
 returns : tie.Need-returns
 returns c =
@@ -20,4 +21,4 @@ returns c =
     run-narrowed begin (ended-over _ _ _ (begin .variables) (c .before .rounds .ensures))
 
 pub run-spec : {M : Type 1} → statement M
-run-spec = tie.close (tie.spec narrowed-requires rounds-requires returns)
+run-spec = tie.close (tie.spec (λ c κs. search needs) narrowed-requires rounds-requires returns)

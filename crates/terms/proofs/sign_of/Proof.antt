@@ -1,7 +1,7 @@
 -- `sign_of` meets its contract, by the two tests.
 use mir.Syntax.{w32}
 use mir.ValLaws.{toZ-ofZ}
-use Rattle.terms.proofs.Monomials.{sign-negative, sign-positive, sign-nought}
+use Rattle.terms.proofs.Coefficients.{sign-negative, sign-positive, sign-nought}
 use Rattle.terms.proofs.sign_of.Statement.{statement}
 use Rattle.terms.proofs.sign_of.Tie as tie
 

@@ -12,14 +12,14 @@ narrowed-requires c κs =
     (forms, (from .variables, settled-below from))
 
 returns : tie.Need-returns
-returns c = run-still (c .before .before .before .before .before .before .pre .1) (c .before .before .narrowed .ensures) (c .if1 .taken)
+returns c = run-still (c .before .before .before .before .before .before .before .pre .1) (c .before .before .before .narrowed .ensures) (c .if1 .taken)
 
 rounds-requires : tie.Need-rounds-requires
-rounds-requires c κs = forms-over _ _ _ (sym (c .before .before .narrowed .ensures .variables)) (c .before .before .before .before .before .before .pre .0)
+rounds-requires c κs = forms-over _ _ _ (sym (c .before .before .before .narrowed .ensures .variables)) (c .before .before .before .before .before .before .before .pre .0)
 
 returns-2 : tie.Need-returns-2
 returns-2 c =
-    let begin = c .before .before .before .before .narrowed .ensures in
+    let begin = c .before .before .before .before .before .narrowed .ensures in
     run-narrowed begin (ended-over _ _ _ (begin .variables) (c .before .rounds .ensures))
 
 pub afresh-spec : {M : Type 1} → statement M

@@ -22,9 +22,9 @@ ahead-requires c κs =
 
 returns : tie.Need-returns
 returns c =
-    let s = c .before .before .before .before .before .before .before .before .before .before .before .before in
-    let (same, is-start) = c .before .before .before .before .before .before .before .before .before .start .ensures in
-    narrowed-start _ _ _ same {first = c .before .before .before .before .before .before .before .before .before .start .result} (s .args .list) is-start (c .before .before .ahead .ensures)
+    let s = c .before .before .before .before .before .before .before .before .before .before .before .before .before in
+    let (same, is-start) = c .before .before .before .before .before .before .before .before .before .before .start .ensures in
+    narrowed-start _ _ _ same {first = c .before .before .before .before .before .before .before .before .before .before .start .result} (s .args .list) is-start (c .before .before .before .ahead .ensures)
 
 pub narrowed-spec : {M : Type 1} → statement M
 narrowed-spec =
