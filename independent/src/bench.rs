@@ -19,7 +19,8 @@ pub fn block(name: &str) -> Option<Vec<u8>> {
         "linear" => linear(),
         "mixed" => mixed(),
         "deep" => deep(),
-        "back" => back(),
+        "back" => back(down()),
+        "zigzag" => back(zigzag()),
         "removed" => removed(),
         "worst" => worst(),
         "slowest" => candidate(SLOWEST),
@@ -128,20 +129,20 @@ fn deep_node(
 /// most deductions find only at the last monomials that there is no t.
 ///
 /// The links x_i - x_(i+1) - .. carry what is known of x_16 down to x_2, one variable in each round, since x_i has its turn before x_(i+1):
-/// first that it is at or above 0, then that it is above. x_16 - .. starts the first, 2 x_16 - x_2 - 1 - .. the second. With two such
-/// chains the rounds are as many when one atom is left out. The dots are even powers with x_1 in each: they come before all that decides.
+/// first that it is at or above 0, then that it is above. x_16 - .. starts the first, 2 x_16 - x_2 - 1 - .. the second. The order may be another
+/// one than down from x_16. With two such chains the rounds are as many when one atom is left out. The dots are even powers with x_1 in each: they come before all that decides.
 /// The list holds where x_1 is 0 and the others 1. The other polynomials are 1 - .. , which no atom implies, or .. , which the rounds do.
-fn slow_polynomials(chains: usize, implied: bool) -> Vec<Polynomial> {
+fn slow_polynomials(order: &[usize], chains: usize, implied: bool) -> Vec<Polynomial> {
     let mut random = Random::new(5);
     let powers = even_powers(&mut random);
     let constant = vec![0; VARIABLES];
-    let last = VARIABLES - 1;
+    let (end, start) = (order[0], order[order.len() - 1]);
     let mut starts = vec![];
     for _ in 0..chains {
-        starts.push(vec![(1, variable(last))]);
-        starts.push(vec![(2, variable(last)), (-1, variable(1)), (-1, constant.clone())]);
-        for i in 1..last {
-            starts.push(vec![(1, variable(i)), (-1, variable(i + 1))]);
+        starts.push(vec![(1, variable(start))]);
+        starts.push(vec![(2, variable(start)), (-1, variable(end)), (-1, constant.clone())]);
+        for link in order.windows(2) {
+            starts.push(vec![(1, variable(link[0])), (-1, variable(link[1]))]);
         }
     }
     let mut table: Vec<Polynomial> =
@@ -154,6 +155,16 @@ fn slow_polynomials(chains: usize, implied: bool) -> Vec<Polynomial> {
         });
     }
     table
+}
+
+/// The variables of a chain but x_1, each before the one that it learns from: x_2, x_3, .. x_16.
+fn down() -> Vec<usize> {
+    (1..VARIABLES).collect()
+}
+
+/// The same with every other one from the end: x_2, x_16, x_3, x_15, .. x_9. Turns in the order of the variables, up or down, then go on by few links.
+fn zigzag() -> Vec<usize> {
+    (1..VARIABLES).map(|k| if k % 2 == 1 { k / 2 + 1 } else { VARIABLES - k / 2 }).collect()
 }
 
 /// Even powers with x_1 in each, so many that two polynomials share some of theirs: the slowest to go through.
@@ -203,14 +214,14 @@ fn list(size: &str) -> Option<Formula> {
 /// so that it is spliced into the ORs at 4 and at 2 and goes through its 65 runs three times.
 fn worst() -> Formula {
     let children = [64, 64, 64, 42].map(|atoms| spliced(0..atoms, 0..0, 0..0));
-    Formula { variables: VARIABLES, table: slow_polynomials(2, false), tree: Node::And(children.into()) }
+    Formula { variables: VARIABLES, table: slow_polynomials(&down(), 2, false), tree: Node::And(children.into()) }
 }
 
 /// Lists of which step 5 removes all but the 16 links, one after the other, each by a run of 30 rounds. The ORs at nesting 4 and 2 have those that
 /// are removed again, beside the links that are spliced.
 fn removed() -> Formula {
     let children = vec![spliced(0..64, 16..64, 16..64), spliced(0..64, 16..36, 0..0)];
-    Formula { variables: VARIABLES, table: slow_polynomials(1, true), tree: Node::And(children) }
+    Formula { variables: VARIABLES, table: slow_polynomials(&down(), 1, true), tree: Node::And(children) }
 }
 
 /// An OR at nesting 6, alone in an AND within the OR at 4, which is alone in an AND within the OR at 2; the polynomials of each OR.
@@ -224,8 +235,8 @@ fn spliced(at_6: Range<usize>, at_4: Range<usize>, at_2: Range<usize>) -> Node<u
 }
 
 /// A list of slow polynomials and 63 children f_k ≤ 0 OR f_(k-1) > 0, the last f above 0 at first: one child joins at each way back to step 2.
-fn back() -> Formula {
-    let table = slow_polynomials(1, false);
+fn back(order: Vec<usize>) -> Formula {
+    let table = slow_polynomials(&order, 1, false);
     let last = POLYNOMIALS - 1;
     let mut parts: Vec<Node<usize>> = (0..POLYNOMIALS)
         .map(|k| Node::atom(k, if k == last { SignSet::GREATER } else { SignSet::GREATER_EQUAL }))

@@ -15,6 +15,7 @@ fn the_blocks_have_their_shapes() {
         ("mixed", 64, 65, 1),
         ("deep", 224, 255, 6),
         ("back", 190, 254, 2),
+        ("zigzag", 190, 254, 2),
         ("removed", 244, 255, 6),
         ("worst", 234, 255, 6),
         ("list-8-4", 8, 9, 1),
