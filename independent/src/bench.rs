@@ -214,7 +214,11 @@ fn list(size: &str) -> Option<Formula> {
 /// so that it is spliced into the ORs at 4 and at 2 and goes through its 65 runs three times.
 fn worst() -> Formula {
     let children = [64, 64, 64, 42].map(|atoms| spliced(0..atoms, 0..0, 0..0));
-    Formula { variables: VARIABLES, table: slow_polynomials(&down(), 2, false), tree: Node::And(children.into()) }
+    Formula {
+        variables: VARIABLES,
+        table: slow_polynomials(&down(), 2, false),
+        tree: Node::And(children.into()),
+    }
 }
 
 /// Lists of which step 5 removes all but the 16 links, one after the other, each by a run of 30 rounds. The ORs at nesting 4 and 2 have those that
