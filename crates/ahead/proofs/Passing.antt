@@ -7,20 +7,21 @@ use Prim.Native.Nat.{ℕ, _+_, _-_, _<_, _≤_}
 use native.Mathlib.Decide.{decLt}
 use native.Mathlib.Omega.{arith}
 use lib.IntN.{ℤ}
-use lib.ListN.{getD, set}
-use lib.Seq.{getD-set-same, set-getD}
-use Rattle.rules.specs.Signs.{SignSet, full}
-use Rattle.rules.specs.Polynomial.{Atom, variable}
+use lib.ListN.{getD}
+use Rattle.rules.specs.Signs.{SignSet}
+use Rattle.rules.specs.Polynomial.{variable}
 use Rattle.rules.specs.Polynomial.{Board as Sets}
 use Rattle.rules.specs.Rounds.{cutBy, turn}
+use Rattle.sign_laws.specs.Sets.{PartOf}
+use Rattle.ending_laws.specs.Cuts.{cut-floor}
 use Rattle.terms.specs.declared.Board.{Board}
-use Rattle.terms.specs.View.{numbersFrom, length-numbers, setsOf}
+use Rattle.terms.specs.View.{few, setsOf}
 use Rattle.table.specs.declared.Atoms.{Atoms}
 use Rattle.table.specs.Table.{Table, atomsOf}
 use Rattle.turn_laws.specs.AfterTurns.{AfterTurns, no-turn, one-more, after-both, Idle, Floor}
 use Rattle.round.specs.Views.{tableOf}
 use Rattle.round.specs.Signing.{Ready}
-use Rattle.round.specs.Boards.{set-at}
+use Rattle.round.specs.Boards.{set-at, turn-keeps}
 use Rattle.ahead.specs.declared.Order.{Order}
 use Rattle.ahead.specs.declared.Passed.{Passed}
 use Rattle.ahead.specs.Ahead.{placeOf, FloorAt, Stepped, After, Ahead}
@@ -38,18 +39,15 @@ unfolding placeOf
 place-back true n i h = refl
 place-back false n i h = omega arith
 
--- ---- a turn that leaves the variable's set
+-- ---- a variable that has the floor's set
 
-module _ (n : ℕ) (atoms : List Atom) (xs ys : List SignSet) (i k : ℕ) (low : i < k) where
-  pub same-idle : numbersFrom ys 0 k ≡ turn n atoms (numbersFrom xs 0 k) i → getD ys i 0 ≡ getD xs i 0 → Idle n atoms (numbersFrom xs 0 k) i
-  unfolding turn
-  same-idle e same =
-      let b = numbersFrom xs 0 k in
-      let v = cutBy b (variable n i) atoms (getD b i full) in
-      let cut : v ≡ getD b i full =
-      sym (getD-set-same b i v full (omega (arith, length-numbers xs 0 k))) ∙ sym (ap (λ (l : Sets). getD l i full) e) ∙ set-at ys i k low ∙ same
-      ∙ sym (set-at xs i k low) in
-      ap (set b i) cut ∙ set-getD b i full
+pub floor-keeps : (t : Table) (a : Atoms) (b floor : Board) (i : ℕ) → FloorAt t a b floor i → i < few (b .variables) → getD (b .sets) i 0 ≡ getD (floor .sets) i 0
+    → setsOf b ≡ turn (t .variables) (atomsOf t a) (setsOf b) i
+floor-keeps t a b floor i (small, part) low e =
+    let s = getD (b .sets) i 0 in
+    let cut = cut-floor (setsOf b) (variable (t .variables) i) (atomsOf t a) s (rw e small)
+    (subst (λ (x : SignSet). PartOf x (cutBy (setsOf b) (variable (t .variables) i) (atomsOf t a) s)) (sym e) part) in
+    turn-keeps (t .variables) (b .sets) i (few (b .variables)) low (atomsOf t a) (sym cut) refl
 
 -- ---- a board's own number of variables is the table's
 
@@ -147,5 +145,7 @@ after-last before one =
 -- what the floor says of the board at hand
 pub floor-after : {t : Table} {a : Atoms} {first at : Board} {ss : List SignSet} (floor : Board) → After t a first at ss → t .variables ≤ 16
     → floor .variables ≡ t .variables → Floor (t .variables) (atomsOf t a) (setsOf first) (setsOf floor) → (j : ℕ) → j < t .variables → FloorAt t a at floor j
-floor-after {at} floor before few-of same below j h e =
-    below .idle (before .after) j h (set-at (at .sets) j _ (omega (arith, before .variables)) ∙ e ∙ sym (set-at (floor .sets) j _ (omega (arith, same))))
+floor-after {at} floor before few-of same below j h =
+    let its = set-at (floor .sets) j (few (floor .variables)) (omega (arith, same)) in
+    let own = set-at (at .sets) j (few (at .variables)) (omega (arith, before .variables)) in
+    (rw its at (below .low j h), rw (its, own) at (below .below (before .after) j h))

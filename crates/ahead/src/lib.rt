@@ -10,7 +10,9 @@ ghost use Rattle.round.specs.Views.{lentTable};
 ghost use Rattle.round.specs.Signing.{Ready};
 ghost use Rattle.ahead.specs.Ahead.{placeOf, FloorAt, Stepped, After, Ahead};
 use round::list::many;
-use round::round::turned;
+use round::round::cut_down;
+use round::slots::sign_list;
+use signs::SignSet;
 use table::Atoms;
 use terms::Board;
 
@@ -59,7 +61,7 @@ fn place(up: bool, n: usize, i: usize) -> usize
     if up { i } else { n - 1 - i }
 }
 
-// Variable i's turn, unless it has the floor's set, which no turn goes below.
+// Variable i's turn. No turn goes below the floor, so that one that has the floor's set needs none, and one that comes to it is over.
 fn step(
     coefficient: &[i32],
     monomial: &[u64],
@@ -78,26 +80,35 @@ fn step(
         ⌜ Stepped t atoms passed i r (now (sign .exit)) ⌝ }
 {
     let board = passed.board;
-    let still = passed.still;
-    let order = passed.order;
     let old = board.sets[i];
     let low = floor.sets[i];
     if old == low {
         return passed;
     }
-    let next = turned(coefficient, monomial, terms, sign, board, atoms, i);
-    let new = next.sets[i];
-    if new != old {
-        let longer = then(order, i);
-        return Passed {
-            board: next,
-            still: false,
-            order: longer,
-        };
+    let n = many(atoms.count);
+    let new = cut_down(
+        coefficient,
+        monomial,
+        terms,
+        sign,
+        board,
+        atoms,
+        0,
+        n,
+        64 + i,
+        SignSet(old),
+        SignSet(low),
+    );
+    if new.0 == old {
+        return passed;
     }
+    let order = then(passed.order, i);
+    let mut turned = board;
+    turned.sets[i] = new.0;
+    sign_list(turned, monomial, terms, atoms, sign);
     Passed {
-        board: next,
-        still,
+        board: turned,
+        still: false,
         order,
     }
 }

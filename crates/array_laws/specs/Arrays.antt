@@ -36,10 +36,10 @@ module _ {A : Type 0} where
 -- ---- the slots
 
 -- Each polynomial has a slot's sixteen places at most.
-abbrev AtMostSixteen : List Polynomial → Type 0
+abbrev pub AtMostSixteen : List Polynomial → Type 0
 AtMostSixteen table = (j : ℕ) → length (getD table j []) ≤ 16
 
-table-fits : {n : ℕ} {table : List Polynomial} → TableWithin n table → AtMostSixteen table
+pub table-fits : {n : ℕ} {table : List Polynomial} → TableWithin n table → AtMostSixteen table
 table-fits no-polynomials j = omega arith
 table-fits (polynomials first later) zero = first .at-most
 table-fits (polynomials first later) (suc j) = table-fits later j
@@ -103,7 +103,8 @@ module _ (table : List Polynomial) (few : AtMostSixteen table) (most : length ta
       (λ k inside. let at = slots-at (λ (t : Term). t .monomial) 0 table 0 ms i k few (omega arith) h inside in rw (zero-add i) at at)
       )
 
-  arrays-hold : Holds (slots (λ t. t .coefficient) 0 table cs) (slots (λ t. t .monomial) 0 table ms) (sets ts 0 (map length table)) table
+  -- The arrays that a table is stored over hold it.
+  pub arrays-hold : Holds (slots (λ t. t .coefficient) 0 table cs) (slots (λ t. t .monomial) 0 table ms) (sets ts 0 (map length table)) table
   arrays-hold = record {
     coefficients = length-slots (λ (t : Term). t .coefficient) (pos 0) table 0 cs ∙ coefficients;
     monomials = length-slots (λ (t : Term). t .monomial) 0 table 0 ms ∙ monomials;

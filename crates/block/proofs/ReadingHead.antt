@@ -11,7 +11,6 @@ use Rattle.rules.specs.Bits.{unpack}
 use Rattle.rules.specs.Formula.{nodes}
 use Rattle.rules.specs.Block.{refused, require, readBody, headField, readBlock}
 use Rattle.bits.proofs.Fields.{value-take-lt}
-use Rattle.block.specs.Held.{nothing, outcomeOf}
 use Rattle.block.specs.Steps.{streamAt, HeadHeld, HeadOf, HeadFound}
 use Rattle.block.specs.declared.Head.{Head}
 use Rattle.block.specs.declared.Head.the-variants.{Refused as NoHead, Numbers}
@@ -86,9 +85,9 @@ module _ (bytes : List ℕ) where
 
 -- What a head says, by its kind.
 module _ {bytes : List ℕ} {head : Head} (h : HeadFound bytes head) where
-  pub head-refused : {number : ℕ} → head ≡ NoHead number → record { refusal = number; held = nothing } ≡ outcomeOf (readBlock bytes)
-  unfolding HeadOf outcomeOf
-  head-refused e = rw ((rw e at h) .found)
+  pub head-refused : {number : ℕ} → head ≡ NoHead number → readBlock bytes ≡ refused number
+  unfolding HeadOf
+  head-refused e = (rw e at h) .found
 
   pub head-held : {n m count : ℕ} → head ≡ Numbers n m count → HeadHeld bytes n m count
   unfolding HeadOf

@@ -2,7 +2,7 @@
 -- An array is 0 wherever nothing is stored.
 use mathlib.Core.List.{List, [], _∷_, _++_, map}
 use Prim.Native.Nat.{ℕ, suc, _+_, _*_}
-use lib.IntN.{pos}
+use lib.IntN.{ℤ, pos}
 use lib.ListN.{length, replicate}
 use lib.Seq.{sets}
 use Rattle.rules.specs.Polynomial.{Term, Polynomial}
@@ -44,18 +44,29 @@ nothing =
       token = replicate 255 0;
     }
 
-unfoldable pub heldOf : Block → Held
-heldOf block =
+-- The four numbers and the four arrays together.
+abbrev pub heldBy : ℕ → ℕ → ℕ → ℕ → List ℤ → List ℕ → List ℕ → List ℕ → Held
+heldBy variables polynomials root tokens coefficient monomial terms token =
     record {
-      variables = block .variables;
-      polynomials = length (block .table);
-      root = kindOf (block .tree);
-      tokens = nodes (alone (block .tree));
-      coefficient = slots (λ t. t .coefficient) 0 (block .table) (replicate 1024 (pos 0));
-      monomial = slots (λ t. t .monomial) 0 (block .table) (replicate 1024 0);
-      terms = sets (replicate 64 0) 0 (map length (block .table));
-      token = sets (replicate 255 0) 0 (tokens (alone (block .tree)));
+      variables = variables;
+      polynomials = polynomials;
+      root = root;
+      tokens = tokens;
+      coefficient = coefficient;
+      monomial = monomial;
+      terms = terms;
+      token = token;
     }
+
+-- A block stored over what the arrays held before.
+abbrev pub heldOver : List ℤ → List ℕ → List ℕ → List ℕ → Block → Held
+heldOver coefficient monomial terms token block =
+    heldBy (block .variables) (length (block .table)) (kindOf (block .tree)) (nodes (alone (block .tree)))
+    (slots (λ t. t .coefficient) 0 (block .table) coefficient) (slots (λ t. t .monomial) 0 (block .table) monomial) (sets terms 0 (map length (block .table)))
+    (sets token 0 (tokens (alone (block .tree))))
+
+unfoldable pub heldOf : Block → Held
+heldOf block = heldOver (replicate 1024 (pos 0)) (replicate 1024 0) (replicate 64 0) (replicate 255 0) block
 
 unfoldable pub outcomeOf : Reading Block → Outcome
 outcomeOf (refused number) = record { refusal = number; held = nothing }

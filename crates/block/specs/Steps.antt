@@ -10,7 +10,8 @@ use Rattle.rules.specs.Polynomial.{Term, Polynomial}
 use Rattle.rules.specs.Bits.{unpack}
 use Rattle.rules.specs.Formula.{Parts, Node, leaf, alone, nodes}
 use Rattle.rules.specs.Block.{NumberedAtom, Block, Stream, Reading, refused, read, afterwards, readParts, readNode, joined, readEnd, readBody, readBlock}
-use Rattle.block.specs.Held.{slots, tokens, kindOf}
+use Rattle.block.specs.Held.{slots, tokens, kindOf, heldBy, heldOver}
+use Rattle.block.specs.declared.Held.{Held}
 use Rattle.block.specs.declared.Place.{Place}
 use Rattle.block.specs.declared.Step.{Step}
 use Rattle.block.specs.declared.Step.the-variants.{Refused, Read}
@@ -20,6 +21,8 @@ use Rattle.block.specs.declared.Opening.{Opening}
 use Rattle.block.specs.declared.Opening.the-variants.{Refused as NoNode, Atom, Join}
 use Rattle.block.specs.declared.Root.{Root}
 use Rattle.block.specs.declared.Root.the-variants.{Refused as NoTree, Kind}
+use Rattle.block.specs.declared.Contents.{Contents}
+use Rattle.block.specs.declared.Contents.the-variants.{Refused as NoBlock, Numbers as BlockNumbers}
 
 -- The stream at a place of the input.
 abbrev pub streamAt : List ℕ → Place → Stream
@@ -159,3 +162,28 @@ HeadOf bytes (Numbers variables polynomials nodes) = HeadHeld bytes variables po
 
 pub record HeadFound (bytes : List ℕ) (head : Head) : Type 0 where
   pub found : HeadOf bytes head
+
+-- ---- the whole block
+
+-- The block that the book reads is stored over what the arrays held before.
+pub record BlockStored (bytes : List ℕ) (coefficient : List ℤ) (monomial terms token : List ℕ) (held : Held) : Type 0 where
+  pub block : Block
+  pub rest : Stream
+  pub reading : readBlock bytes ≡ read block rest
+  pub stored : held ≡ heldOver coefficient monomial terms token block
+
+unfoldable pub ContentsOf : List ℕ → List ℤ → List ℤ → List ℕ → List ℕ → List ℕ → List ℕ → List ℕ → List ℕ → Contents → Type 0
+ContentsOf bytes coefficient coefficient′ monomial monomial′ terms terms′ token token′ (NoBlock number) = readBlock bytes ≡ refused number
+ContentsOf bytes coefficient coefficient′ monomial monomial′ terms terms′ token token′ (BlockNumbers variables polynomials root tokens) =
+    BlockStored bytes coefficient monomial terms token (heldBy variables polynomials root tokens coefficient′ monomial′ terms′ token′)
+
+pub record ContentsFound (bytes : List ℕ) (coefficient coefficient′ : List ℤ) (monomial monomial′ terms terms′ token token′ : List ℕ) (contents : Contents)
+    : Type 0 where
+  pub found : ContentsOf bytes coefficient coefficient′ monomial monomial′ terms terms′ token token′ contents
+
+-- The arrays have room for every block.
+pub record BlockRoom (coefficient : List ℤ) (monomial terms token : List ℕ) : Type 0 where
+  pub coefficients : 1024 ≤ length coefficient
+  pub monomials : 1024 ≤ length monomial
+  pub counts : 64 ≤ length terms
+  pub tokens : 255 ≤ length token

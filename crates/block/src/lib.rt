@@ -11,9 +11,9 @@ ghost use Rattle.rules.specs.Bits.{field};
 ghost use Rattle.rules.specs.Formula.{Parts, children};
 ghost use Rattle.rules.specs.Block.{NumberedAtom, Block, signed, readTerm, readTerms, readPolynomial, readTable, readNode, readParts, readEnd, readBlock};
 ghost use Rattle.rules.specs.Block.{minusBit, writeTerm, writeTerms, writePolynomial, writeTable, blockLength, writeBlock};
-ghost use Rattle.block.specs.Held.{nothing, outcomeOf};
+ghost use Rattle.block.specs.Held.{nothing, heldBy, outcomeOf};
 ghost use Rattle.block.specs.Steps.{streamAt, Inside, Left, Reads, ceiling, TermStored, TermsStored, PolynomialStored, TableStored};
-ghost use Rattle.block.specs.Steps.{Opened, NodeStored, PartsStored, Ends, RootFound, HeadHeld, HeadFound};
+ghost use Rattle.block.specs.Steps.{Opened, NodeStored, PartsStored, Ends, RootFound, HeadHeld, HeadFound, BlockRoom, ContentsFound};
 ghost use Rattle.block.specs.Written.{termsAt, tableAt, TermsInside, PartsHeld, PartsAhead, PartsWrote, Writable, SomeWritable};
 ghost use Rattle.block.specs.Written.{Room, Wrote, atomBits, joinBits, headBits};
 use bits::get;
@@ -40,6 +40,17 @@ pub struct Held {
 pub struct Outcome {
     pub refusal: u8,
     pub held: Held,
+}
+
+// What reading into lent arrays gives: a refusal's number, or the four numbers that `Held` has beside its arrays.
+pub enum Contents {
+    Refused(u8),
+    Numbers {
+        variables: usize,
+        polynomials: usize,
+        root: u8,
+        tokens: usize,
+    },
 }
 
 // Where the reader stands: the next bit, and how many nodes the head still allows.
@@ -442,49 +453,80 @@ fn refusal(number: u8) -> Outcome
 }
 
 // What stands behind the head.
-fn read_body(src: &[u8], variables: usize, polynomials: usize, nodes: usize) -> Outcome
-    requires { ⌜ HeadHeld (now src) variables polynomials nodes ⌝ }
-    ensures { λ r. ⌜ r ≡ outcomeOf (readBlock (now (src .entry))) ⌝ }
+fn read_body(
+    src: &[u8],
+    coefficient: &mut [i32],
+    monomial: &mut [u64],
+    terms: &mut [u8],
+    token: &mut [u32],
+    variables: usize,
+    polynomials: usize,
+    nodes: usize,
+) -> Contents
+    requires { ⌜ HeadHeld (now src) variables polynomials nodes × BlockRoom (now coefficient) (now monomial) (now terms) (now token) ⌝ }
+    ensures { λ r. ⌜ ContentsFound (now (src .entry)) (now (coefficient .entry)) (now (coefficient .exit)) (now (monomial .entry)) (now (monomial .exit))
+        (now (terms .entry)) (now (terms .exit)) (now (token .entry)) (now (token .exit)) r ⌝ }
 {
-    let mut coefficient = [0i32; 1024];
-    let mut monomial = [0u64; 1024];
-    let mut terms = [0u8; 64];
-    let mut token = [0u32; 255];
     let start = Place {
         at: 40,
         allowed: nodes,
     };
     let step = read_table(
         src,
-        &mut coefficient,
-        &mut monomial,
-        &mut terms,
+        coefficient,
+        monomial,
+        terms,
         start,
         variables,
         0,
         polynomials,
     );
     match step {
-        Step::Refused(number) => refusal(number),
+        Step::Refused(number) => Contents::Refused(number),
         Step::Read(after) => {
-            let root = read_tree(src, &mut token, after, nodes, polynomials as u64);
-            match root {
-                Root::Refused(number) => refusal(number),
-                Root::Kind(kind) => {
-                    let held = Held {
-                        variables,
-                        polynomials,
-                        root: kind,
-                        tokens: nodes,
-                        coefficient,
-                        monomial,
-                        terms,
-                        token,
-                    };
-                    Outcome { refusal: 0, held }
-                }
+            let found = read_tree(src, token, after, nodes, polynomials as u64);
+            match found {
+                Root::Refused(number) => Contents::Refused(number),
+                Root::Kind(root) => Contents::Numbers {
+                    variables,
+                    polynomials,
+                    root,
+                    tokens: nodes,
+                },
             }
         }
+    }
+}
+
+// Reads a block and stores what it holds over what the lent arrays hold.
+pub fn read_into(
+    src: &[u8],
+    coefficient: &mut [i32],
+    monomial: &mut [u64],
+    terms: &mut [u8],
+    token: &mut [u32],
+) -> Contents
+    requires { ⌜ BlockRoom (now coefficient) (now monomial) (now terms) (now token) ⌝ }
+    ensures { λ r. ⌜ ContentsFound (now (src .entry)) (now (coefficient .entry)) (now (coefficient .exit)) (now (monomial .entry)) (now (monomial .exit))
+        (now (terms .entry)) (now (terms .exit)) (now (token .entry)) (now (token .exit)) r ⌝ }
+{
+    let numbers = read_head(src);
+    match numbers {
+        Head::Refused(number) => Contents::Refused(number),
+        Head::Numbers {
+            variables,
+            polynomials,
+            nodes,
+        } => read_body(
+            src,
+            coefficient,
+            monomial,
+            terms,
+            token,
+            variables,
+            polynomials,
+            nodes,
+        ),
     }
 }
 
@@ -492,14 +534,31 @@ fn read_body(src: &[u8], variables: usize, polynomials: usize, nodes: usize) -> 
 pub fn read(src: &[u8]) -> Outcome
     ensures { λ r. ⌜ r ≡ outcomeOf (readBlock (now (src .entry))) ⌝ }
 {
-    let numbers = read_head(src);
-    match numbers {
-        Head::Refused(number) => refusal(number),
-        Head::Numbers {
+    let mut coefficient = [0i32; 1024];
+    let mut monomial = [0u64; 1024];
+    let mut terms = [0u8; 64];
+    let mut token = [0u32; 255];
+    let contents = read_into(src, &mut coefficient, &mut monomial, &mut terms, &mut token);
+    match contents {
+        Contents::Refused(number) => refusal(number),
+        Contents::Numbers {
             variables,
             polynomials,
-            nodes,
-        } => read_body(src, variables, polynomials, nodes),
+            root,
+            tokens,
+        } => {
+            let held = Held {
+                variables,
+                polynomials,
+                root,
+                tokens,
+                coefficient,
+                monomial,
+                terms,
+                token,
+            };
+            Outcome { refusal: 0, held }
+        }
     }
 }
 
@@ -668,28 +727,34 @@ fn write_head(out: &mut [u8], variables: u64, polynomials: u64, nodes: u64, size
 }
 
 // Writes the block that the arrays hold to the output's first bytes, and gives its length; the rest of the output keeps its values.
-pub fn write(held: Held, out: &mut [u8]) -> usize
-    requires { ⌜ SomeWritable held (length (now out)) ⌝ }
-    ensures { λ r. ⌜ ((block : Block) → Writable held (length (now (out .entry))) block
+pub fn write(
+    variables: usize,
+    polynomials: usize,
+    root: u8,
+    tokens: usize,
+    coefficient: &[i32],
+    monomial: &[u64],
+    terms: &[u8],
+    token: &[u32],
+    out: &mut [u8],
+) -> usize
+    requires { ⌜ BlockRoom (now coefficient) (now monomial) (now terms) (now token)
+        × SomeWritable (heldBy variables polynomials root tokens (now coefficient) (now monomial) (now terms) (now token)) (length (now out)) ⌝ }
+    ensures { λ r. ⌜ ((block : Block) → Writable (heldBy variables polynomials root tokens (now (coefficient .entry)) (now (monomial .entry))
+        (now (terms .entry)) (now (token .entry))) (length (now (out .entry))) block
         → (r ≡ blockLength block) × (now (out .exit) ≡ sets (now (out .entry)) 0 (writeBlock block))) ⌝ }
 {
-    let variables = held.variables;
-    let polynomials = held.polynomials;
-    let coefficient = held.coefficient;
-    let monomial = held.monomial;
-    let terms = held.terms;
-    let token = held.token;
     let tree = write_table(
         out,
-        &coefficient,
-        &monomial,
-        &terms,
+        coefficient,
+        monomial,
+        terms,
         40,
         variables,
         0,
         polynomials,
     );
-    let last = write_parts(out, &token, tree, 0, 1, held.root as u64);
+    let last = write_parts(out, token, tree, 0, 1, root as u64);
     let end = last.at;
     let size = (end + 7) / 8;
     write_field(out, end, size * 8 - end, 0);
@@ -697,7 +762,7 @@ pub fn write(held: Held, out: &mut [u8]) -> usize
         out,
         variables as u64,
         polynomials as u64,
-        held.tokens as u64,
+        tokens as u64,
         size as u64,
     );
     size

@@ -14,7 +14,7 @@ use Rattle.rules.specs.Signs.{SignSet, kind}
 use Rattle.rules.specs.Polynomial.{Board, Polynomial}
 use Rattle.rules.specs.Deduce.{rows, findingOf, anyEmpty, unlessEmpty, deduce}
 use Rattle.terms.specs.View.{numbersFrom, numbers-cons, numbers-nil}
-use Rattle.deduce.proofs.SignSets.{finding-none}
+use Rattle.interval.specs.Kinds.{finding-none}
 
 -- the sets of a board from place i on, up to n
 module _ (sets : List SignSet) (i n : ℕ) where

@@ -14,10 +14,10 @@ use Rattle.rules.specs.Deduce.{Fraction, at, rows}
 use Rattle.deduction_laws.specs.Fractions.{combined}
 use Rattle.terms.specs.View.{termAt, termsOf, terms-cons, terms-nil}
 use Rattle.terms.specs.Signed.{Signed, signed-within}
+use Rattle.interval.specs.Ends.{endOf, There, Zero}
 use Rattle.deduce.specs.declared.last.Last.{Last}
 use Rattle.deduce.specs.declared.merge.Step.{Step}
 use Rattle.deduce.specs.declared.Run.{Run}
-use Rattle.deduce.specs.Ends.{endOf, There, Zero}
 use Rattle.deduce.specs.Merge.{Gathered, nothing, gatherRow, gather, gatherRest, findingBy, On, Next, Found}
 use Rattle.deduce.specs.Last.{lastOf, Kept, FoundAtZero}
 use Rattle.deduce.proofs.Rows.{Walked, of-none}

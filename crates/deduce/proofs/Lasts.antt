@@ -15,10 +15,10 @@ use Rattle.deduction_laws.specs.FractionSets.{L, U, asked}
 use Rattle.deduction_laws.specs.Exact.{hasAt}
 use Rattle.deduction_laws.specs.Found.{Same, Thin, same-finding, same-rows, strict-idle, still-thin}
 use Rattle.deduction_laws.specs.Points.{point, point-thin, point-row, Root, root-rising, root-falling, root-row, allAsked, zero-left}
-use Rattle.deduce.specs.declared.interval.End.{End as KeptEnd}
+use Rattle.interval.specs.declared.interval.End.{End as KeptEnd}
+use Rattle.interval.specs.Ends.{endAt, endOf, intervalOf}
 use Rattle.deduce.specs.declared.merge.Cuts.{Cuts}
 use Rattle.deduce.specs.declared.last.Last.{Last}
-use Rattle.deduce.specs.Ends.{endAt, endOf, intervalOf}
 use Rattle.deduce.specs.Merge.{Gathered, gatheredOf, gatherRow, gather, findingBy}
 use Rattle.deduce.specs.Last.{asksZero, lastOf, AtLast, Kept}
 use Rattle.deduce.proofs.SignSets.{asks-zero}

@@ -1,7 +1,3 @@
-pub mod Coefficients
-pub mod Fractions
-pub mod Cutting
-pub mod Values
 pub mod SignSets
 pub mod Rows
 pub mod Nothing

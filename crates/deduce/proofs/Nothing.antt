@@ -9,8 +9,8 @@ use Rattle.rules.specs.Signs.{SignSet, full, kind}
 use Rattle.rules.specs.Deduce.{Row, hasT}
 use Rattle.deduction_laws.specs.FractionSets.{L, U}
 use Rattle.deduction_laws.specs.Found.{nothingBy, nothing-found, none-comes-back}
+use Rattle.interval.specs.Kinds.{by-kind}
 use Rattle.deduce.specs.Merge.{Gathered, gather, findingBy}
-use Rattle.deduce.proofs.SignSets.{by-kind}
 use Rattle.deduce.proofs.Rows.{gathered}
 
 -- for each set of q but the empty one that is the full set

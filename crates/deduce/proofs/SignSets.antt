@@ -1,33 +1,20 @@
--- What the code does for each sign set, by its number: the cuts of L and U, strictness, and the sets that say nothing.
+-- What the code does for each sign set, by its number: the cuts of L and U, strictness, and the sets that ask for a + tb = 0.
 -- The code matches on the number; the book goes by the kind of that number.
 use mathlib.Core.Path.{_≡_, refl}
-use mathlib.Core.Bool.{Bool, true, false, false≢true}
+use mathlib.Core.Bool.{true, false, false≢true}
 use mathlib.Core.List.{[], _∷_}
 use mathlib.Core.Logic.{inl, inr}
-use Prim.Native.Nat.{ℕ, zero, suc}
+use Prim.Native.Nat.{ℕ, suc}
 use lib.IntN.{ℤ}
 use types.Run.{OneOf}
 use native.Mathlib.Omega.{arith}
 use borrow.Author.Tests.{le-leb}
 use lib.Dec.{leb}
 use Rattle.rules.specs.Signs.{Kind, ∅, >0, =0, ≥0, <0, ≠0, ≤0, any, kind, named, mirror, open-signs}
-use Rattle.rules.specs.Deduce.{Interval, cutNotNegative, cutNotPositive, cutL, cutU, isStrict, finding}
+use Rattle.rules.specs.Deduce.{Interval, cutNotNegative, cutNotPositive, cutL, cutU, isStrict}
 use Rattle.deduction_laws.specs.FractionSets.{L, U, asked}
+use Rattle.interval.specs.Kinds.{by-kind}
 use Rattle.deduce.specs.Last.{asksZero}
-
--- what holds of each kind under its number holds of each number
-pub by-kind : (P : ℕ → Kind → Type 0) → P 0 ∅ → P 1 >0 → P 2 =0 → P 3 ≥0 → P 4 <0 → P 5 ≠0 → P 6 ≤0 → ((k : ℕ) → P (suc (suc (suc (suc (suc (suc (suc k))))))) any)
-    → (k : ℕ) → P k (kind k)
-unfolding kind
-by-kind P a b c d e f g h zero = a
-by-kind P a b c d e f g h (suc zero) = b
-by-kind P a b c d e f g h (suc (suc zero)) = c
-by-kind P a b c d e f g h (suc (suc (suc zero))) = d
-by-kind P a b c d e f g h (suc (suc (suc (suc zero)))) = e
-by-kind P a b c d e f g h (suc (suc (suc (suc (suc zero))))) = f
-by-kind P a b c d e f g h (suc (suc (suc (suc (suc (suc zero)))))) = g
-by-kind P a b c d e f g h (suc (suc (suc (suc (suc (suc (suc zero))))))) = h zero
-by-kind P a b c d e f g h (suc (suc (suc (suc (suc (suc (suc (suc k)))))))) = h (suc k)
 
 -- ---- strict
 
@@ -71,15 +58,6 @@ cut-both a b r = by-kind
     → (cutL s a b r ≡ cutNotNegative a b (cutNotPositive a b r)) × (cutU s a b r ≡ cutNotNegative a b (cutNotPositive a b r)))
     (λ f g h. absurd (h (inl refl))) (λ f g h. absurd (f (inl refl))) (λ f g h. absurd (h (inr refl))) (λ f g h. absurd (f (inr refl)))
     (λ f g h. absurd (g (inl refl))) (λ f g h. (refl, refl)) (λ f g h. absurd (g (inr refl))) (λ k f g h. (refl, refl))
-
--- ---- the sets of q that say nothing
-
--- ≠ and full
-pub finding-none : (st : Bool) (l u : Interval) (k : ℕ) → (k ≡ 0 → ⊥) → (k ≡ 1 → ⊥) → (k ≡ 2 → ⊥) → (k ≡ 3 → ⊥) → (k ≡ 4 → ⊥) → (k ≡ 6 → ⊥) → 7 ≡ finding (kind k) st l u
-unfolding finding
-finding-none st l u = by-kind (λ k s. (k ≡ 0 → ⊥) → (k ≡ 1 → ⊥) → (k ≡ 2 → ⊥) → (k ≡ 3 → ⊥) → (k ≡ 4 → ⊥) → (k ≡ 6 → ⊥) → 7 ≡ finding s st l u)
-    (λ o a b c d e. absurd (o refl)) (λ o a b c d e. absurd (a refl)) (λ o a b c d e. absurd (b refl)) (λ o a b c d e. absurd (c refl))
-    (λ o a b c d e. absurd (d refl)) (λ o a b c d e. refl) (λ o a b c d e. absurd (e refl)) (λ k o a b c d e. refl)
 
 -- ---- the sets that ask for a + tb = 0, and what the others ask for
 

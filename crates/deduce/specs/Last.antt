@@ -10,11 +10,11 @@ use Rattle.rules.specs.Deduce.{Fraction, End, at, Interval, rows}
 use Rattle.deduction_laws.specs.FractionSets.{L, U, asked}
 use Rattle.deduction_laws.specs.Exact.{hasAt}
 use Rattle.terms.specs.Signed.{Signed}
-use Rattle.deduce.specs.declared.interval.End.{End as KeptEnd}
+use Rattle.interval.specs.declared.interval.End.{End as KeptEnd}
+use Rattle.interval.specs.Ends.{endOf, intervalOf}
 use Rattle.deduce.specs.declared.merge.Cuts.{Cuts}
 use Rattle.deduce.specs.declared.last.Last.{Last}
 use Rattle.deduce.specs.declared.Run.{Run}
-use Rattle.deduce.specs.Ends.{endOf, intervalOf}
 use Rattle.deduce.specs.Merge.{Gathered, gather, findingBy}
 use Rattle.deduce.specs.Runs.{polynomialOf}
 

@@ -1,4 +1,3 @@
-pub mod Ends
 pub mod Runs
 pub mod Merge
 pub mod Last

@@ -11,7 +11,7 @@ use Rattle.rules.specs.Polynomial.{Board}
 use Rattle.rules.specs.Deduce.{Interval, cutL, cutU, Row, rows, everyT, isStrict, isZero, finding}
 use Rattle.terms.specs.View.{termsOf}
 use Rattle.terms.specs.Signed.{Signed}
-use Rattle.deduce.specs.Ends.{intervalOf}
+use Rattle.interval.specs.Ends.{intervalOf}
 use Rattle.deduce.specs.declared.merge.Cuts.{Cuts}
 use Rattle.deduce.specs.declared.merge.Step.{Step}
 use Rattle.deduce.specs.declared.Run.{Run}

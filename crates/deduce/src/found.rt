@@ -2,19 +2,19 @@
 // Where one t is left the rest of the merge is about that t; where it is 0 the terms of q say no more.
 ghost use Prim.Native.Nat.{_<_, _≤_};
 ghost use lib.ListN.{length};
-ghost use Rattle.deduce.specs.Ends.{There, Zero};
+ghost use Rattle.interval.specs.Ends.{There, Zero};
 ghost use Rattle.deduce.specs.Merge.{nothing, Found};
 ghost use Rattle.deduce.specs.Last.{lastOf, FoundAtZero};
 ghost use Rattle.deduce.specs.Runs.{Within};
 use crate::Run;
-use crate::finding::finding;
-use crate::interval::End;
-use crate::interval::Interval;
 use crate::last::Last;
 use crate::last::leaves_one;
 use crate::last::rules_out;
 use crate::merge::Cuts;
 use crate::merge::next;
+use interval::finding::finding;
+use interval::interval::End;
+use interval::interval::Interval;
 use signs::SignSet;
 use terms::sign_of;
 

@@ -8,9 +8,9 @@ ghost use Rattle.rules.specs.Deduce.{isZero};
 ghost use Rattle.deduction_laws.specs.FractionSets.{L, asked as askedOf};
 ghost use Rattle.deduce.specs.Merge.{findingBy};
 ghost use Rattle.deduce.specs.Last.{asksZero, lastOf, Kept};
-use crate::finding::finding;
-use crate::interval::End;
-use crate::interval::Interval;
+use interval::finding::finding;
+use interval::interval::End;
+use interval::interval::Interval;
 use signs::SignSet;
 
 // The t, and whether it is still in L and in U.

@@ -4,12 +4,12 @@ ghost use mathlib.Core.Path.{_≡_};
 ghost use mathlib.Core.Bool.{not, _&&_, _||_};
 ghost use Rattle.rules.specs.Signs.{kind};
 ghost use Rattle.rules.specs.Deduce.{hasT, isStrict, isZero};
-ghost use Rattle.deduce.specs.Ends.{intervalOf};
+ghost use Rattle.interval.specs.Ends.{intervalOf};
 ghost use Rattle.deduce.specs.Merge.{gatheredOf, gatherRow, Left, Next};
 ghost use Rattle.deduce.specs.Last.{AtLast};
-use crate::interval::End;
-use crate::interval::Interval;
 use crate::last::Last;
+use interval::interval::End;
+use interval::interval::Interval;
 
 // L and U so far, and whether they are strict.
 pub struct Cuts {

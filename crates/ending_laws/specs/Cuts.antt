@@ -14,7 +14,7 @@ use Rattle.rules.specs.Polynomial.{Polynomial, Atom, Board, byTerms, variable}
 use Rattle.rules.specs.Deduce.{deduce, anyEmpty}
 use Rattle.rules.specs.Rounds.{cutBy, turn, turns, cutAtom, cutAtoms, State, round, setsOf, sameSets, hasEmpty, unchanged}
 use Rattle.sign_laws.specs.Booleans.{neither}
-use Rattle.sign_laws.specs.Sets.{PartOf, part-refl, part-trans, intersect-first, intersect-below}
+use Rattle.sign_laws.specs.Sets.{PartOf, part-refl, part-trans, intersect-first, intersect-below, parts-equal}
 use Rattle.ending_laws.specs.Sizes.{spare, spare-at-most, spare-part, spare-falls}
 
 -- ---- One set.
@@ -30,6 +30,10 @@ pub cutBy-below : (board : Board) (p : Polynomial) (qs : List Atom) (s : SignSet
 unfolding cutBy
 cutBy-below board p [] s h = h
 cutBy-below board p (q ∷ qs) s h = cutBy-below board p qs (intersect s (deduce board p q)) (intersect-below s (deduce board p q))
+
+-- A set that is a part of what is left of it is not cut.
+pub cut-floor : (board : Board) (p : Polynomial) (qs : List Atom) (s : SignSet) → s < 8 → PartOf s (cutBy board p qs s) → cutBy board p qs s ≡ s
+cut-floor board p qs s h part = parts-equal (cutBy-below board p qs s h) h (cutBy-part board p qs s) part
 
 -- A round cuts an atom's set to a part of it.
 pub cutAtom-part : (board : Board) (others : List Atom) (a : Atom) → PartOf (cutAtom board others a .set) (a .set)

@@ -1,7 +1,7 @@
 -- The working table of a block's polynomials: how it comes about in four passes, and what its callers rely on.
 -- `workingOf` determines every element; the record `Worked` is the promise of the function `working`.
 use mathlib.Core.Path.{_≡_}
-use mathlib.Core.Bool.{false}
+use mathlib.Core.Bool.{Bool, false}
 use mathlib.Core.List.{List}
 use Prim.Native.Nat.{ℕ, _*_, _<_, _≤_}
 use lib.IntN.{ℤ, pos}
@@ -23,6 +23,10 @@ pub record TableRead (cs : List ℤ) (ms ts : List ℕ) (m n : ℕ) : Type 0 whe
   pub variables : n ≤ 16
   pub polynomials : m ≤ 64
   pub within : (i : ℕ) → i < m → PolynomialWithin n (slotOf cs ms ts i)
+
+-- What the lent arrays are together.
+abbrev pub workingBy : List ℤ → List ℕ → List ℕ → List ℕ → List Bool → WorkingTable
+workingBy coefficient monomial terms number turned = record { coefficient = coefficient; monomial = monomial; terms = terms; number = number; turned = turned }
 
 -- ---- The passes.
 

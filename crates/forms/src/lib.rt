@@ -4,7 +4,7 @@ ghost use mathlib.Core.Path.{_≡_};
 ghost use Prim.Native.Nat.{_<_, _≤_};
 ghost use lib.ListN.{length};
 ghost use Rattle.forms.specs.Normal.{turnedSet};
-ghost use Rattle.forms.specs.Working.{TableRead, Worked};
+ghost use Rattle.forms.specs.Working.{TableRead, workingBy, blank, Worked};
 ghost use Rattle.forms.specs.Tokens.{normalToken, normalTokens};
 use signs::SignSet;
 
@@ -23,7 +23,45 @@ pub struct WorkingTable {
     pub turned: [bool; 64],
 }
 
-// The working table of the polynomials that the reader left in its arrays.
+// Makes the working table of the polynomials that the reader left in its arrays, in blank arrays that are lent.
+pub fn work(
+    coefficient: &[i32],
+    monomial: &[u64],
+    terms: &[u8],
+    polynomials: usize,
+    variables: usize,
+    normal_coefficient: &mut [i32],
+    normal_monomial: &mut [u64],
+    normal_terms: &mut [u8],
+    number: &mut [u8],
+    turned: &mut [bool],
+)
+    requires { ⌜ TableRead (now coefficient) (now monomial) (now terms) polynomials variables
+        × (workingBy (now «normal_coefficient») (now «normal_monomial») (now «normal_terms») (now number) (now turned) ≡ blank) ⌝ }
+    ensures { λ _. ⌜ Worked (now (coefficient .entry)) (now (monomial .entry)) (now (terms .entry)) polynomials variables
+        (workingBy (now («normal_coefficient» .exit)) (now («normal_monomial» .exit)) (now («normal_terms» .exit)) (now (number .exit)) (now (turned .exit))) ⌝ }
+{
+    slots::normalize_all(coefficient, terms, normal_coefficient, turned, polynomials);
+    slots::copy_monomials(monomial, normal_monomial, 16 * polynomials);
+    slots::copy_counts(terms, normal_terms, polynomials);
+    slots::number_all(
+        normal_coefficient,
+        normal_monomial,
+        normal_terms,
+        number,
+        polynomials,
+    );
+    slots::fill(
+        normal_coefficient,
+        normal_monomial,
+        normal_terms,
+        number,
+        polynomials,
+    );
+    slots::put_variables(normal_coefficient, normal_monomial, normal_terms, variables);
+}
+
+// The same as a value.
 pub fn working(
     coefficient: &[i32],
     monomial: &[u64],
@@ -39,34 +77,17 @@ pub fn working(
     let mut normal_terms = [0u8; 80];
     let mut number = [0u8; 64];
     let mut turned = [false; 64];
-    slots::normalize_all(
+    work(
         coefficient,
+        monomial,
         terms,
-        &mut normal_coefficient,
-        &mut turned,
         polynomials,
-    );
-    slots::copy_monomials(monomial, &mut normal_monomial, 16 * polynomials);
-    slots::copy_counts(terms, &mut normal_terms, polynomials);
-    slots::number_all(
-        &normal_coefficient,
-        &normal_monomial,
-        &normal_terms,
-        &mut number,
-        polynomials,
-    );
-    slots::fill(
-        &mut normal_coefficient,
-        &mut normal_monomial,
-        &mut normal_terms,
-        &number,
-        polynomials,
-    );
-    slots::put_variables(
-        &mut normal_coefficient,
-        &mut normal_monomial,
-        &mut normal_terms,
         variables,
+        &mut normal_coefficient,
+        &mut normal_monomial,
+        &mut normal_terms,
+        &mut number,
+        &mut turned,
     );
     WorkingTable {
         coefficient: normal_coefficient,

@@ -3,6 +3,7 @@ pub mod Entering
 pub mod Slots
 pub mod Constants
 pub mod Merging
+pub mod Storing
 pub mod Handing
 pub mod SmallSets
 pub mod Cutting

@@ -215,7 +215,7 @@ module _ {t : Table} {all : List ℕ} {row : Row} {x : ℕ} {rest : List ℕ} (k
 -- ---- the whole step
 
 module _ {t : Table} {l : List ℕ} {row : Row} (h : Lists row l) {m : Tidied} (n : m .list .count ≤ row .count) (g : Merges t l m) where
-  pub tidy-broken : m .broken ≡ true → Tidies t l m
+  pub tidy-broken : m .broken ≡ true → Tidies t l (record { list = m .list; broken = true })
   unfolding tidy afterMerging tidiedOf
   tidy-broken e = record { list = g .list; lists = g .lists; small = omega (arith, g .lists .size, h .size); few = apart-few (g .list) (g .apart); is = rw (g .is, e) }
 

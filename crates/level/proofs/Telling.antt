@@ -11,7 +11,6 @@ use Rattle.level.specs.declared.rows.Row.{Row}
 use Rattle.level.specs.Row.{Lists}
 use Rattle.level.specs.Tape.{Children, none, child, laid, ChildAt}
 use Rattle.level.specs.Source.{Forest, count, flat}
-use Rattle.level.specs.declared.writing.Marked.{Marked}
 use Rattle.level.specs.Written.{told, leaves, forest, howMany, Between, Heads, MarksIs}
 use Rattle.level.proofs.Listing.{held-at, part-more}
 use Rattle.level.proofs.Entering.{map-append, head-of}
@@ -252,11 +251,11 @@ module _ {row : Row} {children : Children} {b : Bool} {before : List ℕ} {marks
       record { first = f; here = c; kind = f .marked .0 .0; ends = child-ends (c .at) }
 
   -- told with its atoms, its own children are next
-  pub told-turn : {a e : ℕ} (q : Here row g a e) (r : Marked) → MarksIs (place + 1 + a) (place + 1 + a + e) (not (q .first .kind)) marks (q .first .own) r → (h : ℕ)
-      → h ≡ 16777216 + a + r .count → (told-row : Row) → Lists told-row ((g .list ++ (h ∷ [])) ++ map (told (q .first .kind)) (q .first .atoms))
-      → Telling children b before (r .marks .conjunction) told-row (place + 1 + a)
+  pub told-turn : {a e : ℕ} (q : Here row g a e) (many : ℕ) (marked : List Bool) → MarksIs (place + 1 + a) (place + 1 + a + e) (not (q .first .kind)) marks (q .first .own) many marked → (h : ℕ)
+      → h ≡ 16777216 + a + many → (told-row : Row) → Lists told-row ((g .list ++ (h ∷ [])) ++ map (told (q .first .kind)) (q .first .atoms))
+      → Telling children b before marked told-row (place + 1 + a)
   unfolding left tells MarkedAt Heads
-  told-turn {a} {e} q r m h z told-row w =
+  told-turn {a} {e} q many marked m h z told-row w =
       let f = q .first in
       let kind = f .kind in
       let l = f .atoms in

@@ -10,14 +10,19 @@ use Rattle.rules.specs.Level.{Tidied as Outcome, broken, tidied, mergeInto, mer
 use Rattle.table.specs.Table.{Table}
 use Rattle.level.specs.declared.rows.Row.{Row}
 use Rattle.level.specs.declared.tidying.Tidied.{Tidied}
+use Rattle.level.specs.declared.tidying.Kept.{Kept}
 use Rattle.level.specs.declared.tidying.Truth.{Truth}
 use Rattle.level.specs.declared.tidying.Truth.the-variants.{Open, True, False}
-use Rattle.level.specs.Row.{Lists}
+use Rattle.level.specs.Row.{rowOf, Lists}
 use Rattle.level.specs.Token.{slot, atomOf, atomsIn}
 
 unfoldable pub tidiedOf : Bool → List Atom → Outcome
 tidiedOf true l = broken
 tidiedOf false l = tidied l
+
+-- What is kept at the front of a list, as the atoms that step 2 leaves.
+abbrev pub keptIn : List ℕ → Kept → Tidied
+keptIn list kept = record { list = rowOf list (kept .count); broken = kept .broken }
 
 -- ---- A constant's atom is true or false, and step 2 goes on without it or breaks off; an open one is merged.
 

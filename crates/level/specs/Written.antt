@@ -10,7 +10,6 @@ use Rattle.rules.specs.Formula.{Node, eachAtomOf, alone, nodes}
 use Rattle.rules.specs.Level.{Formula, dualNode, asNode}
 use Rattle.table.specs.Table.{Table}
 use Rattle.level.specs.declared.rows.Row.{Row}
-use Rattle.level.specs.declared.writing.Marked.{Marked}
 use Rattle.level.specs.declared.writing.Tree.{Tree}
 use Rattle.level.specs.Row.{Lists}
 use Rattle.level.specs.Token.{atomOf}
@@ -61,10 +60,10 @@ pub record Tellable (out row : Row) (marks : List Bool) : Type 0 where
   pub lists : Lists out before
   pub fits : out .count + row .count ≤ 256
 
-pub record MarksIs (from to : ℕ) (b : Bool) (marks : List Bool) (children : Children) (r : Marked) : Type 0 where
-  pub count : r .count ≡ howMany children
-  pub heads : Heads (r .marks .conjunction) from b children
-  pub others : (j : ℕ) → to ≤ j → getD (r .marks .conjunction) j false ≡ getD marks j false
+pub record MarksIs (from to : ℕ) (b : Bool) (marks : List Bool) (children : Children) (many : ℕ) (marked : List Bool) : Type 0 where
+  pub count : many ≡ howMany children
+  pub heads : Heads marked from b children
+  pub others : (j : ℕ) → to ≤ j → getD marked j false ≡ getD marks j false
 
 -- ---- The tree.
 

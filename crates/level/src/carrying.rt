@@ -4,12 +4,11 @@ ghost use mathlib.Core.Path.{_≡_};
 ghost use mathlib.Core.List.{List};
 ghost use Prim.Native.Nat.{ℕ, _≤_};
 ghost use Rattle.table.specs.Table.{Forms};
-ghost use Rattle.level.specs.Row.{Lists};
+ghost use lib.ListN.{length};
+ghost use Rattle.level.specs.Row.{rowOf, Lists};
 ghost use Rattle.round.specs.Views.{lentTable};
 ghost use Rattle.level.specs.Carried.{withSets, remaining, Carries, LeftBy, Remains};
 use crate::rows::Row;
-use crate::rows::empty;
-use crate::rows::push;
 use crate::tidying::atoms_in;
 use crate::tokens::with_set;
 use round::State;
@@ -22,26 +21,23 @@ use table::Atoms;
 
 // What step 3 leaves: a contradiction, or the list with the cut sets and the state of its rounds.
 pub struct Carrying {
-    pub contradiction: bool,
     pub list: Row,
     pub state: State,
+    pub contradiction: bool,
 }
 
 // The tokens with the atoms' sets.
-fn with_sets(row: Row, atoms: Atoms) -> Row
-    requires { ⌜ row .count ≤ 64 ⌝ }
-    ensures { λ r. ⌜ ((l : List ℕ) → Lists row l → Lists r (withSets (atoms .set) 0 l)) ⌝ }
+fn with_sets(list: &mut [u32], n: usize, atoms: Atoms)
+    requires { ⌜ (n ≤ length (now list)) × (n ≤ 64) ⌝ }
+    ensures { λ r. ⌜ ((l : List ℕ) → Lists (rowOf (now (list .entry)) n) l → Lists (rowOf (now (list .exit)) n) (withSets (atoms .set) 0 l)) ⌝ }
 {
-    let n = row.count;
-    let mut carrying = empty();
     let mut i = 0;
     while i < n {
-        let token = row.token[i];
+        let token = list[i];
         let set = atoms.set[i];
+        list[i] = with_set(token, SignSet(set));
         i += 1;
-        carrying = push(carrying, with_set(token, SignSet(set)));
     }
-    carrying
 }
 
 pub fn carry(
@@ -54,42 +50,50 @@ pub fn carry(
     requires { ⌜ Forms (lentTable coefficient monomial terms variables) × (row .count ≤ 64) ⌝ }
     ensures { λ r. let t = lentTable (coefficient .entry) (monomial .entry) (terms .entry) variables in ⌜ ((l : List ℕ) → Lists row l → Carries t l r) ⌝ }
 {
-    let atoms = atoms_in(row);
+    let n = row.count;
+    let mut list = row.token;
+    let atoms = atoms_in(&list, n);
     let ran = run(coefficient, monomial, terms, variables, atoms);
     let state = ran.state;
     if ran.contradiction {
         return Carrying {
-            contradiction: true,
-            list: row,
+            list: Row {
+                token: list,
+                count: n,
+            },
             state: state,
+            contradiction: true,
         };
     }
     let cut = carried(coefficient, monomial, terms, variables, atoms, state);
-    let carrying = with_sets(row, cut);
+    with_sets(&mut list, n, cut);
     Carrying {
-        contradiction: false,
-        list: carrying,
+        list: Row {
+            token: list,
+            count: n,
+        },
         state: state,
+        contradiction: false,
     }
 }
 
-// The tokens of the atoms that remain.
-fn kept_of(row: Row, kept: Remaining) -> Row
-    requires { ⌜ row .count ≤ 64 ⌝ }
-    ensures { λ r. ⌜ ((l : List ℕ) → Lists row l → Lists r (remaining (kept .keep) 0 l)) ⌝ }
+// The tokens of the atoms that remain, moved to the front of their list; how many they are.
+fn kept_of(list: &mut [u32], n: usize, kept: Remaining) -> usize
+    requires { ⌜ (n ≤ length (now list)) × (n ≤ 64) ⌝ }
+    ensures { λ r. ⌜ ((l : List ℕ) → Lists (rowOf (now (list .entry)) n) l → Lists (rowOf (now (list .exit)) r) (remaining (kept .keep) 0 l)) ⌝ }
 {
-    let n = row.count;
-    let mut left = empty();
+    let mut count = 0;
     let mut i = 0;
     while i < n {
-        let token = row.token[i];
+        let token = list[i];
         let keeps = kept.keep[i];
         i += 1;
         if keeps {
-            left = push(left, token);
+            list[count] = token;
+            count += 1;
         }
     }
-    left
+    count
 }
 
 // Step 5: "In order, an atom is removed if what the other remaining atoms say of it lies inside its carried set." The state is the one of step 3.
@@ -105,7 +109,13 @@ pub fn without_implied(
         ⌜ Forms t × ((row .count ≤ 64) × LeftBy t state row) ⌝ }
     ensures { λ r. let t = lentTable (coefficient .entry) (monomial .entry) (terms .entry) variables in ⌜ ((l : List ℕ) → Lists row l → Remains t l r) ⌝ }
 {
-    let atoms = atoms_in(row);
+    let n = row.count;
+    let mut list = row.token;
+    let atoms = atoms_in(&list, n);
     let kept = remove_implied(coefficient, monomial, terms, variables, atoms, state);
-    kept_of(row, kept)
+    let count = kept_of(&mut list, n, kept);
+    Row {
+        token: list,
+        count: count,
+    }
 }

@@ -7,8 +7,7 @@ ghost use Prim.Native.Nat.{ℕ, suc, _+_};
 ghost use Rattle.table.specs.Table.{Forms};
 ghost use Rattle.round.specs.Views.{lentTable};
 ghost use Rattle.level.specs.Source.{Forest, size, Holds, Stood, Done};
-use crate::rows::empty;
-use crate::rows::push;
+use crate::rows::Row;
 use crate::settling::finish;
 use crate::tokens::NODE;
 use crate::tokens::opposite;
@@ -54,7 +53,8 @@ pub fn and_rule(
     ensures { λ r. let t = lentTable (coefficient .entry) (monomial .entry) (terms .entry) variables in ⌜ ((kids : Forest) (rest : List ℕ) → Holds (now (token .entry)) at nesting kids rest → Done t true at nesting kids r) ⌝ }
 {
     let parts = token[at] - NODE;
-    let mut atoms = empty();
+    let mut list = [0u32; 256];
+    let mut count = 0;
     let mut walked = begin();
     let mut place = at + 1;
     let mut i: u32 = 0;
@@ -62,7 +62,8 @@ pub fn and_rule(
         i += 1;
         let part = token[place];
         if part < NODE {
-            atoms = push(atoms, part);
+            list[count] = part;
+            count += 1;
             place += 1;
         } else {
             if walked.falls {
@@ -83,6 +84,10 @@ pub fn and_rule(
             }
         }
     }
+    let atoms = Row {
+        token: list,
+        count: count,
+    };
     let level = finish(coefficient, monomial, terms, variables, atoms, walked);
     Found {
         at: place,
@@ -104,7 +109,8 @@ pub fn or_rule(
     ensures { λ r. let t = lentTable (coefficient .entry) (monomial .entry) (terms .entry) variables in ⌜ ((kids : Forest) (rest : List ℕ) → Holds (now (token .entry)) at nesting kids rest → Done t false at nesting kids r) ⌝ }
 {
     let parts = token[at] - NODE;
-    let mut atoms = empty();
+    let mut list = [0u32; 256];
+    let mut count = 0;
     let mut walked = begin();
     let mut place = at + 1;
     let mut i: u32 = 0;
@@ -112,7 +118,8 @@ pub fn or_rule(
         i += 1;
         let part = token[place];
         if part < NODE {
-            atoms = push(atoms, opposite(part));
+            list[count] = opposite(part);
+            count += 1;
             place += 1;
         } else {
             if walked.falls {
@@ -133,6 +140,10 @@ pub fn or_rule(
             }
         }
     }
+    let atoms = Row {
+        token: list,
+        count: count,
+    };
     let level = finish(coefficient, monomial, terms, variables, atoms, walked);
     Found {
         at: place,

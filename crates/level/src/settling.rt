@@ -21,9 +21,9 @@ use crate::walks::Walked;
 
 // The atoms and the OR children of a node between two turns, or its parts when the last turn is over.
 pub struct Stage {
-    pub over: bool,
     pub atoms: Row,
     pub ors: Row,
+    pub over: bool,
 }
 
 // "the node is false": its one part is an OR with no parts.

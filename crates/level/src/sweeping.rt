@@ -6,16 +6,14 @@ ghost use Prim.Native.Nat.{ℕ, _+_, _-_, _≤_};
 ghost use lib.ListN.{length, take, drop};
 ghost use Rattle.rules.specs.Level.{Walk};
 ghost use Rattle.table.specs.Table.{Forms};
-ghost use Rattle.level.specs.Row.{Lists};
+ghost use Rattle.level.specs.Row.{rowOf, Lists};
 ghost use Rattle.round.specs.Views.{lentTable};
 ghost use Rattle.level.specs.Tape.{Children, laid, ChildAt};
 ghost use Rattle.level.specs.Walked.{Stands};
 ghost use Rattle.level.specs.Swept.{Hears, CutIs, PruneIs, EntersPruned, SweepIs};
 use crate::rows::Row;
-use crate::rows::append;
 use crate::rows::atoms_of;
-use crate::rows::empty;
-use crate::rows::push;
+use crate::rows::part;
 use crate::rows::tokens_of;
 use crate::tokens::set_of;
 use crate::tokens::slot_of;
@@ -84,32 +82,40 @@ fn prune(
     sign: &[u8],
     variables: usize,
     state: State,
-    row: Row,
+    row: &[u32],
     from: usize,
     to: usize,
 ) -> Pruned
-    requires { ⌜ Hears (lentTable coefficient monomial terms variables) state (now sign) × ((from ≤ to) × (to ≤ 256)) ⌝ }
-    ensures { λ r. let t = lentTable (coefficient .entry) (monomial .entry) (terms .entry) variables in ⌜ (r .list .count + from ≤ to) × ((l : List ℕ) → Lists row l → to ≤ length l → PruneIs t state (take (to - from) (drop from l)) r) ⌝ }
+    requires { ⌜ Hears (lentTable coefficient monomial terms variables) state (now sign) × ((from ≤ to) × ((to ≤ length (now row)) × (to ≤ 256))) ⌝ }
+    ensures { λ r. let t = lentTable (coefficient .entry) (monomial .entry) (terms .entry) variables in ⌜ (r .list .count + from ≤ to) × ((k : ℕ) (l : List ℕ) → Lists (rowOf (now (row .entry)) k) l → to ≤ length l → PruneIs t state (take (to - from) (drop from l)) r) ⌝ }
 {
-    let mut left = empty();
+    let mut left = [0u32; 256];
+    let mut count = 0;
     let mut i = from;
     while i < to {
-        let token = row.token[i];
+        let token = row[i];
         i += 1;
         let cut = cut_atom(coefficient, monomial, terms, sign, variables, state, token);
         if cut.implied {
             return Pruned {
                 dropped: true,
-                list: left,
+                list: Row {
+                    token: left,
+                    count: count,
+                },
             };
         }
         if !cut.gone {
-            left = push(left, cut.token);
+            left[count] = cut.token;
+            count += 1;
         }
     }
     Pruned {
         dropped: false,
-        list: left,
+        list: Row {
+            token: left,
+            count: count,
+        },
     }
 }
 
@@ -122,13 +128,13 @@ fn enter_pruned(
     variables: usize,
     state: State,
     walked: Walked,
-    row: Row,
+    row: &[u32],
     place: usize,
     atoms: usize,
     tokens: usize,
 ) -> Walked
-    requires { ⌜ Hears (lentTable coefficient monomial terms variables) state (now sign) × ((place + atoms + tokens + 1 ≤ 256) × (walked .new .count + walked .ors .count + atoms + tokens + 1 ≤ 256)) ⌝ }
-    ensures { λ r. let t = lentTable (coefficient .entry) (monomial .entry) (terms .entry) variables in ⌜ ((walk : Walk) (all l : List ℕ) (own : Children) (rest : List ℕ) → Stands t walked walk → Lists row all → ChildAt all place atoms tokens l own rest → EntersPruned t state walked walk l own r) ⌝ }
+    requires { ⌜ Hears (lentTable coefficient monomial terms variables) state (now sign) × ((length (now row) ≡ 256) × ((place + atoms + tokens + 1 ≤ 256) × (walked .new .count + walked .ors .count + atoms + tokens + 1 ≤ 256))) ⌝ }
+    ensures { λ r. let t = lentTable (coefficient .entry) (monomial .entry) (terms .entry) variables in ⌜ ((k : ℕ) (walk : Walk) (all l : List ℕ) (own : Children) (rest : List ℕ) → Stands t walked walk → Lists (rowOf (now (row .entry)) k) all → ChildAt all place atoms tokens l own rest → EntersPruned t state walked walk l own r) ⌝ }
 {
     let inner = place + 1 + atoms;
     let pruned = prune(
@@ -145,8 +151,7 @@ fn enter_pruned(
     if pruned.dropped {
         return walked;
     }
-    let nothing = empty();
-    let ors = append(nothing, row, inner, inner + tokens);
+    let ors = part(row, inner, inner + tokens);
     let list = pruned.list;
     add(
         walked,
@@ -171,10 +176,11 @@ fn walk_over(
     ensures { λ r. let t = lentTable (coefficient .entry) (monomial .entry) (terms .entry) variables in ⌜ ((children : Children) → Lists ors (laid children) → SweepIs t state children r) ⌝ }
 {
     let n = ors.count;
+    let list = ors.token;
     let mut walked = begin();
     let mut place = 0;
     while place < n {
-        let head = ors.token[place];
+        let head = list[place];
         let atoms = atoms_of(head);
         let tokens = tokens_of(head);
         walked = enter_pruned(
@@ -185,7 +191,7 @@ fn walk_over(
             variables,
             state,
             walked,
-            ors,
+            &list,
             place,
             atoms,
             tokens,

@@ -7,13 +7,11 @@ ghost use Prim.Native.Nat.{ℕ, _+_, _*_, _/_, _%_, _<_, _≤_};
 ghost use lib.ListN.{length};
 ghost use Rattle.rules.specs.Signs.{inside};
 ghost use Rattle.table.specs.Table.{Table, Forms, atomsOf};
-ghost use Rattle.level.specs.Row.{Lists};
+ghost use Rattle.level.specs.Row.{rowOf, Lists, Ahead};
 ghost use Rattle.level.specs.Token.{slot, atomsIn};
 ghost use Rattle.round.specs.Views.{lentTable};
-ghost use Rattle.level.specs.Tidied.{truthIf, TruthIs, MergesInto, Merges, WithoutFull, Tidies};
+ghost use Rattle.level.specs.Tidied.{truthIf, TruthIs, keptIn, MergesInto, Merges, WithoutFull, Tidies};
 use crate::rows::Row;
-use crate::rows::empty;
-use crate::rows::push;
 use crate::tokens::set_of;
 use crate::tokens::slot_of;
 use crate::tokens::with_set;
@@ -23,8 +21,8 @@ use terms::sign_of;
 
 // The atoms that step 2 leaves, or that the node is false.
 pub struct Tidied {
-    pub broken: bool,
     pub list: Row,
+    pub broken: bool,
 }
 
 // "A constant polynomial makes its atom true or false"; every other polynomial leaves it open.
@@ -70,85 +68,96 @@ fn if_constant(
     Truth::Open
 }
 
-// An atom into a list that has each polynomial once.
-fn merge_into(row: Row, token: u32) -> Row
-    requires { ⌜ row .count < 256 ⌝ }
-    ensures { λ r. ⌜ (r .count ≤ row .count + 1) × ((t : Table) (l : List ℕ) → Forms t → Lists row l → MergesInto t token l r) ⌝ }
+// An atom into the front of a list, which has each polynomial once. Past the next place nothing changes.
+fn merge_into(list: &mut [u32], count: usize, token: u32) -> usize
+    requires { ⌜ count < length (now list) ⌝ }
+    ensures { λ r. ⌜ (r ≤ count + 1) × (Ahead (now (list .exit)) (now (list .entry)) (count + 1) × ((t : Table) (l : List ℕ) → Forms t → Lists (rowOf (now (list .entry)) count) l → MergesInto t token l (rowOf (now (list .exit)) r))) ⌝ }
 {
-    let n = row.count;
     let number = slot_of(token);
     let mut i = 0;
-    while i < n {
-        let other = row.token[i];
+    while i < count {
+        let other = list[i];
         if slot_of(other) == number {
             let set = set_of(other).intersect(set_of(token));
-            let both = with_set(other, set);
-            let mut merged = row;
-            merged.token[i] = both;
-            return merged;
+            list[i] = with_set(other, set);
+            return count;
         }
         i += 1;
     }
-    push(row, token)
+    list[count] = token;
+    count + 1
 }
 
-fn merge(coefficient: &[i32], monomial: &[u64], terms: &[u8], variables: usize, row: Row) -> Tidied
-    requires { ⌜ Forms (lentTable coefficient monomial terms variables) × (row .count ≤ 256) ⌝ }
-    ensures { λ r. let t = lentTable (coefficient .entry) (monomial .entry) (terms .entry) variables in ⌜ (r .list .count ≤ row .count) × ((l : List ℕ) → Lists row l → Merges t l r) ⌝ }
+// How many tokens are kept, at the front of their list, or that the node is false.
+struct Kept {
+    count: usize,
+    broken: bool,
+}
+
+fn merge(
+    coefficient: &[i32],
+    monomial: &[u64],
+    terms: &[u8],
+    variables: usize,
+    list: &mut [u32],
+    n: usize,
+) -> Kept
+    requires { ⌜ Forms (lentTable coefficient monomial terms variables) × (n ≤ length (now list)) ⌝ }
+    ensures { λ r. let t = lentTable (coefficient .entry) (monomial .entry) (terms .entry) variables in ⌜ (r .count ≤ n) × ((l : List ℕ) → Lists (rowOf (now (list .entry)) n) l → Merges t l (keptIn (now (list .exit)) r)) ⌝ }
 {
-    let n = row.count;
-    let mut merged = empty();
+    let mut count = 0;
     let mut i = 0;
     while i < n {
-        let token = row.token[i];
+        let token = list[i];
         i += 1;
         let constant = if_constant(coefficient, monomial, terms, variables, token);
         match constant {
             Truth::Open => {
-                merged = merge_into(merged, token);
+                count = merge_into(list, count, token);
             }
             Truth::True => {}
             Truth::False => {
-                return Tidied {
+                return Kept {
+                    count: count,
                     broken: true,
-                    list: merged,
                 };
             }
         }
     }
-    Tidied {
+    Kept {
+        count: count,
         broken: false,
-        list: merged,
     }
 }
 
-fn without_full(row: Row) -> Tidied
-    requires { ⌜ row .count ≤ 256 ⌝ }
-    ensures { λ r. ⌜ ((t : Table) (l : List ℕ) → Lists row l → WithoutFull t l r) ⌝ }
+fn without_full(list: &mut [u32], n: usize) -> Kept
+    requires { ⌜ n ≤ length (now list) ⌝ }
+    ensures { λ r. ⌜ ((t : Table) (l : List ℕ) → Lists (rowOf (now (list .entry)) n) l → WithoutFull t l (keptIn (now (list .exit)) r)) ⌝ }
 {
-    let n = row.count;
-    let mut left = empty();
+    let mut count = 0;
     let mut i = 0;
     while i < n {
-        let token = row.token[i];
+        let token = list[i];
         i += 1;
         let set = set_of(token);
         if set.0 == SignSet::EMPTY.0 {
-            return Tidied {
+            return Kept {
+                count: count,
                 broken: true,
-                list: left,
             };
         }
         if set.0 != SignSet::FULL.0 {
-            left = push(left, token);
+            list[count] = token;
+            count += 1;
         }
     }
-    Tidied {
+    Kept {
+        count: count,
         broken: false,
-        list: left,
     }
 }
 
+// The list is copied once, and each part of the step works where it lies.
 pub fn tidy(
     coefficient: &[i32],
     monomial: &[u64],
@@ -159,22 +168,36 @@ pub fn tidy(
     requires { ⌜ Forms (lentTable coefficient monomial terms variables) × (row .count ≤ 256) ⌝ }
     ensures { λ r. let t = lentTable (coefficient .entry) (monomial .entry) (terms .entry) variables in ⌜ ((l : List ℕ) → Lists row l → Tidies t l r) ⌝ }
 {
-    let merged = merge(coefficient, monomial, terms, variables, row);
+    let n = row.count;
+    let mut list = row.token;
+    let merged = merge(coefficient, monomial, terms, variables, &mut list, n);
+    let count = merged.count;
     if merged.broken {
-        return merged;
+        return Tidied {
+            list: Row {
+                token: list,
+                count: count,
+            },
+            broken: true,
+        };
     }
-    let list = merged.list;
-    without_full(list)
+    let left = without_full(&mut list, count);
+    Tidied {
+        list: Row {
+            token: list,
+            count: left.count,
+        },
+        broken: left.broken,
+    }
 }
 
 // ---- the list as the rounds take it
 
 // After step 2 each slot stands at most once, so at most 64 atoms are left.
-pub fn atoms_in(row: Row) -> Atoms
-    requires { ⌜ row .count ≤ 64 ⌝ }
-    ensures { λ r. ⌜ (r .count ≡ row .count) × ((t : Table) (l : List ℕ) → Lists row l → atomsOf t r ≡ atomsIn t l) ⌝ }
+pub fn atoms_in(list: &[u32], n: usize) -> Atoms
+    requires { ⌜ (n ≤ length (now list)) × (n ≤ 64) ⌝ }
+    ensures { λ r. ⌜ (r .count ≡ n) × ((t : Table) (l : List ℕ) → Lists (rowOf (now (list .entry)) n) l → atomsOf t r ≡ atomsIn t l) ⌝ }
 {
-    let n = row.count;
     let mut atoms = Atoms {
         count: n,
         number: [0; 64],
@@ -182,7 +205,7 @@ pub fn atoms_in(row: Row) -> Atoms
     };
     let mut i = 0;
     while i < n {
-        let token = row.token[i];
+        let token = list[i];
         atoms.number[i] = (token / 8 % 64) as u8;
         atoms.set[i] = (token % 8) as u8;
         i += 1;

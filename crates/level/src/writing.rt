@@ -3,33 +3,21 @@
 ghost use mathlib.Core.Path.{_≡_};
 ghost use mathlib.Core.Bool.{Bool};
 ghost use mathlib.Core.List.{List, [], map, _++_};
-ghost use Prim.Native.Nat.{ℕ, _+_, _-_, _≤_};
+ghost use Prim.Native.Nat.{ℕ, _+_, _-_, _<_, _≤_};
 ghost use lib.ListN.{length, take, drop};
 ghost use Rattle.rules.specs.Level.{Formula};
 ghost use Rattle.table.specs.Table.{Table};
-ghost use Rattle.level.specs.Row.{Lists};
+ghost use Rattle.level.specs.Row.{rowOf, Lists};
 ghost use Rattle.level.specs.Tape.{Children, laid};
 ghost use Rattle.level.specs.Walked.{Shows, sizeOf};
 ghost use Rattle.level.specs.Source.{flat};
 ghost use Rattle.level.specs.Written.{told as toldOf, forest, Between, MarksIs, Heads, Tellable, opening, rootOf, TreeIs};
 use crate::rows::Row;
 use crate::rows::atoms_of;
-use crate::rows::empty;
-use crate::rows::push;
 use crate::rows::tokens_of;
 use crate::tokens::NODE;
 use crate::tokens::opposite;
 use crate::walks::Level;
-
-// The kind of a node for each place of a row where one begins: true for AND, false for OR.
-struct Marks {
-    conjunction: [bool; 256],
-}
-
-struct Marked {
-    count: u32,
-    marks: Marks,
-}
 
 // A tree: its root's kind (0 is an atom, 1 is AND, 2 is OR) and its tokens.
 pub struct Tree {
@@ -47,77 +35,71 @@ fn told(token: u32, conjunction: bool) -> u32
     opposite(token) % NODE
 }
 
-// The atoms of a row from one place up to another.
-fn tell_atoms(out: Row, row: Row, from: usize, to: usize, conjunction: bool) -> Row
-    requires { ⌜ (from ≤ to) × ((to ≤ 256) × (out .count + to ≤ 256 + from)) ⌝ }
-    ensures { λ r. ⌜ (r .count + from ≡ out .count + to) × ((l m : List ℕ) → Lists out l → Lists row m → to ≤ length m → Lists r (l ++ map (toldOf conjunction) (take (to - from) (drop from m)))) ⌝ }
+// The atoms from one place of a row up to another, told from a place on.
+fn tell_atoms(out: &mut [u32], n: usize, row: &[u32], from: usize, to: usize, conjunction: bool)
+    requires { ⌜ (from ≤ to) × ((to ≤ length (now row)) × (n + to ≤ length (now out) + from)) ⌝ }
+    ensures { λ r. ⌜ ((k : ℕ) (l m : List ℕ) → Lists (rowOf (now (out .entry)) n) l → Lists (rowOf (now (row .entry)) k) m → to ≤ length m → Lists (rowOf (now (out .exit)) (n + (to - from))) (l ++ map (toldOf conjunction) (take (to - from) (drop from m)))) ⌝ }
 {
-    let mut longer = out;
+    let mut place = n;
     let mut i = from;
     while i < to {
-        let token = told(row.token[i], conjunction);
+        out[place] = told(row[i], conjunction);
+        place += 1;
         i += 1;
-        longer = push(longer, token);
     }
-    longer
 }
 
-// The children between two places are nodes of this kind; how many they are.
-fn mark(row: Row, from: usize, to: usize, conjunction: bool, marks: Marks) -> Marked
-    requires { ⌜ (to ≤ 256) × ((children : Children) × Between row from to children) ⌝ }
-    ensures { λ r. ⌜ (r .count + from ≤ to) × ((children : Children) → Between row from to children → MarksIs from to conjunction (marks .conjunction) children r) ⌝ }
+// The children between two places are nodes of this kind; how many they are. The marks have the kind of a node for each place where one begins: true
+// for AND, false for OR.
+fn mark(row: &[u32], from: usize, to: usize, conjunction: bool, marks: &mut [bool]) -> u32
+    requires { ⌜ (to ≤ 256) × ((to ≤ length (now row)) × ((to ≤ length (now marks)) × ((n : ℕ) × ((children : Children) × Between (rowOf (now row) n) from to children)))) ⌝ }
+    ensures { λ r. ⌜ (r + from ≤ to) × ((n : ℕ) (children : Children) → Between (rowOf (now (row .entry)) n) from to children → MarksIs from to conjunction (now (marks .entry)) children r (now (marks .exit))) ⌝ }
 {
-    let mut marked = marks;
     let mut count: u32 = 0;
     let mut place = from;
     while place < to {
-        let head = row.token[place];
+        let head = row[place];
         let atoms = atoms_of(head);
         let tokens = tokens_of(head);
-        marked.conjunction[place] = conjunction;
+        marks[place] = conjunction;
         count += 1;
         place = place + 1 + atoms + tokens;
     }
-    Marked {
-        count: count,
-        marks: marked,
-    }
+    count
 }
 
-// All children of a row, which are marked with their kind. Each marks its own children with the other kind.
-fn tell_children(out: Row, row: Row, marks: Marks) -> Row
-    requires { ⌜ Tellable out row (marks .conjunction) ⌝ }
-    ensures { λ r. ⌜ ((children : Children) (b : Bool) (l : List ℕ) → Lists row (laid children) → Heads (marks .conjunction) 0 b children → Lists out l → Lists r (l ++ flat (forest b children))) ⌝ }
+// All children of a row, which are marked with their kind, told from a place on; the place after them. Each marks its own children with the other kind.
+fn tell_children(out: &mut [u32], at: usize, row: &[u32], n: usize, marks: &mut [bool]) -> usize
+    requires { ⌜ (length (now out) ≡ 256) × ((length (now row) ≡ 256) × ((length (now marks) ≡ 256) × Tellable (rowOf (now out) at) (rowOf (now row) n) (now marks))) ⌝ }
+    ensures { λ r. ⌜ ((children : Children) (b : Bool) (l : List ℕ) → Lists (rowOf (now (row .entry)) n) (laid children) → Heads (now (marks .entry)) 0 b children → Lists (rowOf (now (out .entry)) at) l → Lists (rowOf (now (out .exit)) r) (l ++ flat (forest b children))) ⌝ }
 {
-    let n = row.count;
-    let mut marked = marks;
-    let mut longer = out;
+    let mut end = at;
     let mut place = 0;
     while place < n {
-        let head = row.token[place];
+        let head = row[place];
         let atoms = atoms_of(head);
         let tokens = tokens_of(head);
         let inner = place + 1 + atoms;
-        let conjunction = marked.conjunction[place];
-        let below = mark(row, inner, inner + tokens, !conjunction, marked);
-        marked = below.marks;
-        let headed = push(longer, NODE + (atoms as u32) + below.count);
-        longer = tell_atoms(headed, row, place + 1, inner, conjunction);
+        let conjunction = marks[place];
+        let below = mark(row, inner, inner + tokens, !conjunction, marks);
+        out[end] = NODE + (atoms as u32) + below;
+        tell_atoms(out, end + 1, row, place + 1, inner, conjunction);
+        end = end + 1 + atoms;
         place = inner;
     }
-    longer
+    end
 }
 
-// "One part: that part." Else the parts stand under a node of their own.
-fn opened(parts: u32) -> Row
-    requires { ⌜ parts ≤ 255 ⌝ }
-    ensures { λ r. ⌜ Lists r (opening parts) × (r .count ≤ 1) ⌝ }
+// "One part: that part." Else the parts stand under a node of their own. The place after its token.
+fn opened(out: &mut [u32], parts: u32) -> usize
+    requires { ⌜ (parts ≤ 255) × (0 < length (now out)) ⌝ }
+    ensures { λ r. ⌜ Lists (rowOf (now (out .exit)) r) (opening parts) × (r ≤ 1) ⌝ }
 {
-    let nothing = empty();
     if parts == 1 {
-        return nothing;
+        return 0;
     }
-    push(nothing, NODE + parts)
+    out[0] = NODE + parts;
+    1
 }
 
 // The kind of the root: a node of this kind, or its one part.
@@ -148,15 +130,19 @@ pub fn tree_of(level: Level, conjunction: bool) -> Tree
     let ors = level.ors;
     let n = atoms.count;
     let end = ors.count;
-    let none = Marks {
-        conjunction: [false; 256],
+    let children = ors.token;
+    let mut marks = [false; 256];
+    let marked = mark(&children, 0, end, !conjunction, &mut marks);
+    let parts = n as u32 + marked;
+    let mut out = [0u32; 256];
+    let place = opened(&mut out, parts);
+    let list = atoms.token;
+    tell_atoms(&mut out, place, &list, 0, n, conjunction);
+    let count = tell_children(&mut out, place + n, &children, end, &mut marks);
+    let tokens = Row {
+        token: out,
+        count: count,
     };
-    let marked = mark(ors, 0, end, !conjunction, none);
-    let parts = n as u32 + marked.count;
-    let out = opened(parts);
-    let with_atoms = tell_atoms(out, atoms, 0, n, conjunction);
-    let marks = marked.marks;
-    let tokens = tell_children(with_atoms, ors, marks);
     Tree {
         root: root_of(n, parts, conjunction),
         tokens: tokens,

@@ -2,16 +2,18 @@
 use mathlib.Core.Path.{_≡_, sym, ap}
 use mathlib.Core.List.{List}
 use Prim.Native.Nat.{ℕ, _<_, _≤_}
-use lib.ListN.{length}
-use Rattle.rules.specs.Block.{Block, Stream, read, readBlock}
+use lib.IntN.{ℤ, pos}
+use lib.ListN.{length, replicate}
+use Rattle.rules.specs.Block.{Block, Stream, refused, read, readBlock}
 use Rattle.rules.specs.Answer.{Answer as BookAnswer, answer}
 use Rattle.block.specs.declared.Held.{Held}
-use Rattle.block.specs.declared.Outcome.{Outcome}
-use Rattle.block.specs.Held.{heldOf, outcomeOf}
+use Rattle.block.specs.declared.Contents.{Contents}
+use Rattle.block.specs.declared.Contents.the-variants.{Refused as NoBlock, Numbers}
+use Rattle.block.specs.Held.{heldBy, heldOf}
+use Rattle.block.specs.Steps.{ContentsOf, ContentsFound}
 use Rattle.lift.specs.declared.Answer.{Answer}
 use Rattle.lift.specs.declared.Answer.the-variants.{Refused}
 use Rattle.lift.specs.Answered.{answerOf, written, answer-short, answer-refused}
-use Rattle.lift.specs.Refusals.{outcome-refused, outcome-read}
 
 -- What is held was read from these bytes, and there is room for as many.
 pub record Accepted (bytes : List ℕ) (held : Held) (room : ℕ) : Type 0 where
@@ -41,16 +43,26 @@ answers-short bytes before h = record {
 }
 
 -- What the reader refuses is refused with its number, and nothing is written.
-pub answers-refused : (bytes before : List ℕ) (outcome : Outcome) → length bytes ≤ length before → outcome ≡ outcomeOf (readBlock bytes) → 0 < outcome .refusal
-    → Answers bytes before before (Refused (outcome .refusal))
+pub answers-refused : (bytes before : List ℕ) {number : ℕ} → length bytes ≤ length before → readBlock bytes ≡ refused number
+    → Answers bytes before before (Refused number)
 unfolding answerOf written
-answers-refused bytes before outcome enough is some =
-    let refused-so = answer-refused (length before) bytes enough (outcome-refused bytes is some) in
+answers-refused bytes before enough is =
+    let refused-so = answer-refused (length before) bytes enough is in
     record { returns = sym (ap answerOf refused-so); output = sym (ap (λ (a : BookAnswer). written a before) refused-so) }
 
--- What the reader accepts is held.
-pub accepted-held : (bytes : List ℕ) (room : ℕ) (outcome : Outcome) → length bytes ≤ room → outcome ≡ outcomeOf (readBlock bytes) → outcome .refusal ≡ 0
-    → Accepted bytes (outcome .held) room
-accepted-held bytes room outcome enough is none =
-    let found = outcome-read bytes is none in
-    record { given = found .given; stream = found .stream; accepted = found .accepted; is = found .held; enough = enough }
+-- ---- what the reader finds
+
+module _ {bytes : List ℕ} {cs : List ℤ} {ms ts token : List ℕ} {contents : Contents}
+    (found : ContentsFound bytes (replicate 1024 (pos 0)) cs (replicate 1024 0) ms (replicate 64 0) ts (replicate 255 0) token contents) where
+  -- A refusal,
+  pub found-refused : {number : ℕ} → contents ≡ NoBlock number → readBlock bytes ≡ refused number
+  unfolding ContentsOf
+  found-refused e = (rw e at found) .found
+
+  -- or what is accepted, held in arrays that were blank.
+  pub found-accepted : {variables polynomials root count : ℕ} (room : ℕ) → contents ≡ Numbers variables polynomials root count → length bytes ≤ room
+      → Accepted bytes (heldBy variables polynomials root count cs ms ts token) room
+  unfolding ContentsOf heldOf
+  found-accepted room e enough =
+      let stored = (rw e at found) .found in
+      record { given = stored .block; stream = stored .rest; accepted = stored .reading; is = stored .stored; enough = enough }

@@ -1,15 +1,12 @@
--- 01, "Refusal numbers": they go from 1 to 15, so the number 0 says that a block was read.
-use mathlib.Core.Path.{_≡_, refl, sym, ap, subst}
+-- 01, "Refusal numbers": they go from 1 to 15, so the number 0 is none of them.
+use mathlib.Core.Path.{_≡_, subst}
 use mathlib.Core.Bool.{Bool, true, false}
 use mathlib.Core.List.{List}
 use Prim.Native.Nat.{ℕ, zero, suc, _<_, _≤_}
-use native.Mathlib.Omega.{arith}
 use lib.Dec.{T, leb, ltb, lit<, lit≤}
 use Rattle.rules.specs.Formula.{Node}
 use Rattle.rules.specs.Block.{NumberedAtom, Block, Stream, Reading, refused, read, require, afterwards, readTerm, readTerms, readPolynomial, readTable, readAtom, readJoin}
 use Rattle.rules.specs.Block.{byKind, readNodeBy, readParts, readNode, readEnd, readBody, readBlock}
-use Rattle.block.specs.declared.Outcome.{Outcome}
-use Rattle.block.specs.Held.{heldOf, outcomeOf}
 
 -- A number of the table.
 pub record Listed (number : ℕ) : Type 0 where
@@ -100,29 +97,3 @@ number-of (was-refused in-table) = in-table
 -- So what is refused is refused with a number of the table.
 pub refused-listed : (bytes : List ℕ) {number : ℕ} → readBlock bytes ≡ refused number → Listed number
 refused-listed bytes e = number-of (subst Numbered e (reading-numbered bytes))
-
--- ---- the reader's outcome
-
--- The reading, by the number that the reader gives: a refusal with that number if it is above 0,
-pub outcome-refused : (bytes : List ℕ) {outcome : Outcome} → outcome ≡ outcomeOf (readBlock bytes) → 0 < outcome .refusal → readBlock bytes ≡ refused (outcome .refusal)
-unfolding outcomeOf
-outcome-refused bytes {outcome} e some = by (readBlock bytes) e
-  where
-    by : (reading : Reading Block) → outcome ≡ outcomeOf reading → reading ≡ refused (outcome .refusal)
-    by (refused number) e = ap refused (sym (ap (λ (o : Outcome). o .refusal) e))
-    by (read block s) e = absurd (omega (arith, ap (λ (o : Outcome). o .refusal) e))
-
--- and a block, whose arrays are held, if it is 0.
-pub record WasRead (bytes : List ℕ) (outcome : Outcome) : Type 0 where
-  pub given : Block
-  pub stream : Stream
-  pub accepted : readBlock bytes ≡ read given stream
-  pub held : outcome .held ≡ heldOf given
-
-pub outcome-read : (bytes : List ℕ) {outcome : Outcome} → outcome ≡ outcomeOf (readBlock bytes) → outcome .refusal ≡ 0 → WasRead bytes outcome
-unfolding outcomeOf
-outcome-read bytes {outcome} e none = by (readBlock bytes) refl e
-  where
-    by : (reading : Reading Block) → readBlock bytes ≡ reading → outcome ≡ outcomeOf reading → WasRead bytes outcome
-    by (refused number) r e = absurd (omega (arith, refused-listed bytes r .from-one, ap (λ (o : Outcome). o .refusal) e))
-    by (read block s) r e = record { given = block; stream = s; accepted = r; held = ap (λ (o : Outcome). o .held) e }

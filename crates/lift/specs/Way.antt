@@ -5,7 +5,8 @@ use mathlib.Core.List.{List, [], _∷_, _++_, map}
 use Prim.Native.Nat.{ℕ, zero, suc, _≤_}
 use native.Mathlib.Nat.{zero-add}
 use native.Mathlib.Omega.{arith}
-use lib.ListN.{length, take, drop, length-map, length-replicate}
+use lib.IntN.{ℤ}
+use lib.ListN.{length, take, drop, replicate, length-map, length-replicate}
 use lib.Seq.{sets, sets-eq, length-sets, take-at}
 use Rattle.rules.specs.Polynomial.{Atom}
 use Rattle.rules.specs.Formula.{Node, eachAtomOf, alone, atoms, nodes}
@@ -18,7 +19,8 @@ use Rattle.block_laws.specs.Blocks.{accepted-within}
 use Rattle.block_laws.specs.Sizes.{length-block}
 use Rattle.block.specs.declared.Held.{Held}
 use Rattle.block.specs.Held as reader
-use Rattle.block.specs.Held.{heldOf}
+use Rattle.block.specs.Held.{heldBy, heldOver, heldOf}
+use Rattle.block.specs.Steps.{BlockRoom}
 use Rattle.block.specs.Written.{Writable}
 use Rattle.forms.specs.declared.WorkingTable.{WorkingTable}
 use Rattle.forms.specs.Working.{TableRead, tableOf, Worked}
@@ -55,6 +57,20 @@ module _ {bytes : List ℕ} {held : Held} {room : ℕ} (accepted : Accepted byte
   pub asks-table : TableRead (held .coefficient) (held .monomial) (held .terms) (held .polynomials) (held .variables)
   asks-table = subst (λ (h : Held). TableRead (h .coefficient) (h .monomial) (h .terms) (h .polynomials) (h .variables)) (sym (accepted .is))
       (held-table-read (accepted .given) within)
+
+  -- The arrays are as long as the reader's,
+  pub tape-long : length (held .token) ≡ 255
+  unfolding heldOf
+  tape-long = ap (λ (h : Held). length (h .token)) (accepted .is) ∙ length-sets (replicate 255 0) 0 (reader.tokens (alone (accepted .given .tree))) ∙ length-replicate {A = ℕ} 255 0
+
+  -- and there is room for another block in them.
+  pub asks-room : (token : List ℕ) → length token ≡ length (held .token) → BlockRoom (held .coefficient) (held .monomial) (held .terms) token
+  asks-room token same = record {
+    coefficients = omega (arith, asks-table .coefficients);
+    monomials = omega (arith, asks-table .monomials);
+    counts = omega (arith, asks-table .counts);
+    tokens = omega (arith, tape-long, same);
+  }
 
   -- The tape has as many tokens as are counted.
   pub counts-tokens : held .tokens ≤ length (held .token)
@@ -140,17 +156,28 @@ module _ {bytes : List ℕ} (before : List ℕ) {held : Held} (accepted : Accept
   unfolding heldOf
   same-variables = ap (λ (h : Held). h .variables) (accepted .is)
 
-  -- What is collected are the arrays of the new block,
-  pub collects : (new : Held) → new ≡ heldOf (blockOf (held .variables) (eachAtomOf (inSlot (tableOf (held .variables) w)) (simplerTree prepared r simpler)))
-      → new ≡ heldOf (newBlock (accepted .given))
+  -- The new block, stored over the arrays that held the given one.
+  abbrev pub newHeld : Held
+  newHeld = heldOver (held .coefficient) (held .monomial) (held .terms) token (newBlock (accepted .given))
+
+  -- This is what is collected,
+  pub collects : {m : ℕ} {cs : List ℤ} {ms ts tape : List ℕ}
+      → heldBy (held .variables) m (reader.kindOf (simplerTree prepared r simpler)) (r .tokens .count) cs ms ts tape
+      ≡ heldOver (held .coefficient) (held .monomial) (held .terms) token
+      (blockOf (held .variables) (eachAtomOf (inSlot (tableOf (held .variables) w)) (simplerTree prepared r simpler)))
+      → heldBy (held .variables) m (r .root) (r .tokens .count) cs ms ts tape ≡ newHeld
   unfolding newBlock
-  collects new is = is ∙ ap₂ (λ (n : ℕ) (tree : Node Atom). heldOf (blockOf n tree)) same-variables (simpler-is prepared r simpler)
+  collects {m} {cs} {ms} {ts} {tape} is =
+      ap (λ (kind : ℕ). heldBy (held .variables) m kind (r .tokens .count) cs ms ts tape) (sym (simpler-kind prepared r simpler)) ∙ is
+      ∙ ap₂ (λ (n : ℕ) (tree : Node Atom). heldOver (held .coefficient) (held .monomial) (held .terms) token (blockOf n tree)) same-variables (simpler-is prepared r simpler)
 
   -- which can be written.
-  pub writes : (new : Held) → new ≡ heldOf (newBlock (accepted .given)) → Writable new (length before) (newBlock (accepted .given))
-  writes new is =
+  pub writes : (new : Held) → new ≡ newHeld → length token ≡ length (held .token) → Writable new (length before) (newBlock (accepted .given))
+  writes new is same =
+      let table = asks-table accepted in
       subst (λ (h : Held). Writable h (length before) (newBlock (accepted .given))) (sym is)
-      (writable (newBlock (accepted .given)) (new-writable bytes (accepted .accepted)) (length before)
+      (writable (newBlock (accepted .given)) (new-writable bytes (accepted .accepted)) (held .coefficient) (held .monomial) (held .terms) token
+      (table .coefficients) (table .monomials) (table .counts) (same ∙ tape-long accepted) (length before)
       (omega (arith, new-room bytes (accepted .accepted), accepted .enough)))
 
   new-atoms : atoms (alone (simplerTree prepared r simpler)) ≡ atoms (alone (newBlock (accepted .given) .tree))
@@ -161,7 +188,7 @@ module _ {bytes : List ℕ} (before : List ℕ) {held : Held} (accepted : Accept
       ∙ sym (atoms-same (numbered (used [] (alone (simplified (accepted .given))))) (simplified (accepted .given)))
 
   -- So what is returned and written is the book's answer.
-  pub answers : (new : Held) → new ≡ heldOf (newBlock (accepted .given)) → (after : List ℕ) (atoms-in atoms-out size : ℕ) (verdict : Verdict)
+  pub answers : (new : Held) → new ≡ newHeld → (after : List ℕ) (atoms-in atoms-out size : ℕ) (verdict : Verdict)
       → size ≡ blockLength (newBlock (accepted .given)) → after ≡ sets before 0 (writeBlock (newBlock (accepted .given)))
       → atoms-in ≡ atoms (alone (prepared .tree)) → atoms-out ≡ atoms (alone (simplerTree prepared r simpler)) → verdict ≡ verdictFrom (new .root) (new .tokens)
       → Answers bytes before after (Answered verdict size (record {

@@ -6,16 +6,16 @@ use native.Mathlib.Nat.{zero-add, add-zero}
 use native.Mathlib.Numerals.{add-one}
 use native.Mathlib.Omega.{arith}
 use lib.IntN.{ℤ}
-use lib.ListN.{length, getD, drop, replicate, length-drop, length-replicate}
+use lib.ListN.{length, getD, drop, length-drop}
 use lib.Seq.{sets, sets-eq, getD-drop, drop-drop, drop-at}
 use Rattle.rules.specs.Polynomial.{Polynomial}
 use Rattle.rules.specs.Formula.{Parts, end, atom, and, or, Node, leaf, allOf, anyOf, alone, children, nodes, open-formula}
 use Rattle.rules.specs.Block.{NumberedAtom, Block, blockLength}
 use Rattle.rules.specs.Limits.{PartsWithin, BlockWithin}
 use Rattle.terms.specs.View.{termAt, termsFrom}
-use Rattle.block.specs.Held.{tokens, kindOf, heldOf}
+use Rattle.block.specs.Held.{tokens, kindOf, heldOver}
 use Rattle.block.specs.Written.{termsAt, tableAt, PartsHeld, Holds, Writable}
-use Rattle.array_laws.specs.Arrays.{held-table}
+use Rattle.array_laws.specs.Arrays.{table-fits, arrays-hold}
 use Rattle.lift.specs.Normal.{length-tokens}
 
 -- ---- the table
@@ -115,19 +115,20 @@ module _ (block : Block) (within : BlockWithin block) where
       rw (zero-add (length (tokens (alone (block .tree))))) at
       (sets-eq (tokens (alone (block .tree))) zeros 0 (omega (arith, length-tokens (alone (block .tree)), within .nodes, long)))
 
-  -- The arrays of a block within the limits hold it,
-  pub arrays-hold : Holds (heldOf block) block
-  unfolding heldOf
-  arrays-hold = record {
-    variables = refl;
-    polynomials = refl;
-    tokens = refl;
-    table = table-there (heldOf block .coefficient) (heldOf block .monomial) (heldOf block .terms) (block .table) 0
-        (λ j h. rw (zero-add j) (held-table block within .each j h));
-    tree = tree-there (heldOf block .token) (length (block .table)) (block .tree) (drop (length (tokens (alone (block .tree)))) (replicate 255 0))
-        (within .polynomials) (within .tree) (tape-starts (replicate 255 0) (length-replicate {A = ℕ} 255 0));
-  }
+  module _ (cs : List ℤ) (ms ts token : List ℕ) (coefficients : length cs ≡ 1024) (monomials : length ms ≡ 1024) (counts : length ts ≡ 64) (tape : length token ≡ 255) where
+    -- The arrays that a block within the limits is stored over hold it,
+    pub stored-holds : Holds (heldOver cs ms ts token block) block
+    stored-holds = record {
+      variables = refl;
+      polynomials = refl;
+      tokens = refl;
+      table = table-there (heldOver cs ms ts token block .coefficient) (heldOver cs ms ts token block .monomial) (heldOver cs ms ts token block .terms) (block .table) 0
+          (λ j h. rw (zero-add j)
+          (arrays-hold (block .table) (table-fits (within .table)) (within .polynomials) cs ms ts coefficients monomials counts .each j h));
+      tree = tree-there (heldOver cs ms ts token block .token) (length (block .table)) (block .tree) (drop (length (tokens (alone (block .tree)))) token)
+          (within .polynomials) (within .tree) (tape-starts token tape);
+    }
 
-  -- so that it can be written where there is room for it.
-  pub writable : (size : ℕ) → blockLength block ≤ size → Writable (heldOf block) size block
-  writable size room = record { holds = arrays-hold; within = within; room = room }
+    -- so that it can be written where there is room for it.
+    pub writable : (size : ℕ) → blockLength block ≤ size → Writable (heldOver cs ms ts token block) size block
+    writable size room = record { holds = stored-holds; within = within; room = room }

@@ -9,6 +9,7 @@ ghost use denote.Ref.{ptr};
 ghost use Rattle.rules.specs.Block.{readBlock};
 ghost use Rattle.rules.specs.Answer.{answer};
 ghost use Rattle.rules.specs.Demands.{SameLifts, NeverLonger};
+ghost use Rattle.block.specs.Held.{heldBy};
 ghost use Rattle.lift.specs.Tapes.{plainTokens};
 ghost use Rattle.lift.specs.Answered.{verdictFrom, lengthIn};
 ghost use Rattle.lift.specs.Entry.{Accepted, AcceptedSome, Answers};
@@ -17,11 +18,11 @@ ghost use Rattle.lift.specs.Part.{filledPart, isRefusal};
 mod exported; // the entries for C
 mod telling; // the program's lines
 
-use block::Held;
-use block::read;
+use block::Contents;
+use block::read_into;
 use block::write;
 use forms::normal_tokens;
-use forms::working;
+use forms::work;
 pub use telling::report;
 use used::atoms;
 use used::collect;
@@ -82,32 +83,48 @@ fn plain_tokens(token: &mut [u32], count: usize)
     }
 }
 
-// The answer to what was read.
-fn answer_to(given: Held, output: &mut [u8]) -> Answer
-    requires { ⌜ AcceptedSome given (length (now output)) ⌝ }
-    ensures { λ r. ⌜ ((bytes : List ℕ) → Accepted bytes given (length (now (output .entry))) → Answers bytes (now (output .entry)) (now (output .exit)) r) ⌝ }
+// The answer to what was read. The arrays that hold it are filled anew with what is written.
+fn answer_to(
+    variables: usize,
+    polynomials: usize,
+    root: u8,
+    count: usize,
+    coefficient: &mut [i32],
+    monomial: &mut [u64],
+    terms: &mut [u8],
+    token: &mut [u32],
+    output: &mut [u8],
+) -> Answer
+    requires { ⌜ AcceptedSome (heldBy variables polynomials root count (now coefficient) (now monomial) (now terms) (now token)) (length (now output)) ⌝ }
+    ensures { λ r. ⌜ ((bytes : List ℕ)
+        → Accepted bytes (heldBy variables polynomials root count (now (coefficient .entry)) (now (monomial .entry)) (now (terms .entry)) (now (token .entry)))
+        (length (now (output .entry))) → Answers bytes (now (output .entry)) (now (output .exit)) r) ⌝ }
 {
-    let variables = given.variables;
-    let polynomials = given.polynomials;
-    let root = given.root;
-    let count = given.tokens;
-    let coefficient = given.coefficient;
-    let monomial = given.monomial;
-    let terms = given.terms;
-    let mut token = given.token;
-    let table = working(&coefficient, &monomial, &terms, polynomials, variables);
-    let number = table.number;
-    let turned = table.turned;
-    normal_tokens(&mut token, count, &number, &turned);
-    let form_coefficient = table.coefficient;
-    let form_monomial = table.monomial;
-    let form_terms = table.terms;
+    let mut form_coefficient = [0i32; 1280];
+    let mut form_monomial = [0u64; 1280];
+    let mut form_terms = [0u8; 80];
+    let mut number = [0u8; 64];
+    let mut turned = [false; 64];
+    work(
+        coefficient,
+        monomial,
+        terms,
+        polynomials,
+        variables,
+        &mut form_coefficient,
+        &mut form_monomial,
+        &mut form_terms,
+        &mut number,
+        &mut turned,
+    );
+    normal_tokens(token, count, &number, &turned);
+    let atoms_in = atoms(token, count);
     let tree = level::simplified(
         &form_coefficient,
         &form_monomial,
         &form_terms,
         variables,
-        &token,
+        token,
         root,
     );
     let new_root = tree.root;
@@ -115,25 +132,37 @@ fn answer_to(given: Held, output: &mut [u8]) -> Answer
     let new_count = row.count;
     let mut tape = row.token;
     plain_tokens(&mut tape, new_count);
-    let atoms_in = atoms(&token, count);
     let atoms_out = atoms(&tape, new_count);
-    let new = collect(
+    let new_polynomials = collect(
         &form_coefficient,
         &form_monomial,
         &form_terms,
         variables,
-        new_root,
         &tape,
         new_count,
+        coefficient,
+        monomial,
+        terms,
+        token,
     );
-    let verdict = verdict_of(new.root, new.tokens);
+    let verdict = verdict_of(new_root, new_count);
     let counts = Counts {
         atoms_in: atoms_in,
         atoms_out: atoms_out,
         polynomials_in: polynomials,
-        polynomials_out: new.polynomials,
+        polynomials_out: new_polynomials,
     };
-    let length = write(new, output);
+    let length = write(
+        variables,
+        new_polynomials,
+        new_root,
+        new_count,
+        coefficient,
+        monomial,
+        terms,
+        token,
+        output,
+    );
     Answer::Answered {
         verdict: verdict,
         length: length,
@@ -150,13 +179,36 @@ pub fn simplify(input: &[u8], output: &mut [u8]) -> Answer
     if output.len() < input.len() {
         return Answer::Refused(1);
     }
-    let outcome = read(input);
-    let number = outcome.refusal;
-    if number > 0 {
-        return Answer::Refused(number);
+    let mut coefficient = [0i32; 1024];
+    let mut monomial = [0u64; 1024];
+    let mut terms = [0u8; 64];
+    let mut token = [0u32; 255];
+    let contents = read_into(
+        input,
+        &mut coefficient,
+        &mut monomial,
+        &mut terms,
+        &mut token,
+    );
+    match contents {
+        Contents::Refused(number) => Answer::Refused(number),
+        Contents::Numbers {
+            variables,
+            polynomials,
+            root,
+            tokens,
+        } => answer_to(
+            variables,
+            polynomials,
+            root,
+            tokens,
+            &mut coefficient,
+            &mut monomial,
+            &mut terms,
+            &mut token,
+            output,
+        ),
     }
-    let held = outcome.held;
-    answer_to(held, output)
 }
 
 // "A refusal returns its number and length 0"; an answer has its length.

@@ -1,6 +1,6 @@
 -- Laws about the atoms of a list walked one at a time, from the one at i on: what a step does to what is folded over them.
 -- The rest of a list is its next atom and the rest after that; the slots that are signed, likewise.
-use mathlib.Core.Path.{_≡_, refl, sym, _∙_, ap}
+use mathlib.Core.Path.{_≡_, refl, sym, _∙_, ap, subst}
 use mathlib.Core.Bool.{true}
 use mathlib.Core.List.{List, [], _∷_, _++_, append-assoc}
 use Prim.Native.Nat.{ℕ, zero, suc, _+_, _-_, _*_, _%_, _<_, _≤_}
@@ -11,6 +11,8 @@ use borrow.Author.Count.{below-more}
 use lib.ListN.{length, getD, set}
 use lib.Seq.{getD-set-same, getD-set-other}
 use Rattle.sign_laws.specs.Booleans.{and-false, or-true}
+use Rattle.sign_laws.specs.Sets.{PartOf}
+use Rattle.ending_laws.specs.Cuts.{cut-floor}
 use Rattle.ending_laws.specs.AtOnce.{empty-after-some}
 use Rattle.rules.specs.Signs.{SignSet, only, has, bit, setOf, intersect}
 use Rattle.rules.specs.Polynomial.{Polynomial, Atom, Board, byTerms}
@@ -112,6 +114,14 @@ module _ (t : Table) (numbers : List ℕ) (sets : List SignSet) where
 pub cut-empty : (board : Board) (p : Polynomial) (qs : List Atom) (s : SignSet) → s ≡ 0 → cutBy board p qs s ≡ 0
 unfolding cutBy
 cut-empty board p qs s e = empty-after-some board p [] qs s e
+
+-- A set that has come to a floor, a part of what all atoms leave, is what they leave.
+pub cut-to-floor : (board : Board) (p : Polynomial) (qs : List Atom) {sofar floor all : SignSet} → sofar ≡ floor → floor < 8
+    → cutBy board p qs sofar ≡ all → PartOf floor all → sofar ≡ all
+cut-to-floor board p qs {sofar} {floor} e low is part =
+    let left : PartOf sofar (cutBy board p qs sofar) =
+    subst (λ (s : SignSet). PartOf s (cutBy board p qs sofar)) (sym e) (subst (PartOf floor) (sym is) part) in
+    sym (cut-floor board p qs sofar (rw e low) left) ∙ is
 
 -- the deductions from two lists, one after the other
 pub cut-append : (board : Board) (p : Polynomial) (xs ys : List Atom) (s : SignSet) → cutBy board p (xs ++ ys) s ≡ cutBy board p ys (cutBy board p xs s)

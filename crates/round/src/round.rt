@@ -4,6 +4,7 @@ ghost use mathlib.Core.Path.{_≡_};
 ghost use mathlib.Core.List.{[]};
 ghost use Prim.Native.Nat.{_+_, _-_, _<_, _≤_};
 ghost use Rattle.rules.specs.Rounds.{cutBy, turn as turnOf, cutAtoms};
+ghost use Rattle.sign_laws.specs.Sets.{PartOf};
 ghost use Rattle.terms.specs.View.{setsOf};
 ghost use Rattle.table.specs.Table.{Forms, formAt, atomsFrom, atomsOf, many as manyOf};
 ghost use Rattle.round.specs.Views.{lentTable, cutSet};
@@ -21,9 +22,9 @@ use table::Atoms;
 use terms::Board;
 use terms::by_terms;
 
-// The set of the polynomial in slot p, cut by its deductions from the atoms from..to. An empty set stays empty, and an empty set
-// on the board empties it at the first atom.
-pub fn cut_by(
+// The set of the polynomial in slot p, cut by its deductions from the atoms from..to, where it is known that a floor is left of it: the deductions end
+// where no more than that is left. An empty set on the board empties it at the first atom.
+pub fn cut_down(
     coefficient: &[i32],
     monomial: &[u64],
     terms: &[u8],
@@ -34,11 +35,14 @@ pub fn cut_by(
     to: usize,
     p: usize,
     set: SignSet,
+    floor: SignSet,
 ) -> SignSet
     requires { let t = lentTable coefficient monomial terms (board .variables) in
         ⌜ Ready t (setsOf board) atoms (now sign) ⌝ }
     requires { let t = lentTable coefficient monomial terms (board .variables) in
         ⌜ (to ≤ manyOf (atoms .count)) × ((p < 80) × SignedSlot t (setsOf board) (now sign) p) ⌝ }
+    requires { let t = lentTable coefficient monomial terms (board .variables) in
+        ⌜ (floor .0 < 8) × PartOf (floor .0) (cutBy (setsOf board) (formAt t p) (atomsFrom t (atoms .number) (atoms .set) from (to - from)) (set .0)) ⌝ }
     ensures { λ r.
         let t = lentTable (coefficient .entry) (monomial .entry) (terms .entry) (board .variables) in
         ⌜ r .0 ≡ cutBy (setsOf board) (formAt t p) (atomsFrom t (atoms .number) (atoms .set) from (to - from)) (set .0) ⌝ }
@@ -59,11 +63,47 @@ pub fn cut_by(
         let k = (number % 64) as usize;
         let q = places(terms, k);
         sofar = sofar.intersect(deduce_from(coefficient, monomial, sign, run, q, SignSet(held)));
-        if sofar.0 == 0 {
-            return SignSet::EMPTY;
+        if sofar.0 == floor.0 {
+            return sofar;
         }
     }
     sofar
+}
+
+// The same where nothing is known to be left.
+pub fn cut_by(
+    coefficient: &[i32],
+    monomial: &[u64],
+    terms: &[u8],
+    sign: &[u8],
+    board: Board,
+    atoms: Atoms,
+    from: usize,
+    to: usize,
+    p: usize,
+    set: SignSet,
+) -> SignSet
+    requires { let t = lentTable coefficient monomial terms (board .variables) in
+        ⌜ Ready t (setsOf board) atoms (now sign) ⌝ }
+    requires { let t = lentTable coefficient monomial terms (board .variables) in
+        ⌜ (to ≤ manyOf (atoms .count)) × ((p < 80) × SignedSlot t (setsOf board) (now sign) p) ⌝ }
+    ensures { λ r.
+        let t = lentTable (coefficient .entry) (monomial .entry) (terms .entry) (board .variables) in
+        ⌜ r .0 ≡ cutBy (setsOf board) (formAt t p) (atomsFrom t (atoms .number) (atoms .set) from (to - from)) (set .0) ⌝ }
+{
+    cut_down(
+        coefficient,
+        monomial,
+        terms,
+        sign,
+        board,
+        atoms,
+        from,
+        to,
+        p,
+        set,
+        SignSet::EMPTY,
+    )
 }
 
 // Variable i's turn, by value. A turn that leaves the variable's set as it was leaves the signs too.

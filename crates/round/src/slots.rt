@@ -3,8 +3,9 @@
 ghost use mathlib.Core.Path.{_≡_};
 ghost use Prim.Native.Nat.{_+_, _*_, _<_, _≤_};
 ghost use lib.ListN.{length, getD};
-ghost use Rattle.rules.specs.Polynomial.{which as whichOf};
+ghost use Rattle.rules.specs.Polynomial.{which as whichOf, Board as BookBoard};
 ghost use Rattle.terms.specs.View.{setsOf};
+ghost use Rattle.terms.specs.Masks.{MasksOf};
 ghost use Rattle.table.specs.Table.{Forms, formAt, many as manyOf};
 ghost use Rattle.round.specs.Views.{lentTable, variableOf, Below};
 ghost use Rattle.round.specs.Signing.{Slots, variableSlot, atomSlot, signedSlot, signedSlots, signedList};
@@ -12,7 +13,9 @@ use crate::list::many;
 use deduce::Run;
 use table::Atoms;
 use terms::Board;
-use terms::sign_terms;
+use terms::masks::Masks;
+use terms::masks::masks_of;
+use terms::sign_by;
 
 // What a slot was found to hold.
 pub enum Holds {
@@ -66,40 +69,50 @@ pub fn which(
 
 // ---- the signs of the slots that a round reads
 
+// Slot k, for the board that the masks are of: masks are made once for all slots of a list.
+fn slot_by(masks: Masks, monomial: &[u64], terms: &[u8], sign: &mut [u8], k: usize)
+    requires { ⌜ Slots (now monomial) (now terms) (now sign) × (k < 80) ⌝ }
+    ensures { λ r.
+        ⌜ ((board : BookBoard) → MasksOf board masks →
+        now (sign .exit) ≡ signedSlot board (now (monomial .entry)) (now (terms .entry)) (now (sign .entry)) k) ⌝ }
+{
+    let run = places(terms, k);
+    sign_by(masks, monomial, sign, run.from, run.to);
+}
+
 pub fn sign_slot(board: Board, monomial: &[u64], terms: &[u8], sign: &mut [u8], k: usize)
     requires { ⌜ Slots (now monomial) (now terms) (now sign) × (k < 80) ⌝ }
     ensures { λ r. ⌜ now (sign .exit) ≡ signedSlot (setsOf board) (now (monomial .entry)) (now (terms .entry)) (now (sign .entry)) k ⌝ }
 {
-    let run = places(terms, k);
-    sign_terms(board, monomial, sign, run.from, run.to);
+    slot_by(masks_of(board), monomial, terms, sign, k);
 }
 
-fn sign_variables(board: Board, monomial: &[u64], terms: &[u8], sign: &mut [u8])
-    requires { ⌜ Slots (now monomial) (now terms) (now sign) × (board .variables ≤ 16) ⌝ }
+fn sign_variables(masks: Masks, variables: usize, monomial: &[u64], terms: &[u8], sign: &mut [u8])
+    requires { ⌜ Slots (now monomial) (now terms) (now sign) × (variables ≤ 16) ⌝ }
     ensures { λ r.
-        ⌜ now (sign .exit) ≡
-        signedSlots (setsOf board) (now (monomial .entry)) (now (terms .entry)) variableSlot (now (sign .entry)) 0 (board .variables) ⌝ }
+        ⌜ ((board : BookBoard) → MasksOf board masks →
+        now (sign .exit) ≡ signedSlots board (now (monomial .entry)) (now (terms .entry)) variableSlot (now (sign .entry)) 0 variables) ⌝ }
 {
-    let n = board.variables;
     let mut i = 0;
-    while i < n {
-        sign_slot(board, monomial, terms, sign, 64 + i);
+    while i < variables {
+        slot_by(masks, monomial, terms, sign, 64 + i);
         i += 1;
     }
 }
 
-fn sign_atoms(board: Board, monomial: &[u64], terms: &[u8], atoms: Atoms, sign: &mut [u8])
+fn sign_atoms(masks: Masks, monomial: &[u64], terms: &[u8], atoms: Atoms, sign: &mut [u8])
     requires { ⌜ Slots (now monomial) (now terms) (now sign) ⌝ }
     ensures { λ r.
-        ⌜ now (sign .exit) ≡
-        signedSlots (setsOf board) (now (monomial .entry)) (now (terms .entry)) (atomSlot (atoms .number)) (now (sign .entry)) 0 (manyOf (atoms .count)) ⌝ }
+        ⌜ ((board : BookBoard) → MasksOf board masks →
+        now (sign .exit) ≡
+        signedSlots board (now (monomial .entry)) (now (terms .entry)) (atomSlot (atoms .number)) (now (sign .entry)) 0 (manyOf (atoms .count))) ⌝ }
 {
     let n = many(atoms.count);
     let mut i = 0;
     while i < n {
         let number = atoms.number[i];
         let k = (number % 64) as usize;
-        sign_slot(board, monomial, terms, sign, k);
+        slot_by(masks, monomial, terms, sign, k);
         i += 1;
     }
 }
@@ -109,6 +122,7 @@ pub fn sign_list(board: Board, monomial: &[u64], terms: &[u8], atoms: Atoms, sig
     requires { ⌜ Slots (now monomial) (now terms) (now sign) × (board .variables ≤ 16) ⌝ }
     ensures { λ r. ⌜ now (sign .exit) ≡ signedList board (now (monomial .entry)) (now (terms .entry)) atoms (now (sign .entry)) ⌝ }
 {
-    sign_variables(board, monomial, terms, sign);
-    sign_atoms(board, monomial, terms, atoms, sign);
+    let masks = masks_of(board);
+    sign_variables(masks, board.variables, monomial, terms, sign);
+    sign_atoms(masks, monomial, terms, atoms, sign);
 }

@@ -8,7 +8,7 @@ use lib.Dec.{eqb}
 use borrow.Author.Tests.{eqb-true}
 use Rattle.rules.specs.Signs.{Sign, negative, nought, positive, SignSet, empty, full, only, has, bit, setOf, someSign, allSigns, productOfSigns, square}
 use Rattle.rules.specs.Signs.{complement, mirrorOfSign, mirror, intersect, inside}
-use Rattle.sign_laws.specs.Booleans.{and-intro, and-first, and-second, or-first, or-second, or-cases, never-true}
+use Rattle.sign_laws.specs.Booleans.{both-ways, and-intro, and-first, and-second, or-first, or-second, or-cases, never-true}
 
 -- The sign is in the set.
 infix 4 _In_
@@ -149,6 +149,14 @@ part-refl a = record { each = λ x h. h }
 -- A part of a part is a part.
 pub part-trans : {a b c : SignSet} → PartOf c b → PartOf b a → PartOf c a
 part-trans p q = record { each = λ x h. q .each x (p .each x h) }
+
+-- Two sets below 8 that are parts of each other are equal.
+pub parts-equal : {a b : SignSet} → a < 8 → b < 8 → PartOf a b → PartOf b a → a ≡ b
+unfolding setOf
+parts-equal {a} {b} h k p q = sym (setOf-has a h) ∙ rw (same negative, same nought, same positive) (setOf-has b k)
+  where
+    same : (x : Sign) → has x a ≡ has x b
+    same x = both-ways (has x a) (has x b) (λ e. p .each x (record { is = e }) .is) (λ e. q .each x (record { is = e }) .is)
 
 -- An intersection is a part of the first set.
 pub intersect-first : (a b : SignSet) → PartOf (intersect a b) a

@@ -4,13 +4,15 @@ ghost use mathlib.Core.Path.{_≡_};
 ghost use Prim.Native.Nat.{_≤_};
 ghost use lib.ListN.{length};
 ghost use Rattle.rules.specs.Signs.{only, signOf};
-ghost use Rattle.rules.specs.Polynomial.{monomialSign};
+ghost use Rattle.rules.specs.Polynomial.{monomialSign, Board as BookBoard};
 ghost use Rattle.terms.specs.View.{few as fewOf, setsOf};
+ghost use Rattle.terms.specs.Masks.{MasksOf};
 ghost use Rattle.terms.specs.Signed.{signed, bySigns};
+use crate::masks::Masks;
 use crate::masks::masks_of;
 use signs::SignSet;
 
-mod masks; // the sign of a monomial from four masks of the board
+pub mod masks; // the sign of a monomial from four masks of the board
 
 // The sign sets of the variables, in order; a count above sixteen counts as sixteen.
 pub struct Board {
@@ -32,18 +34,26 @@ pub fn monomial_sign(b: Board, m: u64) -> SignSet
     masks_of(b).sign(m)
 }
 
-// Works out the signs at the places from..to, once for a board: its masks are made once, and serve every place.
-pub fn sign_terms(b: Board, monomial: &[u64], sign: &mut [u8], from: usize, to: usize)
+// Works out the signs at the places from..to for the board that the masks are of. A caller that has several runs makes the masks once for all.
+pub fn sign_by(masks: Masks, monomial: &[u64], sign: &mut [u8], from: usize, to: usize)
     requires { ⌜ (to ≤ length (now monomial)) × (to ≤ length (now sign)) ⌝ }
-    ensures { λ r. ⌜ now (sign .exit) ≡ signed (setsOf b) (now (monomial .entry)) (now (sign .entry)) from to ⌝ }
+    ensures { λ r.
+        ⌜ ((board : BookBoard) → MasksOf board masks → now (sign .exit) ≡ signed board (now (monomial .entry)) (now (sign .entry)) from to) ⌝ }
 {
-    let masks = masks_of(b);
     let mut i = from;
     while i < to {
         let s = masks.sign(monomial[i]);
         sign[i] = s.0;
         i += 1;
     }
+}
+
+// Works out the signs at the places from..to, once for a board: its masks are made once, and serve every place.
+pub fn sign_terms(b: Board, monomial: &[u64], sign: &mut [u8], from: usize, to: usize)
+    requires { ⌜ (to ≤ length (now monomial)) × (to ≤ length (now sign)) ⌝ }
+    ensures { λ r. ⌜ now (sign .exit) ≡ signed (setsOf b) (now (monomial .entry)) (now (sign .entry)) from to ⌝ }
+{
+    sign_by(masks_of(b), monomial, sign, from, to);
 }
 
 // The sign of a coefficient.

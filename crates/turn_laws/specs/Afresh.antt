@@ -14,8 +14,8 @@ use Rattle.rules.specs.Rounds.{turn, turns, cutAtom, cutAtoms, State, round, se
 use Rattle.rules.specs.Rounds.{start, enough, run, carried}
 use Rattle.sign_laws.specs.Booleans.{never-true, never-both}
 use Rattle.sign_laws.specs.Lists.{every-none, every, every-append, every-getD}
-use Rattle.sign_laws.specs.Sets.{PartOf}
-use Rattle.ending_laws.specs.Cuts.{cutBy-part, cutBy-below, cutAtom-part, cutAtom-below}
+use Rattle.sign_laws.specs.Sets.{PartOf, parts-equal}
+use Rattle.ending_laws.specs.Cuts.{cutAtom-part, cutAtom-below}
 use Rattle.ending_laws.specs.FirstRound.{same-unchanged}
 use Rattle.ending_laws.specs.Rounds.{start-length}
 use Rattle.removal_laws.specs.Wider.{Wider}
@@ -24,7 +24,6 @@ use Rattle.removal_laws.specs.Rounds.{LowBoard, LowAtoms, round-low, WiderState
 use Rattle.removal_laws.specs.Settled.{Settled, run-settles, start-low}
 use Rattle.removal_laws.specs.Starts.{carries-cut, run-carries, start-wider}
 use Rattle.removal_laws.specs.Said.{state-empty}
-use Rattle.turn_laws.specs.Equal.{parts-equal}
 use Rattle.turn_laws.specs.AfterTurns.{AfterTurns, after-low, after-wider, cut-wider, same-end, Idle, all-idle, Floor}
 use Rattle.turn_laws.specs.Some.{Some, none-there, not-there, there, some-fewer, some-append, last-not-there, nonVariable-some}
 
@@ -85,16 +84,6 @@ module _ {n : ℕ} {st su : State} (t : Afresh n st su) where
   no-empty : hasEmpty su ≡ false
   no-empty = never-true (hasEmpty su) (λ e. never-both (state-empty (afresh-wider t) (t .still .low) e) (t .still .filled))
 
-  -- A variable that has the settled set needs no turn.
-  settled-needless : (i : ℕ) → i < n → getD (su .board) i full ≡ getD (st .board) i full → Idle n (su .atoms) (su .board) i
-  unfolding turn
-  settled-needless i h e =
-      let s = getD (su .board) i full in
-      let low : s < 8 = rw e (every-getD i full (lit< tt) (t .still .low .board)) in
-      let same = parts-equal (cutBy-below (su .board) (variable n i) (su .atoms) s low) low (cutBy-part (su .board) (variable n i) (su .atoms) s)
-      (rw (← e) at (cut-wider (t .still) (afresh-wider t) i h)) in
-      ap (set (su .board) i) same ∙ set-getD (su .board) i full
-
   -- A round in which each variable's turn is idle changes nothing: no atom's set is cut.
   idle-round : ((i : ℕ) → i < n → Idle n (su .atoms) (su .board) i) → round n su ≡ su
   unfolding round
@@ -107,7 +96,10 @@ module _ {n : ℕ} {st su : State} (t : Afresh n st su) where
 
 -- The settled sets are a floor of the turns.
 pub floor-settled : {n : ℕ} {st su : State} → Afresh n st su → Floor n (su .atoms) (su .board) (st .board)
-floor-settled t = record { idle = λ a i h e. settled-needless (afresh-after t a) i h e }
+floor-settled t = record {
+  low = λ i h. every-getD i full (lit< tt) (t .still .low .board);
+  below = λ a i h. cut-wider (t .still) (afresh-wider (afresh-after t a)) i h;
+}
 
 -- Rounds from a state where each variable's turn is idle end there.
 idle-ends : {n : ℕ} (k : ℕ) {st su : State} → Afresh n st su → ((i : ℕ) → i < n → Idle n (su .atoms) (su .board) i) → rounds n (suc k) su ≡ settled su

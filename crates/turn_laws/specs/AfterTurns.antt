@@ -8,14 +8,13 @@ use native.Mathlib.Omega.{arith}
 use lib.Dec.{lit<}
 use lib.ListN.{length, getD, set, length-set}
 use lib.Seq.{set-getD, getD-set-same, getD-set-other}
-use Rattle.rules.specs.Signs.{SignSet, empty, full}
-use Rattle.rules.specs.Polynomial.{Polynomial, Atom, Board, variable}
+use Rattle.rules.specs.Signs.{empty, full}
+use Rattle.rules.specs.Polynomial.{Atom, Board, variable}
 use Rattle.rules.specs.Rounds.{cutBy, turn, turns, State, round, rounds, enough, Outcome, contradiction, settled}
-use Rattle.sign_laws.specs.Sets.{PartOf}
-use Rattle.ending_laws.specs.Cuts.{cutBy-part, cutBy-below}
+use Rattle.sign_laws.specs.Sets.{in-empty, PartOf}
 use Rattle.ending_laws.specs.Rounds.{Run, rounds-end}
 use Rattle.removal_laws.specs.Wider.{Wider}
-use Rattle.removal_laws.specs.Fewer.{part-empty, getD-wider, set-wide}
+use Rattle.removal_laws.specs.Fewer.{getD-wider, set-wide}
 use Rattle.removal_laws.specs.Rounds.{LowBoard, WiderState, turn-low, cutBy-wider}
 use Rattle.removal_laws.specs.Settled.{Settled, Settles, settles-from}
 use Rattle.removal_laws.specs.Said.{Widens, widens-run}
@@ -144,24 +143,17 @@ all-idle n atoms board i zero h = refl
 all-idle n atoms board i (suc k) h =
     ap (λ (b : Board). turns n atoms b (suc i) k) (h i (omega arith)) ∙ all-idle n atoms board (suc i) k (λ j b. h j (omega arith))
 
--- Sets below which no turn goes: a variable that has its set of them needs no turn.
+-- Sets below which no turn goes: each is a part of what the variable's turn leaves.
 pub record Floor (n : ℕ) (atoms : List Atom) (first floor : Board) : Type 0 where
-  pub idle : {board : Board} → AfterTurns n atoms first board → (i : ℕ) → i < n → getD board i full ≡ getD floor i full → Idle n atoms board i
+  pub low : (i : ℕ) → i < n → getD floor i full < 8
+  pub below : {board : Board} → AfterTurns n atoms first board → (i : ℕ) → i < n
+      → PartOf (getD floor i full) (cutBy board (variable n i) atoms (getD board i full))
 
 -- So they stay, turns later.
 pub floor-later : {n : ℕ} {atoms : List Atom} {first second floor : Board} → AfterTurns n atoms first second → Floor n atoms first floor
     → Floor n atoms second floor
-floor-later a f = record { idle = λ t i h e. f .idle (after-both a t) i h e }
+floor-later a f = record { low = f .low; below = λ t i h. f .below (after-both a t) i h }
 
 -- Empty sets are such.
 pub floor-empty : {n : ℕ} {atoms : List Atom} {first floor : Board} → ((i : ℕ) → i < n → getD floor i full ≡ empty) → Floor n atoms first floor
-unfolding turn
-floor-empty {n} {atoms} none = record {
-  idle = λ {board} t i h e.
-      ap (set board i) (empty-stays board (variable n i) (getD board i full) (e ∙ none i h)) ∙ set-getD board i full;
-}
-  where
-    empty-stays : (board : Board) (p : Polynomial) (s : SignSet) → s ≡ empty → cutBy board p atoms s ≡ s
-    empty-stays board p s is =
-        let cut = cutBy board p atoms s in
-        part-empty (cutBy-below board p atoms s (rw is (lit< tt))) (subst (PartOf cut) is (cutBy-part board p atoms s)) ∙ sym is
+floor-empty none = record { low = λ i h. rw (none i h) (lit< tt); below = λ t i h. rw (none i h) (record { each = λ x k. in-empty k }) }

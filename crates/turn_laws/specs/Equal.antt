@@ -1,16 +1,15 @@
 -- Two states of which each is wider than the other are one; and a state is wider than what turns and rounds leave of it.
 -- 01, "Rounds over a list of atoms joined by AND".
-use mathlib.Core.Path.{_≡_, refl, sym, ap, ap₂, _∙_}
+use mathlib.Core.Path.{_≡_, refl, ap₂}
 use mathlib.Core.List.{List, [], _∷_, _++_}
-use Prim.Native.Nat.{ℕ, zero, suc, _<_, _≤_}
+use Prim.Native.Nat.{ℕ, zero, suc, _≤_}
 use native.Mathlib.Omega.{arith}
 use lib.ListN.{length, getD, set}
-use Rattle.rules.specs.Signs.{Sign, negative, nought, positive, SignSet, full, has, setOf}
+use Rattle.rules.specs.Signs.{SignSet, full}
 use Rattle.rules.specs.Polynomial.{Atom, Board, variable}
 use Rattle.rules.specs.Rounds.{turn, turns, cutAtom, cutAtoms, State, round, Outcome, contradiction, settled}
-use Rattle.sign_laws.specs.Booleans.{both-ways}
 use Rattle.sign_laws.specs.Lists.{every-none, every}
-use Rattle.sign_laws.specs.Sets.{setOf-has, PartOf, part-refl, part-trans}
+use Rattle.sign_laws.specs.Sets.{PartOf, part-refl, part-trans, parts-equal}
 use Rattle.ending_laws.specs.Cuts.{cutBy-part, cutAtom-part, along-turns}
 use Rattle.ending_laws.specs.Rounds.{Run, along-run}
 use Rattle.removal_laws.specs.Wider.{Wider, no-sets, sets}
@@ -18,14 +17,6 @@ use Rattle.removal_laws.specs.Fewer.{Fewer, no-atoms, left-out, kept, all-kept,
 use Rattle.removal_laws.specs.Rounds.{LowBoard, LowAtoms, Low, WiderState}
 
 -- ---- Each wider than the other.
-
--- Two sets below 8 that are parts of each other are equal.
-pub parts-equal : {a b : SignSet} → a < 8 → b < 8 → PartOf a b → PartOf b a → a ≡ b
-unfolding setOf
-parts-equal {a} {b} h k p q = sym (setOf-has a h) ∙ rw (same negative, same nought, same positive) (setOf-has b k)
-  where
-    same : (x : Sign) → has x a ≡ has x b
-    same x = both-ways (has x a) (has x b) (λ e. p .each x (record { is = e }) .is) (λ e. q .each x (record { is = e }) .is)
 
 boards-equal : {b c : Board} → LowBoard b → LowBoard c → Wider b c → Wider c b → b ≡ c
 boards-equal every-none every-none no-sets no-sets = refl

@@ -1,10 +1,10 @@
 -- What the copies and the renumbered tape are together: what the block of the tree holds.
--- The last step of the proof of `collect`: each field of the result is that of the book's block.
+-- The last step of the proof of `collect`: each number and each array is that of the book's block.
 use mathlib.Core.Path.{_≡_, refl, sym, ap, _∙_}
 use mathlib.Core.List.{List, [], _++_, map}
 use Prim.Native.Nat.{ℕ, _+_, _<_, _≤_}
 use native.Mathlib.Omega.{arith}
-use lib.IntN.{ℤ, pos}
+use lib.IntN.{ℤ}
 use lib.ListN.{length, getD, take, drop, replicate, length-map, length-replicate, List·getD-append}
 use lib.Seq.{sets, sets-eq, take-append-seam, length-sets}
 use Rattle.rules.specs.Polynomial.{Polynomial}
@@ -14,7 +14,7 @@ use Rattle.rules.specs.Answer.{used, numbered, blockOf}
 use Rattle.sign_laws.specs.Lists.{Every, every-none, every-getD}
 use Rattle.terms.specs.View.{numbersFrom}
 use Rattle.table.specs.Table.{Table, formAt, Forms}
-use Rattle.block.specs.Held.{slots, tokens, kindOf, heldOf}
+use Rattle.block.specs.Held.{slots, tokens, kindOf, heldBy, heldOver}
 use Rattle.used.specs.Tape.{inSlot, formsIn, Holds}
 use Rattle.used.specs.FirstUse.{orderOf, UsedFit, Ordered, Copied, renumbered}
 use Rattle.used.proofs.Slots.{slots-below}
@@ -69,16 +69,14 @@ kind-each f g (leaf a) = refl
 kind-each f g (allOf kids) = refl
 kind-each f g (anyOf kids) = refl
 
--- Arrays that are a block's, each by itself.
-held-same : (block : Block) {n m kind count : ℕ} {cs : List ℤ} {ms counts token : List ℕ} → n ≡ block .variables → m ≡ length (block .table)
-    → kind ≡ kindOf (block .tree) → count ≡ nodes (alone (block .tree)) → cs ≡ slots (λ t. t .coefficient) 0 (block .table) (replicate 1024 (pos 0))
-    → ms ≡ slots (λ t. t .monomial) 0 (block .table) (replicate 1024 0) → counts ≡ sets (replicate 64 0) 0 (map length (block .table))
-    → token ≡ sets (replicate 255 0) 0 (tokens (alone (block .tree)))
-    → record { variables = n; polynomials = m; root = kind; tokens = count; coefficient = cs; monomial = ms; terms = counts; token = token } ≡ heldOf block
-unfolding heldOf
-held-same block e₁ e₂ e₃ e₄ e₅ e₆ e₇ e₈ = rw (e₁, e₂, e₃, e₄, e₅, e₆, e₇, e₈)
+-- Arrays that a block is stored over, each by itself.
+held-same : (block : Block) (cs : List ℤ) (ms counts token : List ℕ) {n m kind count : ℕ} {cs′ : List ℤ} {ms′ counts′ token′ : List ℕ} → n ≡ block .variables
+    → m ≡ length (block .table) → kind ≡ kindOf (block .tree) → count ≡ nodes (alone (block .tree)) → cs′ ≡ slots (λ t. t .coefficient) 0 (block .table) cs
+    → ms′ ≡ slots (λ t. t .monomial) 0 (block .table) ms → counts′ ≡ sets counts 0 (map length (block .table))
+    → token′ ≡ sets token 0 (tokens (alone (block .tree))) → heldBy n m kind count cs′ ms′ counts′ token′ ≡ heldOver cs ms counts token block
+held-same block cs ms counts token e₁ e₂ e₃ e₄ e₅ e₆ e₇ e₈ = rw (e₁, e₂, e₃, e₄, e₅, e₆, e₇, e₈)
 
-module _ {table : Table} (forms : Forms table) {token : List ℕ} {count root : ℕ} {tree : Node NumberedAtom} (h : Holds token count tree) (k : kindOf tree ≡ root)
+module _ {table : Table} (forms : Forms table) {token : List ℕ} {count : ℕ} {tree : Node NumberedAtom} (h : Holds token count tree)
     {order number : List ℕ} {polynomials : ℕ} (o : Ordered (orderOf (take count token)) (replicate 64 0) order number polynomials) where
   abbrev new : List Polynomial
   new = map (formAt table) (orderOf (take count token))
@@ -103,15 +101,14 @@ module _ {table : Table} (forms : Forms table) {token : List ℕ} {count root : 
   tokens-is : map (renumbered number) (take count token) ≡ tokens (alone (block .tree))
   tokens-is = rw (tree-is, h .stored) (sym (tokens-renumbered forms (alone tree) (h .slots) (rw (h .stored) at (o .numbers))))
 
-  -- The arrays that were filled are those of the block.
-  pub collected : {cs : List ℤ} {ms counts tape : List ℕ}
-      → Copied (formsIn table order polynomials) (replicate 1024 (pos 0)) cs (replicate 1024 0) ms (replicate 64 0) counts
-      → tape ≡ sets (replicate 255 0) 0 (map (renumbered number) (take count token))
-      → record { variables = table .variables; polynomials = polynomials; root = root; tokens = count; coefficient = cs; monomial = ms; terms = counts; token = tape }
-      ≡ heldOf (blockOf (table .variables) (eachAtomOf (inSlot table) tree))
-  collected c t =
+  -- The block is stored over the arrays that were lent.
+  pub collected : (cs₀ : List ℤ) (ms₀ counts₀ tape₀ : List ℕ) {cs : List ℤ} {ms counts tape : List ℕ}
+      → Copied (formsIn table order polynomials) cs₀ cs ms₀ ms counts₀ counts → tape ≡ sets tape₀ 0 (map (renumbered number) (take count token))
+      → heldBy (table .variables) polynomials (kindOf tree) count cs ms counts tape
+      ≡ heldOver cs₀ ms₀ counts₀ tape₀ (blockOf (table .variables) (eachAtomOf (inSlot table) tree))
+  collected cs₀ ms₀ counts₀ tape₀ c t =
       let forms-copied = rw (order-listed (length-replicate {A = ℕ} 64 0) o) at c in
-      held-same block refl (o .counted ∙ sym (length-map (orderOf (take count token)) (formAt table)))
-      (sym (kind-each (numbered new) (inSlot table) tree ∙ k)) nodes-is
-      (forms-copied .coefficients) (forms-copied .monomials) (forms-copied .counts) (t ∙ ap (sets (replicate 255 0) 0) tokens-is)
-      ∙ ap heldOf (sym block-is)
+      held-same block cs₀ ms₀ counts₀ tape₀ refl (o .counted ∙ sym (length-map (orderOf (take count token)) (formAt table)))
+      (sym (kind-each (numbered new) (inSlot table) tree)) nodes-is
+      (forms-copied .coefficients) (forms-copied .monomials) (forms-copied .counts) (t ∙ ap (sets tape₀ 0) tokens-is)
+      ∙ ap (heldOver cs₀ ms₀ counts₀ tape₀) (sym block-is)

@@ -9,7 +9,7 @@ use Rattle.rules.specs.Polynomial.{Polynomial, Atom}
 use Rattle.rules.specs.Formula.{Parts, end, atom, and, or, Node, alone, nodes}
 use Rattle.rules.specs.Block.{NumberedAtom}
 use Rattle.terms.specs.View.{numbersFrom}
-use Rattle.block.specs.Held.{tokens, kindOf}
+use Rattle.block.specs.Held.{tokens}
 use Rattle.table.specs.Table.{Table, formAt}
 
 -- What the lent slices are together.
@@ -38,13 +38,7 @@ pub record Holds (token : List ℕ) (count : ℕ) (tree : Node NumberedAtom) : T
   pub few : count ≤ 255
   pub slots : NameSlots (alone tree)
 
--- There is a tree that they hold,
+-- There is a tree that they hold.
 pub record HoldsSome (token : List ℕ) (count : ℕ) : Type 0 where
   pub tree : Node NumberedAtom
   pub holds : Holds token count tree
-
--- and one with a root of this kind.
-pub record HoldsRooted (token : List ℕ) (count root : ℕ) : Type 0 where
-  pub tree : Node NumberedAtom
-  pub holds : Holds token count tree
-  pub kind : kindOf tree ≡ root

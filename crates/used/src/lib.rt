@@ -9,10 +9,10 @@ ghost use Rattle.rules.specs.Formula.{Node, alone, eachAtomOf, atoms as atomsOf
 ghost use Rattle.rules.specs.Block.{NumberedAtom};
 ghost use Rattle.rules.specs.Answer.{blockOf};
 ghost use Rattle.table.specs.Table.{Forms};
-ghost use Rattle.block.specs.Held.{kindOf, heldOf};
-ghost use Rattle.used.specs.Tape.{lent, inSlot, formsIn, Holds, HoldsSome, HoldsRooted};
+ghost use Rattle.block.specs.Held.{kindOf, heldBy, heldOver};
+ghost use Rattle.block.specs.Steps.{BlockRoom};
+ghost use Rattle.used.specs.Tape.{lent, inSlot, formsIn, Holds, HoldsSome};
 ghost use Rattle.used.specs.FirstUse.{orderOf, TapeFits, FormsFit, UsedFit, RoomFor, Ordered, Copied, renumbered};
-use block::Held;
 
 // A token below this is an atom's: its slot times eight and its set. Any other is that of an AND or an OR.
 const JOIN: u32 = 16777216;
@@ -148,46 +148,39 @@ fn renumber_all(number: &[u8], token: &[u32], count: usize, target: &mut [u32])
 
 // ---- the whole
 
-// What the block of a tree holds.
+// Stores what the block of a tree holds over what the lent new arrays hold, and gives the number of its polynomials.
 pub fn collect(
     coefficient: &[i32],
     monomial: &[u64],
     terms: &[u8],
     variables: usize,
-    root: u8,
     token: &[u32],
     count: usize,
-) -> Held
-    requires { ⌜ Forms (lent variables (now coefficient) (now monomial) (now terms)) × HoldsRooted (now token) count root ⌝ }
-    ensures { λ r. ⌜ ((tree : Node NumberedAtom) → Holds (now (token .entry)) count tree → kindOf tree ≡ root
-        → r ≡ heldOf (blockOf variables (eachAtomOf (inSlot (lent variables (now (coefficient .entry)) (now (monomial .entry)) (now (terms .entry)))) tree))) ⌝ }
+    new_coefficient: &mut [i32],
+    new_monomial: &mut [u64],
+    new_terms: &mut [u8],
+    new_token: &mut [u32],
+) -> usize
+    requires { ⌜ Forms (lent variables (now coefficient) (now monomial) (now terms)) × HoldsSome (now token) count
+        × BlockRoom (now «new_coefficient») (now «new_monomial») (now «new_terms») (now «new_token») ⌝ }
+    ensures { λ r. ⌜ ((tree : Node NumberedAtom) → Holds (now (token .entry)) count tree
+        → heldBy variables r (kindOf tree) count (now («new_coefficient» .exit)) (now («new_monomial» .exit)) (now («new_terms» .exit)) (now («new_token» .exit))
+        ≡ heldOver (now («new_coefficient» .entry)) (now («new_monomial» .entry)) (now («new_terms» .entry)) (now («new_token» .entry))
+        (blockOf variables (eachAtomOf (inSlot (lent variables (now (coefficient .entry)) (now (monomial .entry)) (now (terms .entry)))) tree))) ⌝ }
 {
     let mut order = [0u8; 64];
     let mut number = [64u8; 64];
     let polynomials = order_slots(token, count, &mut order, &mut number);
-    let mut new_coefficient = [0i32; 1024];
-    let mut new_monomial = [0u64; 1024];
-    let mut new_terms = [0u8; 64];
-    let mut new_token = [0u32; 255];
     copy_forms(
         coefficient,
         monomial,
         terms,
         &order,
         polynomials,
-        &mut new_coefficient,
-        &mut new_monomial,
-        &mut new_terms,
+        new_coefficient,
+        new_monomial,
+        new_terms,
     );
-    renumber_all(&number, token, count, &mut new_token);
-    Held {
-        variables,
-        polynomials,
-        root,
-        tokens: count,
-        coefficient: new_coefficient,
-        monomial: new_monomial,
-        terms: new_terms,
-        token: new_token,
-    }
+    renumber_all(&number, token, count, new_token);
+    polynomials
 }

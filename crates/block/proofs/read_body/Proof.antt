@@ -1,38 +1,66 @@
 -- `block::read_body` meets its contract.
-use mathlib.Core.Path.{_∙_}
 use native.Mathlib.Omega.{arith}
 use borrow.Author.Needs.{needs}
 use Rattle.block.proofs.Steps.{inside-after}
-use Rattle.block.proofs.ReadingWhole.{table-refuses, allowed-behind, tree-refuses, all-held}
+use Rattle.block.proofs.ReadingWhole.{contents-refused, table-refuses, allowed-behind, tree-refuses, all-stored}
 use Rattle.block.proofs.read_body.Statement.{statement}
 use Rattle.block.proofs.read_body.Tie as tie
+
+read-table-requires : tie.Need-read-table-requires
+read-table-requires c κs =
+    let start = c .before .before .before .before .before .before .before in
+    let head = start .pre .0 in
+    let room = start .pre .1 in (
+      head .inside,
+      head .variables,
+      omega arith,
+      head .polynomials,
+      omega (arith, head .polynomials, room .coefficients),
+      omega (arith, head .polynomials, room .monomials),
+      omega (arith, head .polynomials, room .counts),
+    )
+
+read-tree-requires : tie.Need-read-tree-requires
+read-tree-requires c κs =
+    let chosen = c .before .before in
+    let table = chosen .before .before .before .before .before .before .before in
+    let start = table .before .before .before .before .before .before .before .before in
+    let head = start .pre .0 in
+    let read = chosen .step2 .given .1 in (
+      inside-after (table .read-table .ensures) read,
+      omega (arith, allowed-behind head (table .read-table .ensures) read),
+      omega (arith, head .nodes, start .pre .1 .tokens),
+    )
+
+returns : tie.Need-returns
+returns c =
+    let chosen = c .before in
+    let table = chosen .before .before .before .before .before .before .before in
+    let start = table .before .before .before .before .before .before .before .before in
+    contents-refused _ _ _ _ _ _ _ _ (table-refuses (start .pre .0) (table .read-table .ensures) (chosen .step .given .1))
+
+returns-2 : tie.Need-returns-2
+returns-2 c =
+    let root = c .before in
+    let tree = root .before .before .before .before in
+    let chosen = tree .before .before .before in
+    let table = chosen .before .before .before .before .before .before .before in
+    let start = table .before .before .before .before .before .before .before .before in
+    contents-refused _ _ _ _ _ _ _ _ (tree-refuses (start .pre .0) (table .read-table .ensures) (chosen .step2 .given .1) (tree .read-tree .ensures) (root .found .given .1))
+
+returns-3 : tie.Need-returns-3
+returns-3 c =
+    let root = c .before in
+    let tree = root .before .before .before .before in
+    let chosen = tree .before .before .before in
+    let table = chosen .before .before .before .before .before .before .before in
+    let start = table .before .before .before .before .before .before .before .before in
+    all-stored (start .pre .0) (table .read-table .ensures) (chosen .step2 .given .1) (tree .read-tree .ensures) (root .found2 .given .1)
 
 pub read-body-spec : {M : Type 1} → statement M
 read-body-spec =
     tie.close
-    (tie.spec (λ c. search needs) (λ c. search needs) (λ c. search needs) (λ c κs. search needs) (λ c. search needs) (λ c κs. search needs) (λ c. search needs)
-    (λ c. search needs)
-    (λ c κs.
-    let chosen = c .before .before in
-    let table = chosen .before .before .before .before .before in
-    let start = table .before .before .before .before .before in (
-      inside-after (table .read-table .ensures) (chosen .step2 .given .1),
-      omega (arith, allowed-behind (start .pre) (table .read-table .ensures) (chosen .step2 .given .1)),
-      start .pre .nodes,
-    ))
-    (λ c. search needs) (λ c κs. search needs) (λ c. search needs)
-    (λ c. let table = c .before .before .before .before .before .before .before in c .refusal .ensures ∙ table-refuses
-    (table .before .before .before .before .before .pre) (table .read-table .ensures) (c .before .before .step .given .1))
-    (λ c.
-    let tree = c .before .before .before .before .before in
-    let chosen = tree .before .before .before in
-    let table = chosen .before .before .before .before .before in
-    c .refusal2 .ensures
-    ∙ tree-refuses (table .before .before .before .before .before .pre) (table .read-table .ensures) (chosen .step2 .given .1) (tree .read-tree .ensures)
-    (c .before .before .root .given .1))
-    (λ c.
-    let tree = c .before .before .before .before in
-    let chosen = tree .before .before .before in
-    let table = chosen .before .before .before .before .before in
-    all-held (table .before .before .before .before .before .pre) (table .read-table .ensures) (chosen .step2 .given .1) (tree .read-tree .ensures)
-    (c .before .root2 .given .1)))
+    (tie.spec read-table-requires (λ c. search needs) (λ c. search needs) read-tree-requires (λ c. search needs) (λ c. search needs)
+    (λ c. search needs) (λ c. search needs) (λ c. search needs) returns
+    (λ c. search needs) (λ c. search needs) (λ c. search needs) (λ c. search needs) returns-2
+    (λ c. search needs) (λ c. search needs) (λ c. search needs) (λ c. search needs) returns-3)

@@ -7,33 +7,46 @@ use Rattle.used.proofs.Collected.{order-fits, collected}
 use Rattle.used.proofs.collect.Statement.{statement}
 use Rattle.used.proofs.collect.Tie as tie
 
+order-slots-requires : tie.Need-order-slots-requires
+order-slots-requires c κs =
+    let start = c .before .before .before .before .before .before .before .before in
+    (tape-fits (start .pre .1 .holds), refl, refl)
+
 copy-forms-requires : tie.Need-copy-forms-requires
 copy-forms-requires c κs =
-    let s = c .before .before .before .before .before .before .before .before .before .before .before .before in
-    let forms = s .pre .0 in
-    let ordered = c .before .before .before .before .before .before .order-slots .ensures in (
+    let ordering = c .before .before .before .before .before .before in
+    let start = ordering .before .before .before .before .before .before .before .before .before in
+    let forms = start .pre .0 in
+    let room = start .pre .2 in
+    let ordered = ordering .order-slots .ensures in (
       record { coefficients = forms .coefficients; monomials = forms .monomials; counts = forms .counts; few = forms .few },
-      order-fits (s .pre .1 .holds) refl ordered,
-      record { coefficients = omega (arith, ordered .few); monomials = omega (arith, ordered .few); counts = ordered .few },
+      order-fits (start .pre .1 .holds) refl ordered,
+      record {
+        coefficients = omega (arith, ordered .few, room .coefficients);
+        monomials = omega (arith, ordered .few, room .monomials);
+        counts = omega (arith, ordered .few, room .counts);
+      },
     )
 
+renumber-all-requires : tie.Need-renumber-all-requires
+renumber-all-requires c κs =
+    let ordering = c .before .before .before .before .before .before .before .before .before .before .before .before .before .before in
+    let start = ordering .before .before .before .before .before .before .before .before .before in
+    let holds = start .pre .1 .holds in
+    (tape-fits holds, ordering .order-slots .ensures .numbers .size, omega (arith, holds .few, start .pre .2 .tokens))
+
 returns : tie.Need-returns
-returns c tree h k =
-    let here = c .before .before .before .before .before .before .before .before .before .before .before .before .before .before in
-    let s = here .before .before .before .before .before .before in
-    collected (s .pre .0) h k (here .order-slots .ensures)
-    (c .before .before .before .before .before .before .before .copy-forms .ensures (s .args .variables)) (c .before .renumber-all .ensures)
+returns c tree h =
+    let renumbering = c .before .before in
+    let copying = renumbering .before .before .before .before .before .before .before .before in
+    let ordering = copying .before .before .before .before .before .before .before in
+    let start = ordering .before .before .before .before .before .before .before .before .before in
+    let a = start .args in
+    collected (start .pre .0) h (ordering .order-slots .ensures) (a .new-coefficient .now) (a .new-monomial .now) (a .new-terms .now) (a .new-token .now)
+    (copying .copy-forms .ensures (a .variables)) (renumbering .renumber-all .ensures)
 
 pub collect-spec : {M : Type 1} → statement M
 collect-spec =
     tie.close
-    (tie.spec (λ c. search needs) (λ c. search needs)
-    (λ c κs. (tape-fits (c .before .before .before .before .before .pre .1 .holds), refl, refl))
-    (λ c. search needs) (λ c. search needs) (λ c. search needs) (λ c. search needs)
-    copy-forms-requires
-    (λ c. search needs) (λ c. search needs)
-    (λ c κs.
-    let here = c .before .before .before .before .before .before .before .before .before .before .before .before in
-    let holds = here .before .before .before .before .before .before .pre .1 .holds in
-    (tape-fits holds, here .order-slots .ensures .numbers .size, holds .few))
-    returns)
+    (tie.spec (λ c. search needs) (λ c. search needs) order-slots-requires (λ c. search needs) copy-forms-requires (λ c. search needs) renumber-all-requires
+    (λ c. search needs) (λ c. search needs) (λ c. search needs) (λ c. search needs) returns)

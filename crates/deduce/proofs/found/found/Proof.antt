@@ -9,10 +9,10 @@ use mir.Val.{toZ, ofZ}
 use Rattle.sign_laws.specs.Booleans.{and-first, and-second, neither, not-true}
 use Rattle.rules.specs.Signs.{kind}
 use Rattle.rules.specs.Deduce.{at, everyT, isZero, hasT}
-use Rattle.deduce.specs.Ends.{endAt, endOf, intervalOf, There}
+use Rattle.interval.specs.Ends.{endAt, endOf, intervalOf, There}
+use Rattle.interval.specs.Coefficients.{back, is-zero}
 use Rattle.deduce.specs.Merge.{gatheredOf, nothing, gatherRow, findingBy}
 use Rattle.deduce.specs.Last.{asksZero, lastOf}
-use Rattle.deduce.proofs.Coefficients.{back, is-zero}
 use Rattle.deduce.proofs.Rows.{Walked, walk-on, of-none}
 use Rattle.deduce.proofs.Nothing.{finding-nothing}
 use Rattle.deduce.proofs.Lasts.{Alike, RootOf, root-of, root-left}

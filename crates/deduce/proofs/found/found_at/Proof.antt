@@ -6,10 +6,10 @@ use native.Mathlib.Omega.{arith}
 use Rattle.rules.specs.Signs.{signOf, only, kind}
 use Rattle.rules.specs.Deduce.{Fraction, at}
 use Rattle.deduction_laws.specs.Fractions.{combined}
+use Rattle.interval.specs.Ends.{endOf}
+use Rattle.interval.specs.Coefficients.{back}
 use Rattle.deduce.specs.declared.last.Last.{Last}
-use Rattle.deduce.specs.Ends.{endOf}
 use Rattle.deduce.specs.Last.{Kept}
-use Rattle.deduce.proofs.Coefficients.{back}
 use Rattle.deduce.proofs.Lasts.{gone, ruled-out}
 use Rattle.deduce.proofs.LastWalks.{LastWalked, last-walk-on, last-none, last-done}
 use Rattle.deduce.proofs.found.found_at.Statement.{statement}

@@ -7,9 +7,9 @@ use native.Mathlib.Omega.{arith}
 use lib.IntN.{pos}
 use lib.ListN.{getD}
 use Rattle.rules.specs.Signs.{signOf, only, kind}
+use Rattle.interval.specs.Coefficients.{back}
 use Rattle.deduce.specs.declared.last.Last.{Last}
 use Rattle.deduce.specs.Last.{Kept}
-use Rattle.deduce.proofs.Coefficients.{back}
 use Rattle.deduce.proofs.Lasts.{gone, ruled-out}
 use Rattle.deduce.proofs.LastWalks.{ZeroWalked, zero-walk-on, zero-gone, zero-done}
 use Rattle.deduce.proofs.found.found_at_zero.Statement.{statement}

@@ -1,6 +1,6 @@
 -- `leaves_one` meets its contract, by the test of b.
 use borrow.Author.Needs.{needs}
-use Rattle.deduce.proofs.Coefficients.{is-zero, not-zero}
+use Rattle.interval.specs.Coefficients.{is-zero, not-zero}
 use Rattle.deduce.proofs.last.leaves_one.Statement.{statement}
 use Rattle.deduce.proofs.last.leaves_one.Tie as tie
 

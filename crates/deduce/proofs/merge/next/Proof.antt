@@ -3,7 +3,7 @@ use borrow.Author.Needs.{needs}
 use native.Mathlib.Omega.{arith}
 use lib.IntN.{pos}
 use lib.ListN.{getD}
-use Rattle.deduce.proofs.Coefficients.{back}
+use Rattle.interval.specs.Coefficients.{back}
 use Rattle.deduce.proofs.Rows.{of-both, of-p, of-q, of-p-alone, of-q-alone}
 use Rattle.deduce.proofs.merge.next.Statement.{statement}
 use Rattle.deduce.proofs.merge.next.Tie as tie

@@ -1,6 +1,6 @@
 -- `strict_with` meets its contract, by the sign set and the tests of the coefficients.
 use borrow.Author.Needs.{needs}
-use Rattle.deduce.proofs.Coefficients.{zero-test, is-zero, not-zero}
+use Rattle.interval.specs.Coefficients.{zero-test, is-zero, not-zero}
 use Rattle.deduce.proofs.SignSets.{strict-one, strict-none}
 use Rattle.deduce.proofs.merge.strict_with.Statement.{statement}
 use Rattle.deduce.proofs.merge.strict_with.Tie as tie

@@ -1,18 +1,18 @@
 use mathlib.Core.Path.{_≡_, refl, _∙_}
 use Prim.Native.Nat.{ℕ, _+_, _-_, _≤_}
-use borrow.Author.Needs.{needs}
 use native.Mathlib.Omega.{arith}
 use lib.ListN.{length, length-set}
+use Rattle.level.specs.Row.{rowOf}
 use Rattle.level.proofs.Handing.{Filled, fill-start, fill-turn, fill-end}
 use Rattle.level.proofs.tidying.atoms_in.Statement.{statement}
 use Rattle.level.proofs.tidying.atoms_in.Tie as tie
 
 abbrev Inv-loop : tie.InvT-loop
-Inv-loop row n atoms₀ i₀ atoms i =
-    (i ≤ n) × ((atoms .count ≡ n) × ((length (atoms .number) ≡ 64) × ((length (atoms .set) ≡ 64) × Filled (row .token) (atoms .number) (atoms .set) i)))
+Inv-loop list n atoms₀ i₀ atoms i =
+    (i ≤ n) × ((atoms .count ≡ n) × ((length (atoms .number) ≡ 64) × ((length (atoms .set) ≡ 64) × Filled list (atoms .number) (atoms .set) i)))
 
 abbrev μ-loop : tie.MeasureT-loop
-μ-loop row n atoms₀ i₀ atoms i = n - i
+μ-loop list n atoms₀ i₀ atoms i = n - i
 
 loop-again : tie.Need-loop-again Inv-loop μ-loop
 loop-again c =
@@ -21,9 +21,13 @@ loop-again c =
 
 returns : tie.Need-returns Inv-loop μ-loop
 returns c =
-    let inv = c .before .loop .inv in
-    let e : c .before .loop .i ≡ c .before .before .args .t1 .count = omega arith in
-    (inv .1 .0, λ t l h. rw (inv .1 .0) (fill-end refl (omega arith) (rw e at (inv .1 .1 .1 .1)) t l h))
+    let loop = c .before .loop in
+    let inv = loop .inv in (
+      inv .1 .0,
+      λ t l h.
+          let e : loop .i ≡ c .before .before .args .n = omega (arith, h .size) in
+          rw (inv .1 .0) (fill-end refl (omega arith) (rw e at (inv .1 .1 .1 .1)) t l h),
+    )
 
 pub atoms-in-spec : {M : Type 1} → statement M
 atoms-in-spec =

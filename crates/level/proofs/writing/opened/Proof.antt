@@ -1,17 +1,18 @@
-use mathlib.Core.Path.{_≡_, refl}
+use mathlib.Core.Path.{refl}
 use mathlib.Core.List.{[]}
 use borrow.Author.Needs.{needs}
 use native.Mathlib.Omega.{arith}
 use borrow.Author.Tests.{eq-eqb, ne-eqb}
 use Rattle.level.specs.Written.{opening}
+use Rattle.level.proofs.Storing.{stored}
 use Rattle.level.proofs.writing.opened.Statement.{statement}
 use Rattle.level.proofs.writing.opened.Tie as tie
 
 one : tie.Need-returns
-one c = (rw (eq-eqb _ _ (c .if1 .taken)) (c .before .empty .ensures .1), omega (arith, c .before .empty .ensures .0))
+one c = (rw (eq-eqb _ _ (c .if1 .taken)) (record { is = refl; size = refl }), omega arith)
 
 more : tie.Need-returns-2
-more c = (rw (ne-eqb _ _ (c .before .if1 .left)) (c .push .ensures .1 [] (c .before .before .empty .ensures .1)), omega (arith, c .push .ensures .0, c .before .before .empty .ensures .0))
+more c = (rw (ne-eqb _ _ (c .if1 .left)) (stored (c .before .args .out .now) 0 _ (c .before .pre .1) [] (record { is = refl; size = refl })), omega arith)
 
 pub opened-spec : {M : Type 1} → statement M
-opened-spec = tie.close (tie.spec (λ c κs. search needs) one (λ c. search needs) (λ c κs. search needs) more)
+opened-spec = tie.close (tie.spec one (λ c. search needs) (λ c. search needs) (λ c. search needs) more)

@@ -1,8 +1,8 @@
 -- `Cuts::by` meets its contract: L and U are cut as the sign set says, each from what its method ensures.
 use borrow.Author.Needs.{needs}
-use Rattle.deduce.specs.Ends.{intervalOf}
+use Rattle.interval.specs.Ends.{intervalOf}
+use Rattle.interval.specs.Coefficients.{back}
 use Rattle.deduce.specs.Merge.{gatherRow}
-use Rattle.deduce.proofs.Coefficients.{back}
 use Rattle.deduce.proofs.SignSets.{cut-positive, cut-negative, cut-none, cut-both}
 use Rattle.deduce.proofs.merge.Cuts.by.Statement.{statement}
 use Rattle.deduce.proofs.merge.Cuts.by.Tie as tie

@@ -1,0 +1,25 @@
+-- `block::read_into` meets its contract.
+use borrow.Author.Needs.{needs}
+use Rattle.block.proofs.ReadingHead.{head-refused, head-held}
+use Rattle.block.proofs.ReadingWhole.{contents-refused}
+use Rattle.block.proofs.read_into.Statement.{statement}
+use Rattle.block.proofs.read_into.Tie as tie
+
+read-body-requires : tie.Need-read-body-requires
+read-body-requires c κs =
+    let chosen = c .before .before .before .before .before in
+    let head = chosen .before .before in
+    let start = head .before .before .before .before .before in
+    (head-held (head .read-head .ensures) (chosen .numbers2 .given .1), start .pre)
+
+returns : tie.Need-returns
+returns c =
+    let chosen = c .before in
+    let head = chosen .before .before in
+    contents-refused _ _ _ _ _ _ _ _ (head-refused (head .read-head .ensures) (chosen .numbers .given .1))
+
+pub read-into-spec : {M : Type 1} → statement M
+read-into-spec =
+    tie.close
+    (tie.spec (λ c κs. search needs) (λ c. search needs) (λ c. search needs) read-body-requires returns
+    (λ c. search needs) (λ c. search needs) (λ c. search needs) (λ c. search needs) (λ c. search needs))

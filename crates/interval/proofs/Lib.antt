@@ -1,0 +1,4 @@
+pub mod Products
+pub mod Fractions
+pub mod Cutting
+pub mod Values
