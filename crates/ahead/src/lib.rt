@@ -203,7 +203,7 @@ pub fn ahead(
         let t = lentTable (coefficient .entry) (monomial .entry) (terms .entry) (board .variables) in
         ⌜ Ahead t atoms board r (now (sign .exit)) ⌝ }
 {
-    let mut left = 2 * board.variables + 1;
+    let most = 2 * board.variables + 1;
     let mut passed = replay(
         coefficient,
         monomial,
@@ -214,8 +214,10 @@ pub fn ahead(
         floor,
         order,
     );
-    while 0 < left {
-        left -= 1;
+    let mut made = 0;
+    while made < most {
+        let up = made / 2 % 2 == 1;
+        made += 1;
         let at = passed.board;
         let so_far = passed.order;
         passed = pass(
@@ -227,7 +229,7 @@ pub fn ahead(
             atoms,
             floor,
             so_far,
-            left / 2 % 2 == 1,
+            up,
         );
         if passed.still {
             return passed;

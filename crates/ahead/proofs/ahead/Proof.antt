@@ -1,6 +1,7 @@
 -- `ahead` meets its contract: passes after the order's turns are turns after turns, and the last one tells whether they are idle.
 use mathlib.Core.Path.{_≡_, refl, sym, _∙_}
 use mathlib.Core.Bool.{false≢true}
+use Prim.Native.Nat.{_-_}
 use native.Mathlib.Omega.{arith}
 use lib.ListN.{length}
 use Rattle.terms.specs.View.{setsOf}
@@ -13,11 +14,11 @@ use Rattle.ahead.proofs.ahead.Statement.{statement}
 use Rattle.ahead.proofs.ahead.Tie as tie
 
 abbrev Inv-loop : tie.InvT-loop
-Inv-loop coefficient monomial terms sign₀ atoms floor left₀ passed₀ sign left passed =
+Inv-loop coefficient monomial terms sign₀ atoms floor most passed₀ made₀ sign passed made =
     (length sign ≡ length sign₀) × After (tableOf coefficient monomial terms (passed₀ .board .variables)) atoms (passed₀ .board) (passed .board) sign
 
 abbrev μ-loop : tie.MeasureT-loop
-μ-loop coefficient monomial terms sign₀ atoms floor left₀ passed₀ sign left passed = left
+μ-loop coefficient monomial terms sign₀ atoms floor most passed₀ made₀ sign passed made = most - made
 
 loop-holds : tie.Need-loop-holds Inv-loop μ-loop
 loop-holds c =
