@@ -24,7 +24,7 @@ use Rattle.round.specs.Signing.{Ready}
 use Rattle.round.specs.Boards.{set-at, turn-keeps}
 use Rattle.ahead.specs.declared.Order.{Order}
 use Rattle.ahead.specs.declared.Passed.{Passed}
-use Rattle.ahead.specs.Ahead.{placeOf, FloorAt, Stepped, After, Ahead}
+use Rattle.ahead.specs.Ahead.{placeOf, FloorAt, Stepped, Reached, After, Ahead}
 
 -- ---- the places
 
@@ -61,6 +61,9 @@ module _ (cs : List ℤ) (ms ts : List ℕ) {n m : ℕ} (same : n ≡ m) where
 
   pub floor-over : (a : Atoms) (b floor : Sets) → Floor n (atomsOf (tableOf cs ms ts n) a) b floor → Floor m (atomsOf (tableOf cs ms ts m) a) b floor
   floor-over a b floor = subst (λ (k : ℕ). Floor k (atomsOf (tableOf cs ms ts k) a) b floor) same
+
+  pub reached-over : (a : Atoms) (b r : Board) → Reached (tableOf cs ms ts n) a b r → Reached (tableOf cs ms ts m) a b r
+  reached-over a b r = subst (λ (k : ℕ). Reached (tableOf cs ms ts k) a b r) same
 
   pub after-over : {a : Atoms} {b r : Board} {ss : List SignSet} → After (tableOf cs ms ts n) a b r ss → After (tableOf cs ms ts m) a b r ss
   after-over {a} {b} {r} {ss} = subst (λ (k : ℕ). After (tableOf cs ms ts k) a b r ss) same
@@ -120,8 +123,11 @@ module _ (t : Table) (a : Atoms) (first : Board) (up : Bool) where
 
 -- ---- turns after turns
 
-pub after-more : {t : Table} {a : Atoms} {first at r : Board} {ss zs : List SignSet} → After t a first at ss → After t a at r zs → After t a first r zs
-after-more before one = record { variables = one .variables; after = after-both (before .after) (one .after); ready = one .ready }
+pub reached-more : (t : Table) (a : Atoms) (first at r : Board) → Reached t a first at → Reached t a at r → Reached t a first r
+reached-more t a first at r before one = record { variables = one .variables; after = after-both (before .after) (one .after) }
+
+pub reached-after : {t : Table} {a : Atoms} {first at r : Board} {ss : List SignSet} → Reached t a first at → After t a at r ss → After t a first r ss
+reached-after before one = record { variables = one .variables; after = after-both (before .after) (one .after); ready = one .ready }
 
 -- one turn more
 pub after-step : {t : Table} {a : Atoms} {first : Board} {p r : Passed} {ss zs : List SignSet} {i : ℕ} → After t a first (p .board) ss → i < t .variables

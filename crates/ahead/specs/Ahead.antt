@@ -34,7 +34,12 @@ pub record Stepped (t : Table) (a : Atoms) (before : Passed) (i : ℕ) (r : Pass
   pub ready : Ready t (setsOf (r .board)) a ss
   pub still : r .still ≡ true → (before .still ≡ true) × Idle (t .variables) (atomsOf t a) (setsOf (before .board)) i
 
--- r is what turns leave of the board b, and the signs are those of its sets
+-- r is what turns leave of the board b
+pub record Reached (t : Table) (a : Atoms) (b r : Board) : Type 0 where
+  pub variables : r .variables ≡ t .variables
+  pub after : AfterTurns (t .variables) (atomsOf t a) (setsOf b) (setsOf r)
+
+-- the same, and the signs are those of its sets
 pub record After (t : Table) (a : Atoms) (b r : Board) (ss : List SignSet) : Type 0 where
   pub variables : r .variables ≡ t .variables
   pub after : AfterTurns (t .variables) (atomsOf t a) (setsOf b) (setsOf r)

@@ -8,22 +8,26 @@ use native.Mathlib.Omega.{arith}
 use lib.Dec.{lit<}
 use lib.ListN.{length, getD, set, length-set}
 use lib.Seq.{set-getD, getD-set-same, getD-set-other}
-use Rattle.rules.specs.Signs.{empty, full}
+use Rattle.rules.specs.Signs.{SignSet, empty, full}
 use Rattle.rules.specs.Polynomial.{Atom, Board, variable}
 use Rattle.rules.specs.Rounds.{cutBy, turn, turns, State, round, rounds, enough, Outcome, contradiction, settled}
-use Rattle.sign_laws.specs.Sets.{in-empty, PartOf}
+use Rattle.sign_laws.specs.Lists.{every-set}
+use Rattle.sign_laws.specs.Sets.{in-empty, PartOf, part-trans}
 use Rattle.ending_laws.specs.Rounds.{Run, rounds-end}
 use Rattle.removal_laws.specs.Wider.{Wider}
 use Rattle.removal_laws.specs.Fewer.{getD-wider, set-wide}
 use Rattle.removal_laws.specs.Rounds.{LowBoard, WiderState, turn-low, cutBy-wider}
 use Rattle.removal_laws.specs.Settled.{Settled, Settles, settles-from}
 use Rattle.removal_laws.specs.Said.{Widens, widens-run}
-use Rattle.turn_laws.specs.Equal.{states-equal, board-itself, wider-both, turn-narrow, Narrows, run-narrow}
+use Rattle.turn_laws.specs.Equal.{states-equal, board-itself, wider-both, set-narrow, turn-narrow, Narrows, run-narrow}
 
--- The boards that turns of the n variables over the atoms leave of a first board, in any order.
+-- The boards that turns of the n variables over the atoms leave of a first board, in any order. A turn may be taken in part: some deductions leave
+-- the variable a set between what it had and what the whole turn leaves.
 pub data AfterTurns (n : ℕ) (atoms : List Atom) (first : Board) : Board → Type 0 where
   no-turn : AfterTurns n atoms first first
   one-more : {board : Board} (i : ℕ) → i < n → AfterTurns n atoms first board → AfterTurns n atoms first (turn n atoms board i)
+  in-part : {board : Board} (i : ℕ) {s : SignSet} → i < n → s < 8 → PartOf (cutBy board (variable n i) atoms (getD board i full)) s
+      → PartOf s (getD board i full) → AfterTurns n atoms first board → AfterTurns n atoms first (set board i s)
 
 -- ---- What holds of each.
 
@@ -32,23 +36,27 @@ module _ {n : ℕ} {atoms : List Atom} {first : Board} where
   pub after-low : LowBoard first → {board : Board} → AfterTurns n atoms first board → LowBoard board
   after-low low no-turn = low
   after-low low (one-more {board} i h t) = turn-low n atoms board i (after-low low t)
+  after-low low (in-part i h small below above t) = every-set i _ small (after-low low t)
 
   -- It has as many sets.
   pub after-length : {board : Board} → AfterTurns n atoms first board → length board ≡ length first
   unfolding turn
   after-length no-turn = refl
   after-length (one-more {board} i h t) = length-set board i _ ∙ after-length t
+  after-length (in-part {board} i h small below above t) = length-set board i _ ∙ after-length t
 
   -- The first one is wider.
   pub after-narrow : {board : Board} → AfterTurns n atoms first board → Wider board first
   after-narrow no-turn = board-itself first
   after-narrow (one-more i h t) = turn-narrow n atoms i (after-narrow t)
+  after-narrow (in-part i h small below above t) = set-narrow (after-narrow t) i above
 
 -- Turns after turns.
 pub after-both : {n : ℕ} {atoms : List Atom} {first second third : Board} → AfterTurns n atoms first second → AfterTurns n atoms second third
     → AfterTurns n atoms first third
 after-both t no-turn = t
 after-both t (one-more i h u) = one-more i h (after-both t u)
+after-both t (in-part i h small below above u) = in-part i h small below above (after-both t u)
 
 -- ---- Turns that leave the board leave each variable's set.
 
@@ -100,6 +108,8 @@ unfolding turn
 after-wider s w no-turn = w
 after-wider s w (one-more i h t) =
     let v = after-wider s w t in record { boards = set-wide (v .boards) i (cut-wider s v i h); lists = v .lists }
+after-wider s w (in-part i h small below above t) =
+    let v = after-wider s w t in record { boards = set-wide (v .boards) i (part-trans (cut-wider s v i h) below); lists = v .lists }
 
 -- ---- The same end.
 

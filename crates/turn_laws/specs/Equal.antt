@@ -55,7 +55,7 @@ wider-both no-sets no-sets = no-sets
 wider-both (sets p w) (sets q v) = sets (part-trans p q) (wider-both w v)
 
 -- A narrower set, stored on the narrower board alone.
-set-narrow : {board wide : Board} {s : SignSet} → Wider board wide → (i : ℕ) → PartOf s (getD board i full) → Wider (set board i s) wide
+pub set-narrow : {board wide : Board} {s : SignSet} → Wider board wide → (i : ℕ) → PartOf s (getD board i full) → Wider (set board i s) wide
 set-narrow no-sets i k = no-sets
 set-narrow (sets h hs) zero k = sets (part-trans k h) hs
 set-narrow (sets h hs) (suc i) k = sets h (set-narrow hs i k)
