@@ -6,7 +6,7 @@
  *   - input, output, text and the counts do not overlap each other;
  *   - the output is at least as long as the input, else the answer is refusal 1.
  * Nothing is kept after the call, and there is no state between calls: they may run in several threads at once.
- * A call takes some 180 KiB of stack; give its thread 256 KiB or more.
+ * A call takes some 120 KB of stack; give its thread 256 KiB or more.
  */
 #ifndef PLACARDPAN_H
 #define PLACARDPAN_H
