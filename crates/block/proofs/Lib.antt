@@ -6,7 +6,3 @@ pub mod ReadingTree
 pub mod ReadingEnd
 pub mod ReadingHead
 pub mod ReadingWhole
-pub mod Writing
-pub mod WritingTree
-pub mod WritingWhole
-pub mod Holding

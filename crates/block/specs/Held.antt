@@ -1,7 +1,7 @@
 -- A block as the arrays that hold it, and what reading a run of bytes gives: a block's arrays, or a refusal's number and empty arrays.
 -- An array is 0 wherever nothing is stored.
 use mathlib.Core.List.{List, [], _∷_, _++_, map}
-use Prim.Native.Nat.{ℕ, suc, _+_, _*_}
+use Prim.Native.Nat.{ℕ, suc, _+_, _*_, _≤_}
 use lib.IntN.{ℤ, pos}
 use lib.ListN.{length, replicate}
 use lib.Seq.{sets}
@@ -57,6 +57,13 @@ heldBy variables polynomials root tokens coefficient monomial terms token =
       terms = terms;
       token = token;
     }
+
+-- The arrays have room for every block.
+pub record BlockRoom (coefficient : List ℤ) (monomial terms token : List ℕ) : Type 0 where
+  pub coefficients : 1024 ≤ length coefficient
+  pub monomials : 1024 ≤ length monomial
+  pub counts : 64 ≤ length terms
+  pub tokens : 255 ≤ length token
 
 -- A block stored over what the arrays held before.
 abbrev pub heldOver : List ℤ → List ℕ → List ℕ → List ℕ → Block → Held

@@ -180,10 +180,3 @@ ContentsOf bytes coefficient coefficient′ monomial monomial′ terms terms′ 
 pub record ContentsFound (bytes : List ℕ) (coefficient coefficient′ : List ℤ) (monomial monomial′ terms terms′ token token′ : List ℕ) (contents : Contents)
     : Type 0 where
   pub found : ContentsOf bytes coefficient coefficient′ monomial monomial′ terms terms′ token token′ contents
-
--- The arrays have room for every block.
-pub record BlockRoom (coefficient : List ℤ) (monomial terms token : List ℕ) : Type 0 where
-  pub coefficients : 1024 ≤ length coefficient
-  pub monomials : 1024 ≤ length monomial
-  pub counts : 64 ≤ length terms
-  pub tokens : 255 ≤ length token

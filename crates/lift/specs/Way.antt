@@ -19,9 +19,8 @@ use Rattle.block_laws.specs.Blocks.{accepted-within}
 use Rattle.block_laws.specs.Sizes.{length-block}
 use Rattle.block.specs.declared.Held.{Held}
 use Rattle.block.specs.Held as reader
-use Rattle.block.specs.Held.{heldBy, heldOver, heldOf}
-use Rattle.block.specs.Steps.{BlockRoom}
-use Rattle.block.specs.Written.{Writable}
+use Rattle.block.specs.Held.{heldBy, BlockRoom, heldOver, heldOf}
+use Rattle.writer.specs.Written.{Writable}
 use Rattle.forms.specs.declared.WorkingTable.{WorkingTable}
 use Rattle.forms.specs.Working.{TableRead, tableOf, Worked}
 use Rattle.forms.specs.Tokens.{normalTokens}

@@ -20,12 +20,12 @@ mod telling; // the program's lines
 
 use block::Contents;
 use block::read_into;
-use block::write;
 use forms::normal_tokens;
 use forms::work;
 pub use telling::report;
 use used::atoms;
 use used::collect;
+use writer::write;
 
 // "one of the words FORMULA, ALWAYS, UNSATISFIABLE"
 pub enum Verdict {

@@ -9,8 +9,7 @@ ghost use Rattle.rules.specs.Formula.{Node, alone, eachAtomOf, atoms as atomsOf
 ghost use Rattle.rules.specs.Block.{NumberedAtom};
 ghost use Rattle.rules.specs.Answer.{blockOf};
 ghost use Rattle.table.specs.Table.{Forms};
-ghost use Rattle.block.specs.Held.{kindOf, heldBy, heldOver};
-ghost use Rattle.block.specs.Steps.{BlockRoom};
+ghost use Rattle.block.specs.Held.{kindOf, heldBy, BlockRoom, heldOver};
 ghost use Rattle.used.specs.Tape.{lent, inSlot, formsIn, Holds, HoldsSome};
 ghost use Rattle.used.specs.FirstUse.{orderOf, TapeFits, FormsFit, UsedFit, RoomFor, Ordered, Copied, renumbered};
 

@@ -9,9 +9,8 @@ use Rattle.rules.specs.Formula.{Node, eachAtomOf}
 use Rattle.rules.specs.Block.{NumberedAtom}
 use Rattle.rules.specs.Answer.{newBlock}
 use Rattle.block.specs.declared.Held.{Held}
-use Rattle.block.specs.Held.{heldBy}
-use Rattle.block.specs.Steps.{BlockRoom}
-use Rattle.block.specs.Written.{Writable}
+use Rattle.block.specs.Held.{heldBy, BlockRoom}
+use Rattle.writer.specs.Written.{Writable}
 use Rattle.forms.specs.declared.WorkingTable.{WorkingTable}
 use Rattle.forms.specs.Working.{workingBy, tableOf, blank}
 use Rattle.level.specs.Tree.{Simplified}

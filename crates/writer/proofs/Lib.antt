@@ -1,0 +1,4 @@
+mod Signed
+pub mod Writing
+pub mod WritingTree
+pub mod WritingWhole
