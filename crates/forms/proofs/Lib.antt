@@ -1,6 +1,4 @@
 pub mod Numbers
-pub mod Runs
-pub mod NormalRuns
 pub mod NormalSlots
 pub mod Searches
 pub mod Own

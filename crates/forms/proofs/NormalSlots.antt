@@ -12,9 +12,9 @@ use lib.ListN.{length, getD}
 use Rattle.rules.specs.Signs.{SignSet}
 use Rattle.rules.specs.Polynomial.{Polynomial, normal}
 use Rattle.terms.specs.View.{termsFrom}
-use Rattle.forms.specs.Normal.{normalRun, turnedSet}
+use Rattle.normal.specs.Normal.{normalRun, turnedSet}
 use Rattle.forms.specs.Slots.{slotOf, slotTurned, normalSlots}
-use Rattle.forms.proofs.NormalRuns.{terms-alike, normal-run, normal-length, normal-kept}
+use Rattle.normal.specs.NormalRuns.{terms-alike, normal-run, normal-length, normal-kept}
 
 module _ (cs : List ℤ) (ts : List ℕ) where
   -- ---- One slot, and none.

@@ -15,11 +15,11 @@ use Rattle.terms.specs.View.{termsFrom}
 use Rattle.level_laws.specs.Same.{same-equal, same-itself}
 use Rattle.sign_laws.specs.Booleans.{never-both}
 use Rattle.forms.specs.declared.WorkingTable.{WorkingTable}
-use Rattle.forms.specs.Stores.{stores, stores-length, stores-all, kept, stored}
-use Rattle.forms.specs.Normal.{turnedSet}
+use Rattle.normal.specs.Stores.{stores, stores-length, stores-all, kept, stored}
+use Rattle.normal.specs.Normal.{turnedSet}
 use Rattle.forms.specs.Slots.{slotOf, slotTurned, Readable, Laid, numberOf, isOwn}
 use Rattle.forms.specs.Working.{withForms, withFillers, withVariables}
-use Rattle.forms.proofs.NormalRuns.{terms-alike}
+use Rattle.normal.specs.NormalRuns.{terms-alike}
 use Rattle.forms.proofs.NormalSlots.{slots-length, slot-normal}
 use Rattle.forms.proofs.Searches.{first-passes, first-first, first-behind, number-within}
 use Rattle.forms.proofs.Own.{filler}

@@ -20,8 +20,8 @@ use Rattle.level_laws.specs.Same.{same-equal, same-itself}
 use Rattle.sign_laws.specs.Booleans.{and-intro, and-first, and-second}
 use Rattle.normal_laws.specs.Shape.{normal-within}
 use Rattle.forms.specs.declared.WorkingTable.{WorkingTable}
-use Rattle.forms.specs.Stores.{stores-length, stored}
-use Rattle.forms.specs.Normal.{turnedSet}
+use Rattle.normal.specs.Stores.{stores-length, stored}
+use Rattle.normal.specs.Normal.{turnedSet}
 use Rattle.forms.specs.Slots.{slotOf, Readable, numberOf, numberedSlots, isOwn, filledCoefficients, filledMonomials, filledCounts, variableCoefficients}
 use Rattle.forms.specs.Slots.{variableMonomials, variableCounts}
 use Rattle.forms.specs.Working.{TableRead, blank, withForms, withNumbers, withFillers, withVariables, workingOf, Worked}

@@ -13,7 +13,7 @@ use Rattle.rules.specs.Limits.{PolynomialWithin, TableWithin, polynomials}
 use Rattle.rules.specs.Answer.{lookedUp}
 use Rattle.table.specs.Table.{formAt}
 use Rattle.forms.specs.declared.WorkingTable.{WorkingTable}
-use Rattle.forms.specs.Normal.{turnedSet}
+use Rattle.normal.specs.Normal.{turnedSet}
 use Rattle.forms.specs.Slots.{slotOf}
 use Rattle.forms.specs.Working.{TableRead, tableOf, Worked}
 

@@ -1,5 +1,3 @@
-pub mod Stores
-pub mod Normal
 pub mod Slots
 pub mod Working
 pub mod Holding

@@ -9,8 +9,8 @@ use lib.IntN.{ℤ, pos}
 use lib.ListN.{length, getD}
 use Rattle.rules.specs.Polynomial.{Polynomial, sameNumber, same}
 use Rattle.terms.specs.View.{termsFrom}
-use Rattle.forms.specs.Stores.{stores}
-use Rattle.forms.specs.Normal.{Bounded, isTurned, normalRun}
+use Rattle.normal.specs.Stores.{stores}
+use Rattle.normal.specs.Normal.{Bounded, isTurned, normalRun}
 
 -- The polynomial in slot i: slot i of a block's arrays, or of a working table's.
 abbrev pub slotOf : List ℤ → List ℕ → List ℕ → ℕ → Polynomial

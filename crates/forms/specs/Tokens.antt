@@ -13,7 +13,7 @@ use Rattle.rules.specs.Polynomial.{normal}
 use Rattle.sign_laws.specs.Sets.{setOf-small}
 use Rattle.table.specs.Table.{formAt}
 use Rattle.forms.specs.declared.WorkingTable.{WorkingTable}
-use Rattle.forms.specs.Normal.{turnedSet}
+use Rattle.normal.specs.Normal.{turnedSet}
 use Rattle.forms.specs.Slots.{slotOf}
 use Rattle.forms.specs.Working.{tableOf, Worked}
 

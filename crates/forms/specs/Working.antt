@@ -11,7 +11,7 @@ use Rattle.rules.specs.Polynomial.{normal}
 use Rattle.rules.specs.Limits.{PolynomialWithin}
 use Rattle.table.specs.Table.{Table, formAt, Forms}
 use Rattle.forms.specs.declared.WorkingTable.{WorkingTable}
-use Rattle.forms.specs.Normal.{turnedSet}
+use Rattle.normal.specs.Normal.{turnedSet}
 use Rattle.forms.specs.Slots.{slotOf, normalSlots, turnedSlots, copied, numberedSlots, isOwn, filledCoefficients, filledMonomials, filledCounts}
 use Rattle.forms.specs.Slots.{variableCoefficients, variableMonomials, variableCounts}
 

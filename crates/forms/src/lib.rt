@@ -3,12 +3,11 @@
 ghost use mathlib.Core.Path.{_≡_};
 ghost use Prim.Native.Nat.{_<_, _≤_};
 ghost use lib.ListN.{length};
-ghost use Rattle.forms.specs.Normal.{turnedSet};
+ghost use Rattle.normal.specs.Normal.{turnedSet};
 ghost use Rattle.forms.specs.Working.{TableRead, workingBy, blank, Worked};
 ghost use Rattle.forms.specs.Tokens.{normalToken, normalTokens};
 use signs::SignSet;
 
-mod normal;
 mod slots;
 
 // Eighty slots of sixteen places. Slots 0 to 63: the normal forms, each where its first polynomial stands, fillers in between. From 64 on: the variables.

@@ -7,7 +7,7 @@ ghost use Rattle.rules.specs.Polynomial.{same};
 ghost use Rattle.terms.specs.View.{termsFrom};
 ghost use Rattle.forms.specs.Slots.{slotOf, Readable, normalSlots, turnedSlots, copied, Laid, sameTerm, numberOf, numberedSlots, isOwn};
 ghost use Rattle.forms.specs.Slots.{filledCoefficients, filledMonomials, filledCounts, variableCoefficients, variableMonomials, variableCounts};
-use crate::normal::normalize;
+use normal::normalize;
 
 fn wide(x: u8) -> usize
     ensures { λ r. ⌜ r ≡ x ⌝ }

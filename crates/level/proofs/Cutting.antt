@@ -20,9 +20,11 @@ use Rattle.level.specs.declared.carrying.Carrying.{Carrying}
 use Rattle.level.specs.Row.{Lists}
 use Rattle.level.specs.Token.{slot, atomOf, atomsIn}
 use Rattle.round.specs.Views.{stateOf}
-use Rattle.rounds.specs.declared.Remaining.{Remaining}
+use Rattle.settled.specs.declared.removal.Remaining.{Remaining}
 use Rattle.rounds.specs.Views.{ending, outcomeOf}
-use Rattle.rounds.specs.Run.{consIf, keptFrom, keptOf, RunOf, Carried, RemainingOf}
+use Rattle.rounds.specs.Run.{RunOf}
+use Rattle.settled.specs.Carried.{Carried}
+use Rattle.settled.specs.Remaining.{consIf, keptFrom, keptOf, RemainingOf}
 use Rattle.level.specs.Carried.{withSets, keptWhen, remaining, Carries, Remains}
 use Rattle.level.proofs.Merging.{rest-next, rest-none}
 use Rattle.level.proofs.SmallSets.{AllSmall, carried-small, tokens-small}

@@ -15,7 +15,7 @@ use Rattle.level.specs.Token.{atomsIn}
 use Rattle.round.specs.declared.State.{State}
 use Rattle.round.specs.Views.{stateOf}
 use Rattle.rounds.specs.Views.{ending}
-use Rattle.rounds.specs.Staying.{CarriedFrom}
+use Rattle.settled.specs.Remaining.{CarriedFrom}
 
 -- Tokens with the sets from place i on.
 unfoldable pub withSets : List ℕ → ℕ → List ℕ → List ℕ

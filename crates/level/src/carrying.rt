@@ -12,10 +12,10 @@ use crate::rows::Row;
 use crate::tidying::atoms_in;
 use crate::tokens::with_set;
 use round::State;
-use rounds::Remaining;
-use rounds::carried;
-use rounds::remove_implied;
 use rounds::run;
+use settled::carried;
+use settled::removal::Remaining;
+use settled::removal::remove_implied;
 use signs::SignSet;
 use table::Atoms;
 

@@ -23,7 +23,7 @@ use crate::walks::Walked;
 use crate::walks::add;
 use crate::walks::begin;
 use round::State;
-use rounds::says;
+use settled::says;
 use signs::SignSet;
 use terms::sign_terms;
 

@@ -19,7 +19,7 @@ use Rattle.sign_laws.specs.Sets.{setOf-small}
 use Rattle.ending_laws.specs.Nestings.{alone-each}
 use Rattle.block.specs.Held.{tokens, kindOf, heldOf}
 use Rattle.forms.specs.declared.WorkingTable.{WorkingTable}
-use Rattle.forms.specs.Normal.{turnedSet}
+use Rattle.normal.specs.Normal.{turnedSet}
 use Rattle.forms.specs.Working.{tableOf, Worked}
 use Rattle.forms.specs.Holding.{atom-normal}
 use Rattle.forms.specs.Tokens.{normalToken, normalUnlessNode, normalTokens}

@@ -28,8 +28,8 @@ use Rattle.rounds.specs.declared.Counted.{Counted}
 use Rattle.rounds.specs.declared.narrow.Beginning.{Beginning}
 use Rattle.rounds.specs.Run.{polynomialsOf, NarrowedStart, RunOf}
 use Rattle.rounds.specs.Ended.{Ended}
-use Rattle.rounds.specs.Staying.{AfreshFrom}
-use Rattle.rounds.proofs.Said.{same-polynomials}
+use Rattle.rounds.specs.Afresh.{AfreshFrom}
+use Rattle.rounds.proofs.Polynomials.{same-polynomials}
 
 -- ---- how it is begun
 

@@ -1,7 +1,4 @@
 pub mod Ends
 pub mod Starts
-pub mod Said
+pub mod Polynomials
 pub mod Beginnings
-pub mod Carrying
-pub mod Removing
-pub mod Others

@@ -2,4 +2,4 @@ pub mod Views
 pub mod Ended
 pub mod Start
 pub mod Run
-pub mod Staying
+pub mod Afresh

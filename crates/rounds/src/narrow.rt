@@ -7,7 +7,7 @@ ghost use Rattle.table.specs.Table.{Forms, atomsOf};
 ghost use Rattle.turn_laws.specs.AfterTurns.{Floor};
 ghost use Rattle.round.specs.Views.{lentTable};
 ghost use Rattle.rounds.specs.Run.{NarrowedStart, RunOf};
-ghost use Rattle.rounds.specs.Staying.{AfreshFrom};
+ghost use Rattle.rounds.specs.Afresh.{AfreshFrom};
 use crate::Ran;
 use crate::settle::rounds;
 use crate::start::start;

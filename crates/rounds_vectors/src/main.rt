@@ -59,7 +59,7 @@ fn said(table: WorkingTable, variables: usize, state: State, polynomials: usize)
     let mut sets = [0u8; 64];
     let mut i = 0;
     while i < count {
-        let set = rounds::says(&coefficient, &monomial, &terms, &sign, variables, state, i);
+        let set = settled::says(&coefficient, &monomial, &terms, &sign, variables, state, i);
         sets[i] = set.0;
         i += 1;
     }
@@ -76,7 +76,7 @@ fn tell_state(table: WorkingTable, variables: usize, list: Atoms, state: State, 
     let board = state.board;
     let sets = board.sets;
     tell_sets(&sets, variables);
-    let carried = rounds::carried(&coefficient, &monomial, &terms, variables, list, state);
+    let carried = settled::carried(&coefficient, &monomial, &terms, variables, list, state);
     let carried_sets = carried.set;
     tell_sets(&carried_sets, carried.count);
     let said_sets = said(table, variables, state, polynomials);

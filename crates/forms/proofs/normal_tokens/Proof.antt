@@ -6,7 +6,7 @@ use mathlib.Core.Bool.{Bool, cond}
 use Prim.Native.Nat.{ℕ, _+_, _-_}
 use native.Mathlib.Omega.{arith}
 use lib.ListN.{length, getD, set, length-set}
-use Rattle.forms.specs.Stores.{stores, stores-step, stores-skip, stores-end, stores-map}
+use Rattle.normal.specs.Stores.{stores, stores-step, stores-skip, stores-end, stores-map}
 use Rattle.forms.specs.Tokens.{normalToken, normalUnlessNode, normalTokens}
 use Rattle.forms.proofs.normal_tokens.Statement.{statement}
 use Rattle.forms.proofs.normal_tokens.Tie as tie

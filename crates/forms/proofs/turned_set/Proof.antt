@@ -1,6 +1,6 @@
 -- `turned_set` meets its contract, by the flag.
 use borrow.Author.Needs.{needs}
-use Rattle.forms.specs.Normal.{turnedSet}
+use Rattle.normal.specs.Normal.{turnedSet}
 use Rattle.forms.proofs.turned_set.Statement.{statement}
 use Rattle.forms.proofs.turned_set.Tie as tie
 

@@ -5,7 +5,7 @@ use mathlib.Core.Bool.{Bool, cond}
 use Prim.Native.Nat.{ℕ, _+_, _-_, _%_}
 use native.Mathlib.Omega.{arith}
 use lib.ListN.{length, getD, set, length-set}
-use Rattle.forms.specs.Stores.{stores, stores-step, stores-skip, stores-end, stores-map}
+use Rattle.normal.specs.Stores.{stores, stores-step, stores-skip, stores-end, stores-map}
 use Rattle.lift.specs.Tapes.{plain, plainTokens}
 use Rattle.lift.proofs.plain_tokens.Statement.{statement}
 use Rattle.lift.proofs.plain_tokens.Tie as tie

@@ -6,7 +6,7 @@ use Rattle.table.specs.Table.{many}
 use Rattle.round.specs.Over.{forms-over}
 use Rattle.rounds.specs.Run.{polynomialsOf}
 use Rattle.rounds.proofs.Ends.{ended-over}
-use Rattle.rounds.proofs.Said.{same-polynomials}
+use Rattle.rounds.proofs.Polynomials.{same-polynomials}
 use Rattle.rounds.proofs.run_counted.Statement.{statement}
 use Rattle.rounds.proofs.run_counted.Tie as tie
 

@@ -3,7 +3,7 @@ use mathlib.Core.Path.{_≡_, refl, sym, _∙_}
 use Prim.Native.Nat.{_-_}
 use native.Mathlib.Omega.{arith}
 use lib.ListN.{length, getD, length-set}
-use Rattle.forms.specs.Stores.{stores, stores-step, stores-end}
+use Rattle.normal.specs.Stores.{stores, stores-step, stores-end}
 use Rattle.forms.specs.Slots.{copied}
 use Rattle.forms.proofs.slots.copy_counts.Statement.{statement}
 use Rattle.forms.proofs.slots.copy_counts.Tie as tie

@@ -8,7 +8,7 @@ use Prim.Native.Nat.{ℕ, _+_, _-_, _*_, _≤_}
 use native.Mathlib.Omega.{arith}
 use lib.IntN.{ℤ, pos}
 use lib.ListN.{length, length-set}
-use Rattle.forms.specs.Stores.{stores, stores-end, unless-passed, unless-failed}
+use Rattle.normal.specs.Stores.{stores, stores-end, unless-passed, unless-failed}
 use Rattle.forms.specs.Slots.{isOwn, filledCoefficients, filledMonomials, filledCounts}
 use Rattle.forms.proofs.slots.fill.Statement.{statement}
 use Rattle.forms.proofs.slots.fill.Tie as tie

@@ -8,10 +8,10 @@ use native.Mathlib.Nat.{sub-zero}
 use native.Mathlib.Omega.{arith}
 use lib.IntN.{ℤ}
 use lib.ListN.{length, getD, set, length-set}
-use Rattle.forms.specs.Stores.{stores, stores-step, stores-end}
-use Rattle.forms.specs.Normal.{isTurned, normalRun}
+use Rattle.normal.specs.Stores.{stores, stores-step, stores-end}
+use Rattle.normal.specs.Normal.{isTurned, normalRun}
 use Rattle.forms.specs.Slots.{slotTurned, normalSlots, turnedSlots}
-use Rattle.forms.proofs.NormalRuns.{normal-length}
+use Rattle.normal.specs.NormalRuns.{normal-length}
 use Rattle.forms.proofs.NormalSlots.{slots-step, slots-end}
 use Rattle.forms.proofs.slots.normalize_all.Statement.{statement}
 use Rattle.forms.proofs.slots.normalize_all.Tie as tie

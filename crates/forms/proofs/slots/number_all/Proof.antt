@@ -4,7 +4,7 @@ use mathlib.Core.Path.{_≡_, refl, sym, _∙_}
 use Prim.Native.Nat.{_-_}
 use native.Mathlib.Omega.{arith}
 use lib.ListN.{length, length-set}
-use Rattle.forms.specs.Stores.{stores, stores-step, stores-end}
+use Rattle.normal.specs.Stores.{stores, stores-step, stores-end}
 use Rattle.forms.specs.Slots.{numberOf, numberedSlots}
 use Rattle.forms.proofs.Searches.{number-within}
 use Rattle.forms.proofs.slots.number_all.Statement.{statement}

@@ -5,7 +5,7 @@ use Prim.Native.Nat.{ℕ, suc, _+_, _-_, _*_, _^_, _≤_}
 use native.Mathlib.Omega.{arith}
 use lib.IntN.{ℤ, pos}
 use lib.ListN.{length, set, length-set}
-use Rattle.forms.specs.Stores.{stores, stores-step, stores-end}
+use Rattle.normal.specs.Stores.{stores, stores-step, stores-end}
 use Rattle.forms.specs.Slots.{variableCoefficients, variableMonomials, variableCounts}
 use Rattle.forms.proofs.Numbers.{variable-shifted}
 use Rattle.forms.proofs.slots.put_variables.Statement.{statement}

@@ -1,0 +1,4 @@
+pub mod Stores
+pub mod Normal
+pub mod Euclid
+pub mod NormalRuns

@@ -1,0 +1,4 @@
+pub mod Said
+pub mod Carrying
+pub mod Removing
+pub mod Others
