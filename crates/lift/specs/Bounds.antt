@@ -12,7 +12,7 @@ use Rattle.rules.specs.Block.{Block, Reading, refused, read, readBlock, writeBl
 use Rattle.rules.specs.Answer.{Verdict, Counts, Answer, refusal, answered, newBlock, answerTo, unlessShort, answer}
 use Rattle.block_laws.specs.Sizes.{length-block, longest-block}
 use Rattle.lift.specs.Refusals.{Listed, listed, refused-listed}
-use Rattle.lift.specs.Travel.{new-writable}
+use Rattle.answer.specs.Travel.{new-writable}
 
 pub data Bounded : Answer → Type 0 where
   by-number : {number : ℕ} → Listed number → Bounded (refusal number)

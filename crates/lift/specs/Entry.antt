@@ -1,38 +1,21 @@
--- What the entry and its inner function say of the lent output and of what they return.
+-- The entry by cases: what is refused leaves the output as it was; what the reader finds is a refusal, or a block held in arrays that were blank.
+-- 01, "Refusal numbers": "A refusal returns its number and length 0 and the output keeps each byte."
 use mathlib.Core.Path.{_≡_, sym, ap}
 use mathlib.Core.List.{List}
 use Prim.Native.Nat.{ℕ, _<_, _≤_}
 use lib.IntN.{ℤ, pos}
 use lib.ListN.{length, replicate}
-use Rattle.rules.specs.Block.{Block, Stream, refused, read, readBlock}
-use Rattle.rules.specs.Answer.{Answer as BookAnswer, answer}
-use Rattle.block.specs.declared.Held.{Held}
+use Rattle.rules.specs.Block.{refused, readBlock}
+use Rattle.rules.specs.Answer.{Answer as BookAnswer}
 use Rattle.block.specs.declared.Contents.{Contents}
 use Rattle.block.specs.declared.Contents.the-variants.{Refused as NoBlock, Numbers}
 use Rattle.block.specs.Held.{heldBy, heldOf}
 use Rattle.block.specs.Steps.{ContentsOf, ContentsFound}
-use Rattle.lift.specs.declared.Answer.{Answer}
-use Rattle.lift.specs.declared.Answer.the-variants.{Refused}
-use Rattle.lift.specs.Answered.{answerOf, written, answer-short, answer-refused}
+use Rattle.answer.specs.declared.Answer.the-variants.{Refused}
+use Rattle.answer.specs.Answered.{answerOf, written, answer-short, answer-refused}
+use Rattle.answer.specs.Entry.{Accepted, Answers}
 
--- What is held was read from these bytes, and there is room for as many.
-pub record Accepted (bytes : List ℕ) (held : Held) (room : ℕ) : Type 0 where
-  pub given : Block
-  pub stream : Stream
-  pub accepted : readBlock bytes ≡ read given stream
-  pub is : held ≡ heldOf given
-  pub enough : length bytes ≤ room
-
-pub record AcceptedSome (held : Held) (room : ℕ) : Type 0 where
-  pub bytes : List ℕ
-  pub accepted : Accepted bytes held room
-
--- What is returned, and what the lent output holds afterwards, is the book's answer to the bytes.
-pub record Answers (bytes before after : List ℕ) (returned : Answer) : Type 0 where
-  pub returns : returned ≡ answerOf (answer (length before) bytes)
-  pub output : after ≡ written (answer (length before) bytes) before
-
--- ---- the entry by cases
+-- ---- refusals
 
 -- Too little room: refused with 1, and nothing is written.
 pub answers-short : (bytes before : List ℕ) → length before < length bytes → Answers bytes before before (Refused 1)

@@ -10,14 +10,14 @@ use lib.ListN.{length}
 use borrow.Author.Tests.{lt-ltb, le-ltb}
 use Rattle.rules.specs.Answer as book
 use Rattle.rules.specs.Answer.{answer}
-use Rattle.lift.specs.declared.Verdict.{Verdict}
-use Rattle.lift.specs.declared.Verdict.the-variants.{Formula, Always, Unsatisfiable}
-use Rattle.lift.specs.declared.Counts.{Counts}
-use Rattle.lift.specs.declared.Answer.{Answer}
-use Rattle.lift.specs.declared.Answer.the-variants.{Refused, Answered}
-use Rattle.lift.specs.Answered.{verdictOf, countsOf, answerOf, lengthIn}
+use Rattle.answer.specs.declared.Verdict.{Verdict}
+use Rattle.answer.specs.declared.Verdict.the-variants.{Formula, Always, Unsatisfiable}
+use Rattle.answer.specs.declared.Counts.{Counts}
+use Rattle.answer.specs.declared.Answer.{Answer}
+use Rattle.answer.specs.declared.Answer.the-variants.{Refused, Answered}
+use Rattle.answer.specs.Answered.{verdictOf, countsOf, answerOf, lengthIn}
 use Rattle.lift.specs.Bounds.{Bounded, by-number, by-block, answer-bounded}
-use Rattle.lift.specs.Entry.{Answers}
+use Rattle.answer.specs.Entry.{Answers}
 use Rattle.lift.specs.Part.{filledPart, isRefusal, part-length}
 
 -- "a verdict (formula, always, unsatisfiable)", counted from 1

@@ -1,11 +1,5 @@
-pub mod Normal
-pub mod Tapes
-pub mod Travel
-pub mod Answered
 pub mod Refusals
-pub mod Writing
 pub mod Entry
-pub mod Way
 pub mod Bounds
 pub mod Part
 pub mod Exported

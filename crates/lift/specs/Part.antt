@@ -11,10 +11,10 @@ use lib.Seq.{take-at}
 use borrow.Author.Tests.{ne-eqb}
 use Rattle.rules.specs.Answer as book
 use Rattle.rules.specs.Answer.{answer}
-use Rattle.lift.specs.declared.Answer.{Answer}
-use Rattle.lift.specs.Answered.{answerOf, written, lengthIn}
+use Rattle.answer.specs.declared.Answer.{Answer}
+use Rattle.answer.specs.Answered.{answerOf, written, lengthIn}
 use Rattle.lift.specs.Bounds.{Bounded, by-block, answer-bounded}
-use Rattle.lift.specs.Entry.{Answers}
+use Rattle.answer.specs.Entry.{Answers}
 
 -- The filled part of the lent output: the new block, or nothing.
 unfoldable pub filledPart : book.Answer → List ℕ

@@ -2,8 +2,8 @@
 use borrow.Author.Needs.{needs}
 use mathlib.Core.Path.{sym, ap, _∙_, subst}
 use Prim.Native.Nat.{_<_}
-use Rattle.lift.specs.declared.Answer.{Answer}
-use Rattle.lift.specs.Answered.{lengthIn}
+use Rattle.answer.specs.declared.Answer.{Answer}
+use Rattle.answer.specs.Answered.{lengthIn}
 use Rattle.lift.specs.Exported.{numberIn}
 use Rattle.lift.proofs.exported.number_in.Statement.{statement}
 use Rattle.lift.proofs.exported.number_in.Tie as tie

@@ -1,7 +1,7 @@
 -- `packed` meets its contract: in each arm the verdict is the one that the arm names.
 use borrow.Author.Needs.{needs}
 use mathlib.Core.Path.{sym, ap}
-use Rattle.lift.specs.declared.Verdict.{Verdict}
+use Rattle.answer.specs.declared.Verdict.{Verdict}
 use Rattle.lift.specs.Exported.{packedOf}
 use Rattle.lift.proofs.exported.packed.Statement.{statement}
 use Rattle.lift.proofs.exported.packed.Tie as tie

@@ -1,8 +1,8 @@
 -- `placardpan_counted` meets its contract: the number, the output and the counts are those of what `simplify` answers.
 use borrow.Author.Needs.{needs}
 use mathlib.Core.Path.{_≡_, ap, _∙_}
-use Rattle.lift.specs.declared.Counts.{Counts}
-use Rattle.lift.specs.Answered.{countsOf}
+use Rattle.answer.specs.declared.Counts.{Counts}
+use Rattle.answer.specs.Answered.{countsOf}
 use Rattle.lift.specs.Exported.{length-short, number-exported, counts-counted}
 use Rattle.lift.proofs.exported.placardpan_counted.Statement.{statement}
 use Rattle.lift.proofs.exported.placardpan_counted.Tie as tie

@@ -1,0 +1,211 @@
+-- `answer_to` meets its contract: what each step ensures is what the next one asks, and at the end the book's answer.
+use borrow.Author.Needs.{needs}
+use mathlib.Core.Path.{_≡_, refl, sym, _∙_}
+use mathlib.Core.List.{List}
+use Prim.Native.Nat.{ℕ}
+use native.Mathlib.Omega.{arith}
+use lib.ListN.{length}
+use Rattle.rules.specs.Formula.{Node, eachAtomOf}
+use Rattle.rules.specs.Block.{NumberedAtom}
+use Rattle.rules.specs.Answer.{newBlock}
+use Rattle.block.specs.declared.Held.{Held}
+use Rattle.block.specs.Held.{heldBy, BlockRoom}
+use Rattle.writer.specs.Written.{Writable}
+use Rattle.forms.specs.declared.WorkingTable.{WorkingTable}
+use Rattle.forms.specs.Working.{workingBy, tableOf, blank}
+use Rattle.level.specs.Tree.{Simplified}
+use Rattle.used.specs.Tape.{Holds}
+use Rattle.answer.specs.Tapes.{tokenOf}
+use Rattle.answer.specs.Entry.{Accepted}
+use Rattle.answer.specs.Way.{Prepared, asks-table, asks-room, counts-tokens, prepares, asks-tree, asks-atoms, counts-row}
+use Rattle.answer.specs.Way.{simplerTree, simpler-holds, newHeld, collects, writes, answers}
+use Rattle.answer.proofs.answer_to.Statement.{statement}
+use Rattle.answer.proofs.answer_to.Tie as tie
+
+-- What is held where the function begins, and that it was read from these bytes.
+abbrev held : tie.Start → Held
+held s = let a = s .args in heldBy (a .variables) (a .polynomials) (a .root) (a .count) (a .coefficient .now) (a .monomial .now) (a .terms .now) (a .token .now)
+
+abbrev ReadFrom : List ℕ → tie.Start → Type 0
+ReadFrom bytes s = Accepted bytes (held s) (length (s .args .output .now))
+
+-- ---- the calls, each seen from the next
+
+abbrev start : tie.After-work → tie.Start
+start c = c .before .before .before .before .before .before .before .before .before .before .before .before .before
+
+abbrev working : tie.After-normal-tokens → tie.After-work
+working c = c .before .before .before .before .before .before .before .before .before
+
+abbrev normalising : tie.After-simplified → tie.After-normal-tokens
+normalising c = c .before .before .before .before .before .before .before .before .before
+
+abbrev simplifying : tie.After-plain-tokens → tie.After-simplified
+simplifying c = c .before .before .before .before
+
+abbrev plaining : tie.After-collect → tie.After-plain-tokens
+plaining c = c .before .before .before .before .before .before .before .before .before .before .before .before
+
+-- ---- what is known behind them
+
+abbrev table : tie.After-work → WorkingTable
+table c =
+    let last = c .work .last .1 .1 .1 .1 .1 in
+    workingBy (last .0) (last .1 .0) (last .1 .1 .0) (last .1 .1 .1 .0) (last .1 .1 .1 .1 .0)
+
+module _ (c : tie.After-normal-tokens) {bytes : List ℕ} (accepted : ReadFrom bytes (start (working c))) where
+  -- The tape is in normal form,
+  prepared : Prepared (accepted .given) (held (start (working c))) (table (working c)) (c .normal-tokens .last .0)
+  prepared = prepares accepted (table (working c)) (working c .work .ensures) (c .normal-tokens .last .0) (c .normal-tokens .ensures)
+
+module _ (c : tie.After-simplified) {bytes : List ℕ} (accepted : ReadFrom bytes (start (working (normalising c)))) where
+  -- simplified,
+  simpler : Simplified (tableOf (start (working (normalising c)) .args .variables) (table (working (normalising c))))
+      (eachAtomOf tokenOf (prepared (normalising c) accepted .tree)) (c .simplified .result)
+  simpler = c .simplified .ensures (eachAtomOf tokenOf (prepared (normalising c) accepted .tree)) (asks-tree (prepared (normalising c) accepted))
+
+  abbrev tree : Node NumberedAtom
+  tree = simplerTree (prepared (normalising c) accepted) (c .simplified .result) simpler
+
+module _ (c : tie.After-plain-tokens) {bytes : List ℕ} (accepted : ReadFrom bytes (start (working (normalising (simplifying c))))) where
+  -- plain,
+  holds : Holds (c .plain-tokens .last .0) (simplifying c .simplified .result .tokens .count) (tree (simplifying c) accepted)
+  holds =
+      simpler-holds (prepared (normalising (simplifying c)) accepted) (simplifying c .simplified .result) (simpler (simplifying c) accepted) (c .plain-tokens .last .0)
+      (c .plain-tokens .ensures)
+
+module _ (c : tie.After-collect) where
+  abbrev simplified-at : tie.After-simplified
+  simplified-at = simplifying (plaining c)
+
+  abbrev normal-at : tie.After-normal-tokens
+  normal-at = normalising simplified-at
+
+  abbrev first : tie.Start
+  first = start (working normal-at)
+
+  abbrev new : Held
+  new =
+      let last = c .collect .last .1 .1 .1 .1 .1 .1 in
+      let simplified = simplified-at .simplified .result in
+      heldBy (first .args .variables) (c .collect .result) (simplified .root) (simplified .tokens .count) (last .0) (last .1 .0) (last .1 .1 .0) (last .1 .1 .1 .0)
+
+  module _ {bytes : List ℕ} (accepted : ReadFrom bytes first) where
+    -- and collected to the new block,
+    new-is : new ≡ newHeld (first .args .output .now) accepted (prepared normal-at accepted) (simplified-at .simplified .result) (simpler simplified-at accepted)
+    new-is =
+        collects (first .args .output .now) accepted (prepared normal-at accepted) (simplified-at .simplified .result) (simpler simplified-at accepted)
+        (c .collect .ensures (tree simplified-at accepted) (holds (plaining c) accepted))
+
+    -- which can be written.
+    new-writable : Writable new (length (first .args .output .now)) (newBlock (accepted .given))
+    new-writable =
+        writes (first .args .output .now) accepted (prepared normal-at accepted) (simplified-at .simplified .result) (simpler simplified-at accepted) new new-is
+        (normal-at .normal-tokens .kept .0)
+
+    new-room : BlockRoom (new .coefficient) (new .monomial) (new .terms) (new .token)
+    new-room =
+        let room = asks-room accepted (normal-at .normal-tokens .last .0) (normal-at .normal-tokens .kept .0) in
+        let kept = c .collect .kept .1 .1 .1 .1 .1 .1 in
+        record {
+          coefficients = omega (arith, room .coefficients, kept .0);
+          monomials = omega (arith, room .monomials, kept .1 .0);
+          counts = omega (arith, room .counts, kept .1 .1 .0);
+          tokens = omega (arith, room .tokens, kept .1 .1 .1 .0);
+        }
+
+-- ---- the working table and the tape in normal form
+
+work-requires : tie.Need-work-requires
+unfolding blank
+work-requires c κs = (asks-table (c .before .before .before .before .before .before .before .before .before .before .before .before .pre .accepted), refl)
+
+normal-tokens-requires : tie.Need-normal-tokens-requires
+normal-tokens-requires c κs = let here = c .before .before .before .before .before .before .before .before in (counts-tokens (start here .pre .accepted), search needs, search needs)
+
+atoms-requires : tie.Need-atoms-requires
+atoms-requires c κs = let here = c .before .before .before in asks-atoms (prepared here (start (working here) .pre .accepted))
+
+-- ---- the simplified tape
+
+simplified-requires : tie.Need-simplified-requires
+simplified-requires c κs =
+    let here = c .before .before .before .before .before .before .before .before in
+    let ready = prepared here (start (working here) .pre .accepted) in
+    (working here .work .ensures .forms, (eachAtomOf tokenOf (ready .tree), asks-tree ready))
+
+plain-tokens-requires : tie.Need-plain-tokens-requires
+plain-tokens-requires c κs =
+    let here = c .before .before .before in
+    let accepted = start (working (normalising here)) .pre .accepted in
+    counts-row (prepared (normalising here) accepted) (here .simplified .result) (simpler here accepted)
+
+atoms-requires-2 : tie.Need-atoms-requires-2
+atoms-requires-2 c κs =
+    let here = c .before .before in
+    let accepted = start (working (normalising (simplifying here))) .pre .accepted in
+    record { tree = tree (simplifying here) accepted; holds = holds here accepted }
+
+-- ---- the new block
+
+lends-coefficients : tie.Need-slice-aggregate-collect
+lends-coefficients c = let here = c .before .before .before .before .before .before .before .before in sym (working (normalising here) .work .ensures .forms .coefficients)
+
+lends-monomials : tie.Need-slice-aggregate-collect-2
+lends-monomials c = let here = c .before .before .before .before .before .before .before .before .before in sym (working (normalising here) .work .ensures .forms .monomials)
+
+lends-counts : tie.Need-slice-aggregate-collect-3
+lends-counts c = let here = c .before .before .before .before .before .before .before .before .before .before in sym (working (normalising here) .work .ensures .forms .counts)
+
+collect-requires : tie.Need-collect-requires
+collect-requires c κs =
+    let here = c .before .before .before .before .before .before .before .before .before .before .before in
+    let normal = normalising (simplifying here) in
+    let accepted = start (working normal) .pre .accepted in (
+      working normal .work .ensures .forms,
+      record { tree = tree (simplifying here) accepted; holds = holds here accepted },
+      asks-room accepted (normal .normal-tokens .last .0) (normal .normal-tokens .kept .0),
+    )
+
+write-requires : tie.Need-write-requires
+write-requires c κs =
+    let here = c .before .before .before .before .before .before .before .before .before .before .before .before .before in
+    let accepted = first here .pre .accepted in
+    (new-room here accepted, record { block = newBlock (accepted .given); writable = new-writable here accepted })
+
+same-coefficients : tie.Need-same-length
+same-coefficients c = c .before .before .before .before .before .before .before .before .before .before .before .before .before .before .before .before .collect .kept .1 .1 .1 .1 .1 .1 .0
+
+same-monomials : tie.Need-same-length-2
+same-monomials c = c .before .before .before .before .before .before .before .before .before .before .before .before .before .before .before .before .collect .kept .1 .1 .1 .1 .1 .1 .1 .0
+
+same-counts : tie.Need-same-length-3
+same-counts c = c .before .before .before .before .before .before .before .before .before .before .before .before .before .before .before .before .collect .kept .1 .1 .1 .1 .1 .1 .1 .1 .0
+
+same-tokens : tie.Need-same-length-4
+same-tokens c =
+    let here = c .before .before .before .before .before .before .before .before .before .before .before .before .before .before .before .before in
+    here .collect .kept .1 .1 .1 .1 .1 .1 .1 .1 .1 .0 ∙ normal-at here .normal-tokens .kept .0
+
+returns : tie.Need-returns
+returns c bytes accepted =
+    let writing = c .before .before .write in
+    let telling = c .before .before .before .before .before .before .before .before .verdict-of in
+    let here = c .before .before .before .before .before .before .before .before .before .before .before .before .before .before .before .before in
+    let counting = here .before .before .before .before .before .before .before .before .before .atoms2 in
+    let simplified = simplified-at here in
+    let counted = simplified .before .before .before .before .before .atoms in
+    let ready = prepared (normal-at here) accepted in
+    let written = writing .ensures _ (new-writable here accepted) in
+    answers (first here .args .output .now) accepted ready (simplified .simplified .result) (simpler simplified accepted) (new here) (new-is here accepted)
+    (writing .last .1 .1 .1 .1 .1 .1 .1 .1 .0) (counted .result) (counting .result) (writing .result) (telling .result) (written .0) (written .1)
+    (counted .ensures (ready .tree) (ready .holds)) (counting .ensures (tree simplified accepted) (holds (plaining here) accepted)) (telling .ensures)
+
+pub answer-to-spec : {M : Type 1} → statement M
+answer-to-spec =
+    tie.close
+    (tie.spec (λ c. search needs) (λ c. search needs) (λ c. search needs) (λ c. search needs) (λ c. search needs) work-requires
+    (λ c. search needs) (λ c. search needs) normal-tokens-requires atoms-requires
+    (λ c. search needs) (λ c. search needs) (λ c. search needs) simplified-requires (λ c. search needs) plain-tokens-requires (λ c. search needs) atoms-requires-2
+    lends-coefficients lends-monomials lends-counts (λ c. search needs) collect-requires (λ c κs. search needs) write-requires
+    same-coefficients same-monomials same-counts same-tokens (λ c. search needs) returns)

@@ -1,0 +1,29 @@
+-- What `answer_to` asks and says, and what the entries say: what is held was read from these bytes, and the lent output and what is returned are the
+-- book's answer to them.
+use mathlib.Core.Path.{_≡_}
+use mathlib.Core.List.{List}
+use Prim.Native.Nat.{ℕ, _≤_}
+use lib.ListN.{length}
+use Rattle.rules.specs.Block.{Block, Stream, read, readBlock}
+use Rattle.rules.specs.Answer.{answer}
+use Rattle.block.specs.declared.Held.{Held}
+use Rattle.block.specs.Held.{heldOf}
+use Rattle.answer.specs.declared.Answer.{Answer}
+use Rattle.answer.specs.Answered.{answerOf, written}
+
+-- What is held was read from these bytes, and there is room for as many.
+pub record Accepted (bytes : List ℕ) (held : Held) (room : ℕ) : Type 0 where
+  pub given : Block
+  pub stream : Stream
+  pub accepted : readBlock bytes ≡ read given stream
+  pub is : held ≡ heldOf given
+  pub enough : length bytes ≤ room
+
+pub record AcceptedSome (held : Held) (room : ℕ) : Type 0 where
+  pub bytes : List ℕ
+  pub accepted : Accepted bytes held room
+
+-- What is returned, and what the lent output holds afterwards, is the book's answer to the bytes.
+pub record Answers (bytes before after : List ℕ) (returned : Answer) : Type 0 where
+  pub returns : returned ≡ answerOf (answer (length before) bytes)
+  pub output : after ≡ written (answer (length before) bytes) before

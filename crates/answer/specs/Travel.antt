@@ -1,0 +1,35 @@
+-- From the normalised tape to the new block: what is simplified over the slots of the working table is the block's simplified formula, and the new
+-- block is within the limits and no longer than the bytes that were read.
+use mathlib.Core.Path.{_≡_, ap, _∙_}
+use mathlib.Core.List.{List}
+use Prim.Native.Nat.{ℕ, _≤_}
+use native.Mathlib.Omega.{arith}
+use lib.ListN.{length}
+use Rattle.rules.specs.Formula.{eachAtomOf}
+use Rattle.rules.specs.Level.{simplify}
+use Rattle.rules.specs.Block.{Block, Stream, read, readBlock, blockLength}
+use Rattle.rules.specs.Limits.{BlockWithin}
+use Rattle.rules.specs.Answer.{simplified, newBlock}
+use Rattle.block_laws.specs.Blocks.{block-accepted, accepted-within}
+use Rattle.length_laws.specs.NeverLonger.{never-longer}
+use Rattle.length_laws.specs.NewWithin.{new-within}
+use Rattle.normal_first.specs.NormalFirst.{block-normal-first}
+use Rattle.block.specs.Held.{heldOf}
+use Rattle.forms.specs.declared.WorkingTable.{WorkingTable}
+use Rattle.forms.specs.Working.{tableOf, Worked}
+use Rattle.used.specs.Tape.{inSlot}
+use Rattle.answer.specs.Normal.{normalTree, normal-forms}
+
+module _ (given : Block) (within : BlockWithin given) (w : WorkingTable)
+    (worked : Worked (heldOf given .coefficient) (heldOf given .monomial) (heldOf given .terms) (length (given .table)) (given .variables) w) where
+  -- The normalised tree over the working table's slots is simplified to the block's simplified formula.
+  pub slots-simplified : simplify (given .variables) (eachAtomOf (inSlot (tableOf (given .variables) w)) (normalTree given within w worked)) ≡ simplified given
+  slots-simplified = ap (simplify (given .variables)) (normal-forms given within w worked) ∙ block-normal-first given within
+
+-- The new block of an accepted one can be written,
+pub new-writable : (bytes : List ℕ) {given : Block} {stream : Stream} → readBlock bytes ≡ read given stream → BlockWithin (newBlock given)
+new-writable bytes {given} accepted = new-within given (accepted-within bytes accepted)
+
+-- and finds room wherever the bytes that were read do.
+pub new-room : (bytes : List ℕ) {given : Block} {stream : Stream} → readBlock bytes ≡ read given stream → blockLength (newBlock given) ≤ length bytes
+new-room bytes {given} accepted = omega (arith, never-longer given (accepted-within bytes accepted) .bytes, block-accepted bytes accepted .long)

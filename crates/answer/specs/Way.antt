@@ -1,0 +1,217 @@
+-- The way of an accepted block through the crates below: what is held, made normal, simplified, collected and written, step by step.
+-- Each step takes what the function of that step ensures, and gives what the next one asks.
+use mathlib.Core.Path.{_≡_, sym, ap, ap₂, _∙_, subst}
+use mathlib.Core.List.{List, [], _∷_, _++_, map}
+use Prim.Native.Nat.{ℕ, zero, suc, _≤_}
+use native.Mathlib.Nat.{zero-add}
+use native.Mathlib.Omega.{arith}
+use lib.IntN.{ℤ}
+use lib.ListN.{length, take, drop, replicate, length-map, length-replicate}
+use lib.Seq.{sets, sets-eq, length-sets, take-at}
+use Rattle.rules.specs.Polynomial.{Atom}
+use Rattle.rules.specs.Formula.{Node, eachAtomOf, alone, atoms, nodes}
+use Rattle.rules.specs.Level.{simplify}
+use Rattle.rules.specs.Block.{NumberedAtom, Block, writeBlock, blockLength}
+use Rattle.rules.specs.Limits.{PartsWithin, BlockWithin}
+use Rattle.rules.specs.Answer as book
+use Rattle.rules.specs.Answer.{used, numbered, blockOf, simplified, newBlock}
+use Rattle.block_laws.specs.Blocks.{accepted-within}
+use Rattle.block_laws.specs.Sizes.{length-block}
+use Rattle.block.specs.declared.Held.{Held}
+use Rattle.block.specs.Held as reader
+use Rattle.block.specs.Held.{heldBy, BlockRoom, heldOver, heldOf}
+use Rattle.writer.specs.Written.{Writable}
+use Rattle.forms.specs.declared.WorkingTable.{WorkingTable}
+use Rattle.forms.specs.Working.{TableRead, tableOf, Worked}
+use Rattle.forms.specs.Tokens.{normalTokens}
+use Rattle.level.specs.declared.writing.Tree.{Tree}
+use Rattle.level.specs.Tree.{TreeHeld, Simplified}
+use Rattle.used.specs.Tape.{inSlot, Holds, HoldsSome}
+use Rattle.answer.specs.declared.Verdict.{Verdict}
+use Rattle.answer.specs.declared.Answer.the-variants.{Answered}
+use Rattle.array_laws.specs.Arrays.{held-table-read}
+use Rattle.answer.specs.Normal.{normalised, normalTree, normal-holds, normal-kind, normal-within}
+use Rattle.answer.specs.Tapes.{tokenOf, plain, plainTokens, tokens-in-slots, held-as-tokens, result, result-is, result-holds, result-kind}
+use Rattle.answer.specs.Travel.{slots-simplified, new-writable, new-room}
+use Rattle.answer.specs.Answered.{verdictFrom, verdictOf, countsOf, answerOf, answer-accepted, answer-written, new-verdict, atoms-same}
+use Rattle.answer.specs.Writing.{writable}
+use Rattle.answer.specs.Entry.{Accepted, Answers}
+
+-- ---- the tape that is simplified
+
+-- A tape over the slots of the working table that stands for the given block.
+pub record Prepared (given : Block) (held : Held) (w : WorkingTable) (token : List ℕ) : Type 0 where
+  pub tree : Node NumberedAtom
+  pub holds : Holds token (held .tokens) tree
+  pub kind : reader.kindOf tree ≡ held .root
+  pub within : PartsWithin 6 64 0 (alone tree)
+  pub simplifies : simplify (held .variables) (eachAtomOf (inSlot (tableOf (held .variables) w)) tree) ≡ simplified given
+  pub counted : atoms (alone tree) ≡ atoms (alone (given .tree))
+
+module _ {bytes : List ℕ} {held : Held} {room : ℕ} (accepted : Accepted bytes held room) where
+  within : BlockWithin (accepted .given)
+  within = accepted-within bytes (accepted .accepted)
+
+  -- What the working table asks for.
+  pub asks-table : TableRead (held .coefficient) (held .monomial) (held .terms) (held .polynomials) (held .variables)
+  asks-table = subst (λ (h : Held). TableRead (h .coefficient) (h .monomial) (h .terms) (h .polynomials) (h .variables)) (sym (accepted .is))
+      (held-table-read (accepted .given) within)
+
+  -- The arrays are as long as the reader's,
+  pub tape-long : length (held .token) ≡ 255
+  unfolding heldOf
+  tape-long = ap (λ (h : Held). length (h .token)) (accepted .is) ∙ length-sets (replicate 255 0) 0 (reader.tokens (alone (accepted .given .tree))) ∙ length-replicate {A = ℕ} 255 0
+
+  -- and there is room for another block in them.
+  pub asks-room : (token : List ℕ) → length token ≡ length (held .token) → BlockRoom (held .coefficient) (held .monomial) (held .terms) token
+  asks-room token same = record {
+    coefficients = omega (arith, asks-table .coefficients);
+    monomials = omega (arith, asks-table .monomials);
+    counts = omega (arith, asks-table .counts);
+    tokens = omega (arith, tape-long, same);
+  }
+
+  -- The tape has as many tokens as are counted.
+  pub counts-tokens : held .tokens ≤ length (held .token)
+  unfolding heldOf
+  counts-tokens = subst (λ (h : Held). h .tokens ≤ length (h .token)) (sym (accepted .is))
+      (rw (length-sets, length-replicate) (within .nodes))
+
+  prepared-block : (w : WorkingTable) → Worked (heldOf (accepted .given) .coefficient) (heldOf (accepted .given) .monomial) (heldOf (accepted .given) .terms)
+      (heldOf (accepted .given) .polynomials) (heldOf (accepted .given) .variables) w
+      → Prepared (accepted .given) (heldOf (accepted .given)) w
+      (normalTokens (w .number) (w .turned) (heldOf (accepted .given) .tokens) (heldOf (accepted .given) .token))
+  unfolding heldOf
+  prepared-block w worked = record {
+    tree = normalTree (accepted .given) within w worked;
+    holds = normal-holds (accepted .given) within w worked;
+    kind = normal-kind (accepted .given) within w worked;
+    within = normal-within (accepted .given) within w worked;
+    simplifies = slots-simplified (accepted .given) within w worked;
+    counted = atoms-same (normalised (w .number) (w .turned)) (accepted .given .tree);
+  }
+
+  -- The tape brought to normal form is prepared.
+  pub prepares : (w : WorkingTable) → Worked (held .coefficient) (held .monomial) (held .terms) (held .polynomials) (held .variables) w
+      → (token : List ℕ) → token ≡ normalTokens (w .number) (w .turned) (held .tokens) (held .token) → Prepared (accepted .given) held w token
+  prepares w worked token is =
+      subst (Prepared (accepted .given) held w) (sym is)
+      (subst (λ (h : Held). Worked (h .coefficient) (h .monomial) (h .terms) (h .polynomials) (h .variables) w
+      → Prepared (accepted .given) h w (normalTokens (w .number) (w .turned) (h .tokens) (h .token))) (sym (accepted .is)) (prepared-block w) worked)
+
+-- ---- the tape that comes out
+
+take-long : (n : ℕ) (l : List ℕ) → length (take n l) ≡ n → n ≤ length l
+take-long zero l e = omega arith
+take-long (suc n) [] e = absurd (omega arith)
+take-long (suc n) (x ∷ l) e = omega (arith, take-long n l (omega arith))
+
+module _ {given : Block} {held : Held} {w : WorkingTable} {token : List ℕ} (prepared : Prepared given held w token) where
+  -- What the level rules ask for.
+  pub asks-tree : TreeHeld token (held .root) (eachAtomOf tokenOf (prepared .tree))
+  asks-tree = held-as-tokens (prepared .tree) (prepared .within) (prepared .holds) (prepared .kind)
+
+  -- What the count of atoms asks for.
+  pub asks-atoms : HoldsSome token (held .tokens)
+  asks-atoms = record { tree = prepared .tree; holds = prepared .holds }
+
+  module _ (r : Tree) (simpler : Simplified (tableOf (held .variables) w) (eachAtomOf tokenOf (prepared .tree)) r) where
+    row-long : r .tokens .count ≤ length (r .tokens .token)
+    row-long = take-long (r .tokens .count) (r .tokens .token) (ap length (simpler .lists .is) ∙ sym (simpler .lists .size))
+
+    -- The row has as many tokens as are counted.
+    pub counts-row : r .tokens .count ≤ length (r .tokens .token)
+    counts-row = row-long
+
+    -- The simplified tree.
+    abbrev pub simplerTree : Node NumberedAtom
+    simplerTree = result (tableOf (held .variables) w) (eachAtomOf tokenOf (prepared .tree)) r simpler
+
+    -- It stands for the simplified formula.
+    pub simpler-is : eachAtomOf (inSlot (tableOf (held .variables) w)) simplerTree ≡ simplified given
+    simpler-is =
+        result-is (tableOf (held .variables) w) (eachAtomOf tokenOf (prepared .tree)) r simpler
+        ∙ ap (simplify (held .variables)) (tokens-in-slots (prepared .tree) (prepared .within) (tableOf (held .variables) w)) ∙ prepared .simplifies
+
+    -- The plain tape holds it.
+    pub simpler-holds : (tape : List ℕ) → tape ≡ plainTokens (r .tokens .count) (r .tokens .token) → Holds tape (r .tokens .count) simplerTree
+    simpler-holds tape is =
+        let front : List ℕ = map plain (take (r .tokens .count) (r .tokens .token)) in
+        let long : length front ≡ r .tokens .count
+        = length-map (take (r .tokens .count) (r .tokens .token)) plain ∙ ap length (simpler .lists .is) ∙ sym (simpler .lists .size) in
+        result-holds (tableOf (held .variables) w) (eachAtomOf tokenOf (prepared .tree)) r simpler
+        (ap (take (r .tokens .count)) is ∙ take-at front (drop (r .tokens .count) (r .tokens .token)) (r .tokens .count) long)
+
+    -- Its root is of the kind that is told.
+    pub simpler-kind : reader.kindOf simplerTree ≡ r .root
+    simpler-kind = result-kind (tableOf (held .variables) w) (eachAtomOf tokenOf (prepared .tree)) r simpler
+
+-- ---- the new block
+
+module _ {bytes : List ℕ} (before : List ℕ) {held : Held} (accepted : Accepted bytes held (length before)) {w : WorkingTable} {token : List ℕ}
+    (prepared : Prepared (accepted .given) held w token) (r : Tree)
+    (simpler : Simplified (tableOf (held .variables) w) (eachAtomOf tokenOf (prepared .tree)) r) where
+  same-variables : held .variables ≡ accepted .given .variables
+  unfolding heldOf
+  same-variables = ap (λ (h : Held). h .variables) (accepted .is)
+
+  -- The new block, stored over the arrays that held the given one.
+  abbrev pub newHeld : Held
+  newHeld = heldOver (held .coefficient) (held .monomial) (held .terms) token (newBlock (accepted .given))
+
+  -- This is what is collected,
+  pub collects : {m : ℕ} {cs : List ℤ} {ms ts tape : List ℕ}
+      → heldBy (held .variables) m (reader.kindOf (simplerTree prepared r simpler)) (r .tokens .count) cs ms ts tape
+      ≡ heldOver (held .coefficient) (held .monomial) (held .terms) token
+      (blockOf (held .variables) (eachAtomOf (inSlot (tableOf (held .variables) w)) (simplerTree prepared r simpler)))
+      → heldBy (held .variables) m (r .root) (r .tokens .count) cs ms ts tape ≡ newHeld
+  unfolding newBlock
+  collects {m} {cs} {ms} {ts} {tape} is =
+      ap (λ (kind : ℕ). heldBy (held .variables) m kind (r .tokens .count) cs ms ts tape) (sym (simpler-kind prepared r simpler)) ∙ is
+      ∙ ap₂ (λ (n : ℕ) (tree : Node Atom). heldOver (held .coefficient) (held .monomial) (held .terms) token (blockOf n tree)) same-variables (simpler-is prepared r simpler)
+
+  -- which can be written.
+  pub writes : (new : Held) → new ≡ newHeld → length token ≡ length (held .token) → Writable new (length before) (newBlock (accepted .given))
+  writes new is same =
+      let table = asks-table accepted in
+      subst (λ (h : Held). Writable h (length before) (newBlock (accepted .given))) (sym is)
+      (writable (newBlock (accepted .given)) (new-writable bytes (accepted .accepted)) (held .coefficient) (held .monomial) (held .terms) token
+      (table .coefficients) (table .monomials) (table .counts) (same ∙ tape-long accepted) (length before)
+      (omega (arith, new-room bytes (accepted .accepted), accepted .enough)))
+
+  new-atoms : atoms (alone (simplerTree prepared r simpler)) ≡ atoms (alone (newBlock (accepted .given) .tree))
+  unfolding newBlock blockOf
+  new-atoms =
+      sym (atoms-same (inSlot (tableOf (held .variables) w)) (simplerTree prepared r simpler))
+      ∙ ap (λ (tree : Node Atom). atoms (alone tree)) (simpler-is prepared r simpler)
+      ∙ sym (atoms-same (numbered (used [] (alone (simplified (accepted .given))))) (simplified (accepted .given)))
+
+  -- So what is returned and written is the book's answer.
+  pub answers : (new : Held) → new ≡ newHeld → (after : List ℕ) (atoms-in atoms-out size : ℕ) (verdict : Verdict)
+      → size ≡ blockLength (newBlock (accepted .given)) → after ≡ sets before 0 (writeBlock (newBlock (accepted .given)))
+      → atoms-in ≡ atoms (alone (prepared .tree)) → atoms-out ≡ atoms (alone (simplerTree prepared r simpler)) → verdict ≡ verdictFrom (new .root) (new .tokens)
+      → Answers bytes before after (Answered verdict size (record {
+        «atoms_in» = atoms-in;
+        «atoms_out» = atoms-out;
+        «polynomials_in» = held .polynomials;
+        «polynomials_out» = new .polynomials;
+      }))
+  unfolding answerOf countsOf book.countsOf heldOf
+  answers new new-is after atoms-in atoms-out size verdict size-is after-is in-is out-is verdict-is =
+      let given = accepted .given in
+      let told : verdict ≡ verdictOf (book.verdictOf (simplified given))
+      = verdict-is ∙ ap (λ (h : Held). verdictFrom (h .root) (h .tokens)) new-is ∙ sym (new-verdict given) in
+      let long : size ≡ length (writeBlock (newBlock given)) = size-is ∙ sym (length-block (newBlock given)) in
+      let before-in : atoms-in ≡ atoms (alone (given .tree)) = in-is ∙ prepared .counted in
+      let before-out : atoms-out ≡ atoms (alone (newBlock given .tree)) = out-is ∙ new-atoms in
+      let table-in : held .polynomials ≡ length (given .table) = ap (λ (h : Held). h .polynomials) (accepted .is) in
+      let table-out : new .polynomials ≡ length (newBlock given .table) = ap (λ (h : Held). h .polynomials) new-is in
+      let fits : length (writeBlock (newBlock given)) ≤ length before
+      = omega (arith, new-room bytes (accepted .accepted), accepted .enough, length-block (newBlock given)) in
+      let stored : sets before 0 (writeBlock (newBlock given)) ≡ writeBlock (newBlock given) ++ drop (length (writeBlock (newBlock given))) before
+      = rw (zero-add (length (writeBlock (newBlock given)))) at (sets-eq (writeBlock (newBlock given)) before 0 (omega arith)) in
+      record {
+        returns = rw (answer-accepted (length before) bytes (accepted .enough) (accepted .accepted), told, long, before-in, before-out, table-in, table-out);
+        output = after-is ∙ stored ∙ ap (λ (k : ℕ). writeBlock (newBlock given) ++ drop k before) (length-block (newBlock given))
+            ∙ sym (answer-written (length before) bytes (accepted .enough) (accepted .accepted) before);
+      }
