@@ -12,7 +12,7 @@ use Rattle.rules.specs.Polynomial.{Atom}
 use Rattle.rules.specs.Formula.{Parts, end, atom, and, or, Node, leaf, allOf, anyOf, eachAtom, eachAtomOf, isEnd, alone, atoms, nodes, open-formula}
 use Rattle.rules.specs.Block.{NumberedAtom, Block, Stream, refused, read, readBlock, writeBlock, blockLength}
 use Rattle.rules.specs.Answer as book
-use Rattle.rules.specs.Answer.{used, numbered, blockOf, simplified, newBlock, answerTo, unlessShort}
+use Rattle.rules.specs.Answer.{used, numbered, blockOf, written, simplified, newBlock, answerTo, unlessShort}
 use Rattle.block_laws.specs.Sizes.{length-block}
 use Rattle.ending_laws.specs.Nestings.{alone-each}
 use Rattle.block.specs.Held.{kindOf, heldOf}
@@ -40,11 +40,6 @@ countsOf counts = record {
 unfoldable pub answerOf : book.Answer → Answer
 answerOf (book.refusal number) = Refused number
 answerOf (book.answered verdict bytes counts) = Answered (verdictOf verdict) (length bytes) (countsOf counts)
-
--- What the lent output holds afterwards: the new block's bytes and then what stood behind them; on refusal, what it held.
-unfoldable pub written : book.Answer → List ℕ → List ℕ
-written (book.refusal number) output = output
-written (book.answered verdict bytes counts) output = bytes ++ drop (length bytes) output
 
 -- "returns its number and length 0": 01's two numbers of what is returned. An answer has no refusal number: 0.
 abbrev pub refusalIn : Answer → ℕ

@@ -5,11 +5,11 @@ use mathlib.Core.List.{List}
 use Prim.Native.Nat.{ℕ, _≤_}
 use lib.ListN.{length}
 use Rattle.rules.specs.Block.{Block, Stream, read, readBlock}
-use Rattle.rules.specs.Answer.{answer}
+use Rattle.rules.specs.Answer.{written, answer}
 use Rattle.block.specs.declared.Held.{Held}
 use Rattle.block.specs.Held.{heldOf}
 use Rattle.answer.specs.declared.Answer.{Answer}
-use Rattle.answer.specs.Answered.{answerOf, written}
+use Rattle.answer.specs.Answered.{answerOf}
 
 -- What is held was read from these bytes, and there is room for as many.
 pub record Accepted (bytes : List ℕ) (held : Held) (room : ℕ) : Type 0 where

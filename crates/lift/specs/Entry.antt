@@ -6,13 +6,13 @@ use Prim.Native.Nat.{ℕ, _<_, _≤_}
 use lib.IntN.{ℤ, pos}
 use lib.ListN.{length, replicate}
 use Rattle.rules.specs.Block.{refused, readBlock}
-use Rattle.rules.specs.Answer.{Answer as BookAnswer}
+use Rattle.rules.specs.Answer.{Answer as BookAnswer, written}
 use Rattle.block.specs.declared.Contents.{Contents}
 use Rattle.block.specs.declared.Contents.the-variants.{Refused as NoBlock, Numbers}
 use Rattle.block.specs.Held.{heldBy, heldOf}
 use Rattle.block.specs.Steps.{ContentsOf, ContentsFound}
 use Rattle.answer.specs.declared.Answer.the-variants.{Refused}
-use Rattle.answer.specs.Answered.{answerOf, written, answer-short, answer-refused}
+use Rattle.answer.specs.Answered.{answerOf, answer-short, answer-refused}
 use Rattle.answer.specs.Entry.{Accepted, Answers}
 
 -- ---- refusals

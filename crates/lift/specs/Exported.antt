@@ -9,7 +9,7 @@ use lib.Dec.{ltb, lit≤}
 use lib.ListN.{length}
 use borrow.Author.Tests.{lt-ltb, le-ltb}
 use Rattle.rules.specs.Answer as book
-use Rattle.rules.specs.Answer.{answer}
+use Rattle.rules.specs.Answer.{filledPart, isRefusal, answer}
 use Rattle.answer.specs.declared.Verdict.{Verdict}
 use Rattle.answer.specs.declared.Verdict.the-variants.{Formula, Always, Unsatisfiable}
 use Rattle.answer.specs.declared.Counts.{Counts}
@@ -18,7 +18,7 @@ use Rattle.answer.specs.declared.Answer.the-variants.{Refused, Answered}
 use Rattle.answer.specs.Answered.{verdictOf, countsOf, answerOf, lengthIn}
 use Rattle.lift.specs.Bounds.{Bounded, by-number, by-block, answer-bounded}
 use Rattle.answer.specs.Entry.{Answers}
-use Rattle.lift.specs.Part.{filledPart, isRefusal, part-length}
+use Rattle.lift.specs.Part.{part-length}
 
 -- "a verdict (formula, always, unsatisfiable)", counted from 1
 unfoldable pub verdictNumber : book.Verdict → ℕ

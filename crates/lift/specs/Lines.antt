@@ -8,17 +8,18 @@ use lib.ListN.{length, take, drop, length-append}
 use lib.Seq.{take-append-seam, length-take-le}
 use borrow.Author.Tests.{le-leb}
 use Rattle.rules.specs.Answer as book
+use Rattle.rules.specs.Answer.{written, filledPart}
 use Rattle.rules.specs.Report.{report}
 use Rattle.lines.specs.Parts.{refusal-long, line-long, lines-long}
 use Rattle.answer.specs.declared.Verdict.{Verdict}
 use Rattle.answer.specs.declared.Counts.{Counts}
 use Rattle.answer.specs.declared.Answer.{Answer}
 use Rattle.answer.specs.declared.Answer.the-variants.{Refused, Answered}
-use Rattle.answer.specs.Answered.{verdictOf, countsOf, answerOf, written, lengthIn}
+use Rattle.answer.specs.Answered.{verdictOf, countsOf, answerOf, lengthIn}
 use Rattle.answer.specs.Entry.{Answers}
 use Rattle.telling.specs.Told.{told, toldLength, Told, verdictIn, countsIn, verdict-again, counts-again}
 use Rattle.lift.specs.Bounds.{Bounded, by-block, answer-bounded}
-use Rattle.lift.specs.Part.{filledPart, part-length, part-first}
+use Rattle.lift.specs.Part.{part-length, part-first}
 use Rattle.lift.specs.Exported.{length-short}
 
 -- ---- what is said

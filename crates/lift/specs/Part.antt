@@ -1,8 +1,7 @@
 -- 01, "Refusal numbers": "A second entry gives back the filled part of the lent output itself, empty exactly on refusal."
--- What the part is, and that the first bytes of the output are it.
+-- The first bytes of the output are the part, and the length that is returned is its length.
 use mathlib.Core.Path.{_≡_, refl, ap, _∙_}
-use mathlib.Core.Bool.{Bool, true, false}
-use mathlib.Core.List.{List, []}
+use mathlib.Core.List.{List}
 use Prim.Native.Nat.{ℕ}
 use native.Mathlib.Omega.{arith}
 use lib.Dec.{eqb}
@@ -10,20 +9,11 @@ use lib.ListN.{length, take}
 use lib.Seq.{take-at}
 use borrow.Author.Tests.{ne-eqb}
 use Rattle.rules.specs.Answer as book
-use Rattle.rules.specs.Answer.{answer}
+use Rattle.rules.specs.Answer.{written, filledPart, isRefusal, answer}
 use Rattle.answer.specs.declared.Answer.{Answer}
-use Rattle.answer.specs.Answered.{answerOf, written, lengthIn}
+use Rattle.answer.specs.Answered.{answerOf, lengthIn}
 use Rattle.lift.specs.Bounds.{Bounded, by-block, answer-bounded}
 use Rattle.answer.specs.Entry.{Answers}
-
--- The filled part of the lent output: the new block, or nothing.
-unfoldable pub filledPart : book.Answer → List ℕ
-filledPart (book.refusal number) = []
-filledPart (book.answered verdict bytes counts) = bytes
-
-unfoldable pub isRefusal : book.Answer → Bool
-isRefusal (book.refusal number) = true
-isRefusal (book.answered verdict bytes counts) = false
 
 empty-if-bounded : (a : book.Answer) → Bounded a → eqb (length (filledPart a)) 0 ≡ isRefusal a
 unfolding filledPart isRefusal

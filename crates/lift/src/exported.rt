@@ -3,9 +3,8 @@
 ghost use mathlib.Core.Path.{_≡_};
 ghost use Prim.Native.Nat.{_<_};
 ghost use lib.ListN.{length};
-ghost use Rattle.rules.specs.Answer.{answer};
-ghost use Rattle.answer.specs.Answered.{lengthIn, written};
-ghost use Rattle.lift.specs.Part.{filledPart};
+ghost use Rattle.rules.specs.Answer.{written, filledPart, answer};
+ghost use Rattle.answer.specs.Answered.{lengthIn};
 ghost use Rattle.lift.specs.Exported.{exported, counted, packedOf, numberIn, countsOrZero};
 ghost use Rattle.lift.specs.Lines.{Reports};
 use crate::Answer;

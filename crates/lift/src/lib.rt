@@ -5,11 +5,10 @@ ghost use lib.Dec.{eqb};
 ghost use lib.ListN.{length};
 ghost use denote.Ref.{ptr};
 ghost use Rattle.rules.specs.Block.{readBlock};
-ghost use Rattle.rules.specs.Answer.{answer};
+ghost use Rattle.rules.specs.Answer.{filledPart, isRefusal, answer};
 ghost use Rattle.rules.specs.Demands.{SameLifts, NeverLonger};
 ghost use Rattle.answer.specs.Answered.{lengthIn};
 ghost use Rattle.answer.specs.Entry.{Answers};
-ghost use Rattle.lift.specs.Part.{filledPart, isRefusal};
 ghost use Rattle.lift.specs.Lines.{Reports};
 
 mod exported; // the entries for C

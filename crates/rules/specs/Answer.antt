@@ -4,7 +4,7 @@ use mathlib.Core.Bool.{Bool, true, false, _||_}
 use mathlib.Core.List.{List, [], _∷_, _++_}
 use Prim.Native.Nat.{ℕ, zero, suc}
 use lib.Dec.{leb}
-use lib.ListN.{length, getD}
+use lib.ListN.{length, getD, drop}
 use Rattle.rules.specs.Polynomial.{Polynomial, Atom, same}
 use Rattle.rules.specs.Formula.{Parts, end, atom, and, or, Node, leaf, allOf, anyOf, isEnd, eachAtomOf, atoms, alone}
 use Rattle.rules.specs.Level.{Formula, simplify}
@@ -74,11 +74,24 @@ countsOf given new = record {
   polynomials-out = length (new .table);
 }
 
--- "A refusal returns its number and length 0 and the output keeps each byte. An answer returns a verdict and a length; the output's first bytes are
--- the new block and the rest keep their values."
+-- "A refusal returns its number", "An answer returns a verdict (formula, always, unsatisfiable) and a length": the length is that of the new block's bytes.
 pub data Answer : Type 0 where
   refusal : ℕ → Answer
   answered : Verdict → List ℕ → Counts → Answer
+
+-- The lent output afterwards: on refusal "the output keeps each byte", else its "first bytes are the new block and the rest keep their values".
+unfoldable pub written : Answer → List ℕ → List ℕ
+written (refusal number) output = output
+written (answered verdict bytes counts) output = bytes ++ drop (length bytes) output
+
+-- "A second entry gives back the filled part of the lent output itself, empty exactly on refusal."
+unfoldable pub filledPart : Answer → List ℕ
+filledPart (refusal number) = []
+filledPart (answered verdict bytes counts) = bytes
+
+unfoldable pub isRefusal : Answer → Bool
+isRefusal (refusal number) = true
+isRefusal (answered verdict bytes counts) = false
 
 -- The simplified formula of a block, and the block it is written as.
 unfoldable pub simplified : Block → Node Atom
@@ -101,5 +114,5 @@ answer room bytes = unlessShort (leb (length bytes) room) (answerTo (readBlock b
 
 -- To unfold this is to unfold every definition of this file.
 unfoldable pub open-answer : Unit {0}
-unfolding lookedUp formulaOf knows addedUnless used hereOr numberIn numbered blockOf ifEnd verdictOf countsOf simplified newBlock answerTo unlessShort answer
+unfolding lookedUp formulaOf knows addedUnless used hereOr numberIn numbered blockOf ifEnd verdictOf countsOf written filledPart isRefusal simplified newBlock answerTo unlessShort answer
 open-answer = tt
