@@ -41,11 +41,7 @@ unfoldable pub answerOf : book.Answer → Answer
 answerOf (book.refusal number) = Refused number
 answerOf (book.answered verdict bytes counts) = Answered (verdictOf verdict) (length bytes) (countsOf counts)
 
--- "returns its number and length 0": 01's two numbers of what is returned. An answer has no refusal number: 0.
-abbrev pub refusalIn : Answer → ℕ
-refusalIn (Refused number) = number
-refusalIn (Answered verdict length counts) = 0
-
+-- "A refusal returns its number and length 0."
 abbrev pub lengthIn : Answer → ℕ
 lengthIn (Refused number) = 0
 lengthIn (Answered verdict length counts) = length

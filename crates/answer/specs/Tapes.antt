@@ -29,10 +29,6 @@ unfoldable pub numberedOf : ℕ → NumberedAtom
 numberedOf token = record { number = token / 8 % 64; set = token % 8 }
 
 -- In a table's slots the two are the same atom.
-pub token-in-slot : (table : Table) (token : ℕ) → inSlot table (numberedOf token) ≡ atomOf table token
-unfolding inSlot numberedOf atomOf
-token-in-slot table token = refl
-
 atom-of-token : (table : Table) (a : NumberedAtom) → a .number < 64 → a .set < 8 → atomOf table (tokenOf a) ≡ inSlot table a
 unfolding inSlot tokenOf atomOf
 atom-of-token table a h k = rw (slot-back (a .number) (a .set) h k, set-back (a .number) (a .set) k)

@@ -5,7 +5,7 @@ use mathlib.Core.List.{List}
 use Prim.Native.Nat.{ℕ, zero, suc, _<_, _≤_}
 use lib.Dec.{T, leb, ltb, lit<, lit≤}
 use Rattle.rules.specs.Formula.{Node}
-use Rattle.rules.specs.Block.{NumberedAtom, Block, Stream, Reading, refused, read, require, afterwards, readTerm, readTerms, readPolynomial, readTable, readAtom, readJoin}
+use Rattle.rules.specs.Block.{NumberedAtom, Stream, Reading, refused, read, require, afterwards, readTerm, readTerms, readPolynomial, readTable, readAtom, readJoin}
 use Rattle.rules.specs.Block.{byKind, readNodeBy, readParts, readNode, readEnd, readBody, readBlock}
 
 -- A number of the table.

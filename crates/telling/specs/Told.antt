@@ -1,12 +1,12 @@
 -- What is told of an answer: its lines in the lent text if they fit, and the text as it was if they do not. The lines are those of the book's verdict
 -- and counts, which the returned ones stand for.
 use mathlib.Core.Path.{_≡_, refl}
-use mathlib.Core.Bool.{Bool, true, false, cond}
+use mathlib.Core.Bool.{cond}
 use mathlib.Core.List.{List, _++_}
 use Prim.Native.Nat.{ℕ, _<_, _≤_}
 use native.Mathlib.Omega.{arith}
 use lib.Dec.{leb}
-use lib.ListN.{length, take, drop, length-append}
+use lib.ListN.{length, take, drop}
 use borrow.Author.Tests.{le-leb, lt-leb}
 use Rattle.rules.specs.Answer as book
 use Rattle.lines.specs.Written.{Wrote, wrote-long, front-end, front-whole, front-again}
@@ -82,12 +82,3 @@ told-all {lines} {text} {after} {n} h w = record {
   returns = rw (le-leb (length lines) (length text) h) (front-end h w);
   text = rw (le-leb (length lines) (length text) h) (front-whole h w);
 }
-
--- What is told lies within the text.
-pub told-inside : {lines text after : List ℕ} {n : ℕ} → Told lines text after n → n ≤ length after
-unfolding told toldLength
-told-inside {lines} {text} {after} {n} t = rw (t .returns, t .text) (either (leb (length lines) (length text)))
-  where
-    either : (b : Bool) → cond b (length lines) 0 ≤ length (cond b (lines ++ drop (length lines) text) text)
-    either true = rw (length-append lines (drop (length lines) text)) (omega arith)
-    either false = omega arith

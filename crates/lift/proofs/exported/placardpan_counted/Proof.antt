@@ -1,6 +1,6 @@
 -- `placardpan_counted` meets its contract: the number, the output and the counts are those of what `simplify` answers.
 use borrow.Author.Needs.{needs}
-use mathlib.Core.Path.{_≡_, ap, _∙_}
+use mathlib.Core.Path.{ap, _∙_}
 use Rattle.answer.specs.declared.Counts.{Counts}
 use Rattle.answer.specs.Answered.{countsOf}
 use Rattle.lift.specs.Exported.{length-short, number-exported, counts-counted}
