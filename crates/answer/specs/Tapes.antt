@@ -16,7 +16,7 @@ use Rattle.ending_laws.specs.Nestings.{alone-each}
 use Rattle.table.specs.Table.{Table}
 use Rattle.block.specs.Held as held
 use Rattle.level.specs.declared.writing.Tree.{Tree}
-use Rattle.level.specs.Token.{atomOf}
+use Rattle.tape.specs.Token.{atomOf}
 use Rattle.level.specs.Tree.{tokens, kindOf, TokensWithin, tokens-within, TreeHeld, Simplified}
 use Rattle.used.specs.Tape.{inSlot, NameSlots, Holds}
 use Rattle.answer.specs.Normal.{length-tokens, nodes-each, children-each, slot-back, set-back, tree-after}

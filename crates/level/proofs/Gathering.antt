@@ -12,17 +12,17 @@ use Rattle.rules.specs.Polynomial.{Atom}
 use Rattle.rules.specs.Formula.{end, atom, or}
 use Rattle.rules.specs.Level.{Formula, dual, atomsOf, orsOf, Entry, enter, Walk, falls, still, add, gather, afterGather, andRule, orRule}
 use Rattle.table.specs.Table.{Table}
-use Rattle.level.specs.declared.rows.Row.{Row}
-use Rattle.level.specs.declared.walks.Level.{Level}
-use Rattle.level.specs.declared.walks.Walked.{Walked}
+use Rattle.tape.specs.declared.rows.Row.{Row}
+use Rattle.tape.specs.declared.walks.Level.{Level}
+use Rattle.tape.specs.declared.walks.Walked.{Walked}
 use Rattle.level.specs.declared.nesting.Found.{Found}
-use Rattle.level.specs.Row.{Lists}
-use Rattle.level.specs.Token.{atomOf, atomsIn}
-use Rattle.level.specs.Walked.{walkOf, Shows, Stands, afterwards, Goes, room, sizeOf}
+use Rattle.tape.specs.Row.{Lists}
+use Rattle.tape.specs.Token.{atomOf, atomsIn}
+use Rattle.tape.specs.Walked.{walkOf, Shows, Stands, afterwards, Goes, room, sizeOf}
 use Rattle.level.specs.Settled.{Gathered, FinishIs}
 use Rattle.level.specs.Source.{Forest, nothing, leaf, branch, count, size, flat, taken, seen, Shaped, Holds, Stood, Done}
-use Rattle.level.proofs.Entering.{map-append, complemented-twice}
-use Rattle.level.proofs.Childwise.{further, further-start, further-end, further-child}
+use Rattle.tape.specs.Entering.{map-append, complemented-twice}
+use Rattle.tape.specs.Further.{further, further-start, further-end, further-child}
 
 -- ---- the tape
 

@@ -1,14 +1,3 @@
-pub mod Listing
-pub mod Entering
-pub mod Slots
-pub mod Constants
-pub mod Merging
-pub mod Storing
-pub mod Handing
-pub mod SmallSets
-pub mod Cutting
-pub mod Atomwise
-pub mod Childwise
 pub mod Stages
 pub mod Gathering
 pub mod Skipping

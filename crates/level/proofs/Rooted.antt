@@ -12,20 +12,20 @@ use Rattle.rules.specs.Formula.{Parts, end, atom, and, or, Node, allOf, anyOf, 
 use Rattle.rules.specs.Formula as formula
 use Rattle.rules.specs.Level.{Formula, complemented, dual, dualNode, Walk, atomsOf, orsOf, still, gather, orParts, parts, nodeIf, asNode, andRule, simplify}
 use Rattle.table.specs.Table.{Table}
-use Rattle.level.specs.declared.rows.Row.{Row}
-use Rattle.level.specs.declared.walks.Level.{Level}
+use Rattle.tape.specs.declared.rows.Row.{Row}
+use Rattle.tape.specs.declared.walks.Level.{Level}
 use Rattle.level.specs.declared.writing.Tree.{Tree}
 use Rattle.level.specs.declared.nesting.Found.{Found}
-use Rattle.level.specs.Row.{Lists}
-use Rattle.level.specs.Token.{slot, atomOf, atomsIn, opposite}
-use Rattle.level.specs.Tape.{Children, none, child, laid, orsIn}
-use Rattle.level.specs.Walked.{Shows, sizeOf}
+use Rattle.tape.specs.Row.{Lists}
+use Rattle.tape.specs.Token.{slot, atomOf, atomsIn, opposite}
+use Rattle.tape.specs.Tape.{Children, none, child, laid, orsIn}
+use Rattle.tape.specs.Walked.{Shows, sizeOf}
 use Rattle.level.specs.Source.{Forest, nothing, leaf, branch, count, size, flat, named, meant, taken, seen, Shaped, Below, Holds, Done}
 use Rattle.level.specs.Settled.{FinishIs}
 use Rattle.level.specs.Tree.{tokens, kindNumber, kindOf, TokensWithin, TreeHeld, rootParts, RootIs, Simplified}
 use Rattle.level.specs.Written.{told, leaves, forest, howMany, Between, opening, rootOf, turned, TreeIs}
-use Rattle.level.proofs.Entering.{opposite-is, complemented-twice, dual-twice}
-use Rattle.level.proofs.Listing.{whole}
+use Rattle.tape.specs.Entering.{opposite-is, complemented-twice, dual-twice}
+use Rattle.tape.specs.Listing.{whole}
 use Rattle.level.proofs.Gathering.{one-or-few}
 use Rattle.level.proofs.Telling.{flat-leaves, count-leaves, count-forest}
 

@@ -11,24 +11,23 @@ use Rattle.rules.specs.Level.{Formula, dual, orParts, parts, never, Walk, falls
 use Rattle.ending_laws.specs.Turns.{no-turn-missing}
 use Rattle.removal_laws.specs.Apart.{tidy-apart}
 use Rattle.table.specs.Table.{Table}
-use Rattle.level.specs.declared.rows.Row.{Row}
-use Rattle.level.specs.declared.walks.Level.{Level}
-use Rattle.level.specs.declared.walks.Walked.{Walked}
-use Rattle.level.specs.declared.tidying.Tidied.{Tidied}
-use Rattle.level.specs.declared.carrying.Carrying.{Carrying}
+use Rattle.tape.specs.declared.rows.Row.{Row}
+use Rattle.tape.specs.declared.walks.Level.{Level}
+use Rattle.tape.specs.declared.walks.Walked.{Walked}
+use Rattle.steps.specs.declared.tidying.Tidied.{Tidied}
+use Rattle.steps.specs.declared.carrying.Carrying.{Carrying}
 use Rattle.level.specs.declared.settling.Stage.{Stage}
-use Rattle.level.specs.Row.{Lists}
-use Rattle.level.specs.Token.{atomOf, atomsIn}
-use Rattle.level.specs.Tape.{Children, none, child, laid, orsIn}
-use Rattle.level.specs.Walked.{walkOf, Shows, Stands, oneIf, room, load, sizeOf}
-use Rattle.level.specs.Tidied.{tidiedOf, Tidies}
+use Rattle.tape.specs.Row.{Lists}
+use Rattle.tape.specs.Token.{atomOf, atomsIn}
+use Rattle.tape.specs.Tape.{Children, none, child, laid, orsIn}
+use Rattle.tape.specs.Walked.{walkOf, Shows, Stands, oneIf, room, load, sizeOf}
+use Rattle.steps.specs.Tidied.{tidiedOf, Tidies}
 use Rattle.round.specs.Views.{stateOf}
-use Rattle.rounds.specs.Views.{ending}
-use Rattle.level.specs.Carried.{Carries, LeftBy, Remains}
-use Rattle.level.specs.Swept.{SweepIs}
+use Rattle.steps.specs.Carried.{Carries, LeftBy, Remains}
+use Rattle.steps.specs.Swept.{SweepIs}
 use Rattle.level.specs.Settled.{NodeIsFalse, resultOf, StageIs, Ready, SettleIs, due, Gathered, FinishIs}
-use Rattle.level.proofs.Listing.{whole}
-use Rattle.level.proofs.Entering.{map-append}
+use Rattle.tape.specs.Listing.{whole}
+use Rattle.tape.specs.Entering.{map-append}
 
 never-parts : (t : Table) → parts (atomsIn t []) (orsIn t (child [] none none)) ≡ never
 unfolding parts orParts orsIn never dual

@@ -7,14 +7,14 @@ use native.Mathlib.Nat.{add-zero}
 use native.Mathlib.Omega.{arith}
 use lib.ListN.{length, take, drop, getD, set, length-append, length-drop}
 use lib.Seq.{getD-drop, getD-set-same, getD-set-other}
-use Rattle.level.specs.declared.rows.Row.{Row}
-use Rattle.level.specs.Row.{Lists}
-use Rattle.level.specs.Tape.{Children, none, child, laid, ChildAt}
+use Rattle.tape.specs.declared.rows.Row.{Row}
+use Rattle.tape.specs.Row.{Lists}
+use Rattle.tape.specs.Tape.{Children, none, child, laid, ChildAt}
 use Rattle.level.specs.Source.{Forest, count, flat}
 use Rattle.level.specs.Written.{told, leaves, forest, howMany, Between, Heads, MarksIs}
-use Rattle.level.proofs.Listing.{held-at, part-more}
-use Rattle.level.proofs.Entering.{map-append, head-of}
-use Rattle.level.proofs.Childwise.{its-atoms, past-atoms, past-child, child-ends}
+use Rattle.tape.specs.Listing.{held-at, part-more}
+use Rattle.tape.specs.Entering.{map-append, head-of}
+use Rattle.tape.specs.Placed.{its-atoms, past-atoms, past-child, child-ends}
 
 -- ---- atoms
 

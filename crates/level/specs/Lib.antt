@@ -1,10 +1,3 @@
-pub mod Row
-pub mod Token
-pub mod Tape
-pub mod Walked
-pub mod Tidied
-pub mod Carried
-pub mod Swept
 pub mod Settled
 pub mod Source
 pub mod Tree

@@ -7,14 +7,14 @@ use lib.ListN.{length}
 use Rattle.rules.specs.Polynomial.{Atom}
 use Rattle.rules.specs.Level.{Formula, parts, settled-down, afterGather, Walk}
 use Rattle.table.specs.Table.{Table}
-use Rattle.level.specs.declared.rows.Row.{Row}
-use Rattle.level.specs.declared.walks.Level.{Level}
-use Rattle.level.specs.declared.walks.Walked.{Walked}
+use Rattle.tape.specs.declared.rows.Row.{Row}
+use Rattle.tape.specs.declared.walks.Level.{Level}
+use Rattle.tape.specs.declared.walks.Walked.{Walked}
 use Rattle.level.specs.declared.settling.Stage.{Stage}
-use Rattle.level.specs.Row.{Lists}
-use Rattle.level.specs.Token.{atomsIn}
-use Rattle.level.specs.Tape.{Children, none, child, laid, orsIn}
-use Rattle.level.specs.Walked.{Shows, Stands, sizeOf, room}
+use Rattle.tape.specs.Row.{Lists}
+use Rattle.tape.specs.Token.{atomsIn}
+use Rattle.tape.specs.Tape.{Children, none, child, laid, orsIn}
+use Rattle.tape.specs.Walked.{Shows, Stands, sizeOf, room}
 
 -- The rows that say that the node is false: no atoms, and an OR with no parts.
 pub record NodeIsFalse (r : Stage) : Type 0 where

@@ -8,8 +8,8 @@ use Rattle.rules.specs.Formula.{Parts, end, atom, and, or, eachAtom}
 use Rattle.rules.specs.Level.{Formula, dual, andRule}
 use Rattle.table.specs.Table.{Table}
 use Rattle.level.specs.declared.nesting.Found.{Found}
-use Rattle.level.specs.Token.{atomOf, opposite}
-use Rattle.level.specs.Walked.{Shows, sizeOf}
+use Rattle.tape.specs.Token.{atomOf, opposite}
+use Rattle.tape.specs.Walked.{Shows, sizeOf}
 
 -- The parts of a node: an atom's token, or a node with its own parts, and the parts after it. The kinds of nodes are not stored.
 pub data Forest : Type 0 where

@@ -10,11 +10,11 @@ use Rattle.rules.specs.Level.{Formula, dual, andRule, simplify}
 use Rattle.rules.specs.Block.{NumberedAtom}
 use Rattle.rules.specs.Limits.{PartsWithin}
 use Rattle.table.specs.Table.{Table}
-use Rattle.level.specs.declared.walks.Level.{Level}
+use Rattle.tape.specs.declared.walks.Level.{Level}
 use Rattle.level.specs.declared.writing.Tree.{Tree}
-use Rattle.level.specs.Row.{Lists}
-use Rattle.level.specs.Token.{atomOf}
-use Rattle.level.specs.Walked.{Shows, sizeOf}
+use Rattle.tape.specs.Row.{Lists}
+use Rattle.tape.specs.Token.{atomOf}
+use Rattle.tape.specs.Walked.{Shows, sizeOf}
 
 -- The tokens of parts, parent before children. A node's is its number of children behind 2 ^ 24, whichever kind it is of.
 unfoldable pub tokens : Parts ℕ → List ℕ

@@ -9,11 +9,11 @@ use Rattle.rules.specs.Polynomial.{Atom}
 use Rattle.rules.specs.Formula.{Node, eachAtomOf, alone, nodes}
 use Rattle.rules.specs.Level.{Formula, dualNode, asNode}
 use Rattle.table.specs.Table.{Table}
-use Rattle.level.specs.declared.rows.Row.{Row}
+use Rattle.tape.specs.declared.rows.Row.{Row}
 use Rattle.level.specs.declared.writing.Tree.{Tree}
-use Rattle.level.specs.Row.{Lists}
-use Rattle.level.specs.Token.{atomOf}
-use Rattle.level.specs.Tape.{Children, none, child, laid}
+use Rattle.tape.specs.Row.{Lists}
+use Rattle.tape.specs.Token.{atomOf}
+use Rattle.tape.specs.Tape.{Children, none, child, laid}
 use Rattle.level.specs.Source.{Forest, nothing, leaf, branch, taken}
 use Rattle.level.specs.Tree.{tokens, kindNumber, kindOf, TokensWithin}
 

@@ -6,23 +6,17 @@ ghost use Rattle.table.specs.Table.{Forms};
 ghost use Rattle.round.specs.Views.{lentTable};
 ghost use Rattle.level.specs.Tree.{TreeHeld, RootIs, Simplified};
 
-mod carrying;
 mod nesting;
-mod rows;
 mod settling;
-mod sweeping;
-mod tidying;
-mod tokens;
-mod walks;
 mod writing;
 
 use nesting::and_rule;
 use nesting::or_rule;
-use rows::empty;
-use rows::push;
 use settling::finish;
-use walks::Level;
-use walks::begin;
+use tape::rows::empty;
+use tape::rows::push;
+use tape::walks::Level;
+use tape::walks::begin;
 use writing::Tree;
 use writing::tree_of;
 

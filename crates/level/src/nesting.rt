@@ -7,13 +7,13 @@ ghost use Prim.Native.Nat.{ℕ, suc, _+_};
 ghost use Rattle.table.specs.Table.{Forms};
 ghost use Rattle.round.specs.Views.{lentTable};
 ghost use Rattle.level.specs.Source.{Forest, size, Holds, Stood, Done};
-use crate::rows::Row;
 use crate::settling::finish;
-use crate::tokens::NODE;
-use crate::tokens::opposite;
-use crate::walks::Level;
-use crate::walks::add;
-use crate::walks::begin;
+use tape::rows::Row;
+use tape::tokens::NODE;
+use tape::tokens::opposite;
+use tape::walks::Level;
+use tape::walks::add;
+use tape::walks::begin;
 
 // What a rule makes of the node at a place, and the place after the node.
 pub struct Found {

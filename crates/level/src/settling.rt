@@ -3,21 +3,21 @@ ghost use mathlib.Core.List.{List};
 ghost use Prim.Native.Nat.{ℕ, _+_};
 ghost use Rattle.rules.specs.Level.{Walk};
 ghost use Rattle.table.specs.Table.{Forms};
-ghost use Rattle.level.specs.Row.{Lists};
+ghost use Rattle.tape.specs.Row.{Lists};
 ghost use Rattle.round.specs.Views.{lentTable};
-ghost use Rattle.level.specs.Tape.{Children, laid};
-ghost use Rattle.level.specs.Walked.{Stands, room};
+ghost use Rattle.tape.specs.Tape.{Children, laid};
+ghost use Rattle.tape.specs.Walked.{Stands, room};
 ghost use Rattle.level.specs.Settled.{NodeIsFalse, StageIs, Ready, SettleIs, Gathered, FinishIs};
-use crate::carrying::carry;
-use crate::carrying::without_implied;
-use crate::rows::Row;
-use crate::rows::append;
-use crate::rows::empty;
-use crate::rows::put_child;
-use crate::sweeping::sweep;
-use crate::tidying::tidy;
-use crate::walks::Level;
-use crate::walks::Walked;
+use steps::carrying::carry;
+use steps::carrying::without_implied;
+use steps::sweeping::sweep;
+use steps::tidying::tidy;
+use tape::rows::Row;
+use tape::rows::append;
+use tape::rows::empty;
+use tape::rows::put_child;
+use tape::walks::Level;
+use tape::walks::Walked;
 
 // The atoms and the OR children of a node between two turns, or its parts when the last turn is over.
 pub struct Stage {

@@ -7,17 +7,17 @@ ghost use Prim.Native.Nat.{ℕ, _+_, _-_, _<_, _≤_};
 ghost use lib.ListN.{length, take, drop};
 ghost use Rattle.rules.specs.Level.{Formula};
 ghost use Rattle.table.specs.Table.{Table};
-ghost use Rattle.level.specs.Row.{rowOf, Lists};
-ghost use Rattle.level.specs.Tape.{Children, laid};
-ghost use Rattle.level.specs.Walked.{Shows, sizeOf};
+ghost use Rattle.tape.specs.Row.{rowOf, Lists};
+ghost use Rattle.tape.specs.Tape.{Children, laid};
+ghost use Rattle.tape.specs.Walked.{Shows, sizeOf};
 ghost use Rattle.level.specs.Source.{flat};
 ghost use Rattle.level.specs.Written.{told as toldOf, forest, Between, MarksIs, Heads, Tellable, opening, rootOf, TreeIs};
-use crate::rows::Row;
-use crate::rows::atoms_of;
-use crate::rows::tokens_of;
-use crate::tokens::NODE;
-use crate::tokens::opposite;
-use crate::walks::Level;
+use tape::rows::Row;
+use tape::rows::atoms_of;
+use tape::rows::tokens_of;
+use tape::tokens::NODE;
+use tape::tokens::opposite;
+use tape::walks::Level;
 
 // A tree: its root's kind (0 is an atom, 1 is AND, 2 is OR) and its tokens.
 pub struct Tree {

@@ -6,8 +6,8 @@ use lib.ListN.{length, getD, length-set}
 use borrow.Fn.Kinds.{In}
 use borrow.Fn.PlainCycle.{Measures, is, falls, and}
 use Rattle.round.specs.Views.{tableOf}
-use Rattle.level.specs.Row.{rowOf}
-use Rattle.level.proofs.Storing.{stored, stored-as}
+use Rattle.tape.specs.Row.{rowOf}
+use Rattle.tape.specs.Storing.{stored, stored-as}
 use Rattle.level.proofs.Gathering.{Runs, stood-first, runs-start, runs-gathered, runs-end, runs-inside, runs-leaf, runs-ready, runs-room, runs-node, runs-skip}
 use Rattle.level.proofs.nesting.and_rule.Reads as and-rule
 use Rattle.level.proofs.nesting.and_rule.Kinds as and-rule-kinds
@@ -16,10 +16,10 @@ use Rattle.level.proofs.nesting.or_rule.Reads as or-rule
 use Rattle.level.proofs.nesting.or_rule.Kinds as or-rule-kinds
 use Rattle.level.proofs.nesting.+and_rule+or_rule.Lts-or_rule as or-rule-lts
 use Rattle.level.proofs.nesting.skip.Reads as skip-reads
-use Rattle.level.proofs.tokens.opposite.Reads as opposite-reads
+use Rattle.tape.proofs.tokens.opposite.Reads as opposite-reads
 use Rattle.level.proofs.settling.finish.Reads as finish-reads
-use Rattle.level.proofs.walks.add.Reads as add-reads
-use Rattle.level.proofs.walks.begin.Reads as begin-reads
+use Rattle.tape.proofs.walks.add.Reads as add-reads
+use Rattle.tape.proofs.walks.begin.Reads as begin-reads
 use Rattle.level.proofs.nesting.+and_rule+or_rule.{statement}
 use Rattle.level.proofs.nesting.+and_rule+or_rule.Tie.{close}
 

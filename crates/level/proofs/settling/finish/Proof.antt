@@ -1,7 +1,7 @@
 use mathlib.Core.List.{_++_}
 use borrow.Author.Needs.{needs}
 use native.Mathlib.Omega.{arith}
-use Rattle.level.proofs.Listing.{whole}
+use Rattle.tape.specs.Listing.{whole}
 use Rattle.level.proofs.Stages.{finish-falls, finish-goes, gathered-ready}
 use Rattle.level.proofs.settling.finish.Statement.{statement}
 use Rattle.level.proofs.settling.finish.Tie as tie

@@ -1,7 +1,7 @@
 use mathlib.Core.Path.{refl}
 use mathlib.Core.List.{[]}
 use borrow.Author.Needs.{needs}
-use Rattle.level.specs.Tape.{none}
+use Rattle.tape.specs.Tape.{none}
 use Rattle.level.proofs.settling.never.Statement.{statement}
 use Rattle.level.proofs.settling.never.Tie as tie
 

@@ -3,9 +3,9 @@ use mathlib.Core.List.{List}
 use Prim.Native.Nat.{ℕ, _+_}
 use native.Mathlib.Omega.{arith}
 use borrow.Author.Tests.{not-true, not-false}
-use Rattle.level.specs.Row.{Lists}
+use Rattle.tape.specs.Row.{Lists}
 use Rattle.round.specs.Views.{tableOf}
-use Rattle.level.specs.Tape.{Children, laid}
+use Rattle.tape.specs.Tape.{Children, laid}
 use Rattle.level.specs.Settled.{StageIs, due}
 use Rattle.level.proofs.Stages.{stage-start, stage-ready, stage-end, stage-turn, stage-less}
 use Rattle.level.proofs.settling.settle.Statement.{statement}

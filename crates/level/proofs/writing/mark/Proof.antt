@@ -2,8 +2,8 @@ use mathlib.Core.Path.{_≡_, refl}
 use Prim.Native.Nat.{ℕ, _+_, _-_, _≤_}
 use native.Mathlib.Omega.{arith}
 use lib.ListN.{length, length-set}
-use Rattle.level.specs.Row.{rowOf}
-use Rattle.level.specs.Tape.{Children}
+use Rattle.tape.specs.Row.{rowOf}
+use Rattle.tape.specs.Tape.{Children}
 use Rattle.level.specs.Written.{Between}
 use Rattle.level.proofs.Telling.{Marking, next-child, next-ends, mark-start, mark-turn, mark-end}
 use Rattle.level.proofs.writing.mark.Statement.{statement}

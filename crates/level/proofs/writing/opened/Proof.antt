@@ -4,7 +4,7 @@ use borrow.Author.Needs.{needs}
 use native.Mathlib.Omega.{arith}
 use borrow.Author.Tests.{eq-eqb, ne-eqb}
 use Rattle.level.specs.Written.{opening}
-use Rattle.level.proofs.Storing.{stored}
+use Rattle.tape.specs.Storing.{stored}
 use Rattle.level.proofs.writing.opened.Statement.{statement}
 use Rattle.level.proofs.writing.opened.Tie as tie
 

@@ -3,9 +3,9 @@ use mathlib.Core.List.{List, _++_, map}
 use Prim.Native.Nat.{ℕ, _+_, _-_, _≤_}
 use native.Mathlib.Omega.{arith}
 use lib.ListN.{length, take, drop, length-set}
-use Rattle.level.specs.Row.{rowOf, Lists}
+use Rattle.tape.specs.Row.{rowOf, Lists}
 use Rattle.level.specs.Written.{told}
-use Rattle.level.proofs.Storing.{stored, counted}
+use Rattle.tape.specs.Storing.{stored, counted}
 use Rattle.level.proofs.Telling.{tell-start, tell-turn}
 use Rattle.level.proofs.writing.tell_atoms.Statement.{statement}
 use Rattle.level.proofs.writing.tell_atoms.Tie as tie

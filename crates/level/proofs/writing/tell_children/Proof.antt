@@ -4,11 +4,11 @@ use mathlib.Core.List.{List}
 use Prim.Native.Nat.{ℕ, _+_, _-_, _≤_}
 use native.Mathlib.Omega.{arith}
 use lib.ListN.{length, length-set}
-use Rattle.level.specs.Row.{rowOf, Lists}
-use Rattle.level.specs.Tape.{Children, laid}
+use Rattle.tape.specs.Row.{rowOf, Lists}
+use Rattle.tape.specs.Tape.{Children, laid}
 use Rattle.level.specs.Written.{Heads}
-use Rattle.level.proofs.Storing.{stored, counted}
-use Rattle.level.proofs.Childwise.{its-atoms, child-ends}
+use Rattle.tape.specs.Storing.{stored, counted}
+use Rattle.tape.specs.Placed.{its-atoms, child-ends}
 use Rattle.level.proofs.Telling.{Telling, told-start, told-here, told-turn, told-end}
 use Rattle.level.proofs.writing.tell_children.Statement.{statement}
 use Rattle.level.proofs.writing.tell_children.Tie as tie

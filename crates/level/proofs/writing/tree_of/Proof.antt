@@ -4,7 +4,7 @@ use Prim.Native.Nat.{_+_}
 use borrow.Author.Needs.{needs}
 use native.Mathlib.Omega.{arith}
 use lib.ListN.{length}
-use Rattle.level.proofs.Storing.{counted}
+use Rattle.tape.specs.Storing.{counted}
 use Rattle.level.proofs.Rooted.{shown-between, shown-tree}
 use Rattle.level.proofs.writing.tree_of.Statement.{statement}
 use Rattle.level.proofs.writing.tree_of.Tie as tie

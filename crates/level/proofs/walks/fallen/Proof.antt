@@ -1,6 +1,0 @@
-use Rattle.level.proofs.Entering.{goes-fails}
-use Rattle.level.proofs.walks.fallen.Statement.{statement}
-use Rattle.level.proofs.walks.fallen.Tie as tie
-
-pub fallen-spec : {M : Type 1} → statement M
-fallen-spec = tie.close (tie.spec (λ c t walk s. goes-fails s))

@@ -1,0 +1,3 @@
+pub mod Tidied
+pub mod Carried
+pub mod Swept

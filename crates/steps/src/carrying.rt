@@ -1,0 +1,121 @@
+// 01, "A level", steps 3 and 5: the rounds over a list of tokens, and the atoms that the others imply.
+// The engine works on numbers and sets; here the sets go back into the tokens, so that all else of a token stays.
+ghost use mathlib.Core.Path.{_≡_};
+ghost use mathlib.Core.List.{List};
+ghost use Prim.Native.Nat.{ℕ, _≤_};
+ghost use Rattle.table.specs.Table.{Forms};
+ghost use lib.ListN.{length};
+ghost use Rattle.tape.specs.Row.{rowOf, Lists};
+ghost use Rattle.round.specs.Views.{lentTable};
+ghost use Rattle.steps.specs.Carried.{withSets, remaining, Carries, LeftBy, Remains};
+use crate::tidying::atoms_in;
+use round::State;
+use rounds::run;
+use settled::carried;
+use settled::removal::Remaining;
+use settled::removal::remove_implied;
+use signs::SignSet;
+use table::Atoms;
+use tape::rows::Row;
+use tape::tokens::with_set;
+
+// What step 3 leaves: a contradiction, or the list with the cut sets and the state of its rounds.
+pub struct Carrying {
+    pub list: Row,
+    pub state: State,
+    pub contradiction: bool,
+}
+
+// The tokens with the atoms' sets.
+fn with_sets(list: &mut [u32], n: usize, atoms: Atoms)
+    requires { ⌜ (n ≤ length (now list)) × (n ≤ 64) ⌝ }
+    ensures { λ r. ⌜ ((l : List ℕ) → Lists (rowOf (now (list .entry)) n) l → Lists (rowOf (now (list .exit)) n) (withSets (atoms .set) 0 l)) ⌝ }
+{
+    let mut i = 0;
+    while i < n {
+        let token = list[i];
+        let set = atoms.set[i];
+        list[i] = with_set(token, SignSet(set));
+        i += 1;
+    }
+}
+
+pub fn carry(
+    coefficient: &[i32],
+    monomial: &[u64],
+    terms: &[u8],
+    variables: usize,
+    row: Row,
+) -> Carrying
+    requires { ⌜ Forms (lentTable coefficient monomial terms variables) × (row .count ≤ 64) ⌝ }
+    ensures { λ r. let t = lentTable (coefficient .entry) (monomial .entry) (terms .entry) variables in ⌜ ((l : List ℕ) → Lists row l → Carries t l r) ⌝ }
+{
+    let n = row.count;
+    let mut list = row.token;
+    let atoms = atoms_in(&list, n);
+    let ran = run(coefficient, monomial, terms, variables, atoms);
+    let state = ran.state;
+    if ran.contradiction {
+        return Carrying {
+            list: Row {
+                token: list,
+                count: n,
+            },
+            state: state,
+            contradiction: true,
+        };
+    }
+    let cut = carried(coefficient, monomial, terms, variables, atoms, state);
+    with_sets(&mut list, n, cut);
+    Carrying {
+        list: Row {
+            token: list,
+            count: n,
+        },
+        state: state,
+        contradiction: false,
+    }
+}
+
+// The tokens of the atoms that remain, moved to the front of their list; how many they are.
+fn kept_of(list: &mut [u32], n: usize, kept: Remaining) -> usize
+    requires { ⌜ (n ≤ length (now list)) × (n ≤ 64) ⌝ }
+    ensures { λ r. ⌜ ((l : List ℕ) → Lists (rowOf (now (list .entry)) n) l → Lists (rowOf (now (list .exit)) r) (remaining (kept .keep) 0 l)) ⌝ }
+{
+    let mut count = 0;
+    let mut i = 0;
+    while i < n {
+        let token = list[i];
+        let keeps = kept.keep[i];
+        i += 1;
+        if keeps {
+            list[count] = token;
+            count += 1;
+        }
+    }
+    count
+}
+
+// Step 5: "In order, an atom is removed if what the other remaining atoms say of it lies inside its carried set." The state is the one of step 3.
+pub fn without_implied(
+    coefficient: &[i32],
+    monomial: &[u64],
+    terms: &[u8],
+    variables: usize,
+    row: Row,
+    state: State,
+) -> Row
+    requires { let t = lentTable coefficient monomial terms variables in
+        ⌜ Forms t × ((row .count ≤ 64) × LeftBy t state row) ⌝ }
+    ensures { λ r. let t = lentTable (coefficient .entry) (monomial .entry) (terms .entry) variables in ⌜ ((l : List ℕ) → Lists row l → Remains t l r) ⌝ }
+{
+    let n = row.count;
+    let mut list = row.token;
+    let atoms = atoms_in(&list, n);
+    let kept = remove_implied(coefficient, monomial, terms, variables, atoms, state);
+    let count = kept_of(&mut list, n, kept);
+    Row {
+        token: list,
+        count: count,
+    }
+}

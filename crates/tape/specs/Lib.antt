@@ -1,0 +1,9 @@
+pub mod Row
+pub mod Token
+pub mod Tape
+pub mod Walked
+pub mod Listing
+pub mod Storing
+pub mod Entering
+pub mod Further
+pub mod Placed
