@@ -1,6 +1,6 @@
 -- What the entry returns and leaves in the lent output, as 01's answer: "A refusal returns its number and length 0 and the output keeps each byte.
 -- An answer returns a verdict and a length; the output's first bytes are the new block and the rest keep their values."
-use mathlib.Core.Path.{_≡_, refl, sym, ap, ap₂, _∙_}
+use mathlib.Core.Path.{_≡_, refl, sym, ap, _∙_}
 use mathlib.Core.Bool.{Bool, true, false}
 use mathlib.Core.List.{List, [], _++_}
 use Prim.Native.Nat.{ℕ, zero, suc, _+_, _≤_, _<_}
@@ -15,6 +15,7 @@ use Rattle.rules.specs.Answer as book
 use Rattle.rules.specs.Answer.{used, numbered, blockOf, written, simplified, newBlock, answerTo, unlessShort}
 use Rattle.block_laws.specs.Sizes.{length-block}
 use Rattle.ending_laws.specs.Nestings.{alone-each}
+use Rattle.ending_laws.specs.Shapes.{atoms-each, is-end-each}
 use Rattle.block.specs.Held.{kindOf, heldOf}
 use Rattle.answer.specs.declared.Verdict.{Verdict}
 use Rattle.answer.specs.declared.Verdict.the-variants.{Formula, Always, Unsatisfiable}
@@ -92,13 +93,6 @@ only-node (atom a rest) = ne-eqb (1 + (1 + nodes rest) + 0) 1 (λ e. omega arith
 only-node (and kids rest) = ne-eqb (1 + (1 + nodes kids + nodes rest) + 0) 1 (λ e. omega arith)
 only-node (or kids rest) = ne-eqb (1 + (1 + nodes kids + nodes rest) + 0) 1 (λ e. omega arith)
 
-is-end-each : {A B : Type 0} (f : A → B) (kids : Parts A) → isEnd (eachAtom f kids) ≡ isEnd kids
-unfolding isEnd eachAtom
-is-end-each f end = refl
-is-end-each f (atom a rest) = refl
-is-end-each f (and kids rest) = refl
-is-end-each f (or kids rest) = refl
-
 always-if : (b : Bool) → verdictOf (book.ifEnd b book.always) ≡ ofOnlyNode b 1
 unfolding verdictOf book.ifEnd ofOnlyNode
 always-if true = refl
@@ -121,13 +115,6 @@ unfolding heldOf newBlock blockOf
 new-verdict given = tree-verdict (numbered (used [] (alone (simplified given)))) (simplified given)
 
 -- ---- the counts
-
-atoms-each : {A B : Type 0} (f : A → B) (parts : Parts A) → atoms (eachAtom f parts) ≡ atoms parts
-unfolding atoms eachAtom
-atoms-each f end = refl
-atoms-each f (atom a rest) = ap (λ (k : ℕ). 1 + k) (atoms-each f rest)
-atoms-each f (and kids rest) = ap₂ (λ (j k : ℕ). j + k) (atoms-each f kids) (atoms-each f rest)
-atoms-each f (or kids rest) = ap₂ (λ (j k : ℕ). j + k) (atoms-each f kids) (atoms-each f rest)
 
 -- Another kind of atom leaves as many atoms.
 pub atoms-same : {A B : Type 0} (f : A → B) (tree : Node A) → atoms (alone (eachAtomOf f tree)) ≡ atoms (alone tree)

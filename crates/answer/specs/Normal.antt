@@ -6,7 +6,7 @@ use mathlib.Core.List.{List, _∷_, _++_, map, map-append}
 use Prim.Native.Nat.{ℕ, _+_, _-_, _*_, _/_, _%_, _<_, _≤_}
 use native.Mathlib.Nat.{zero-add}
 use native.Mathlib.Omega.{arith}
-use lib.ListN.{length, getD, take, drop, replicate, length-append, length-replicate, length-map}
+use lib.ListN.{length, getD, take, drop, replicate, length-replicate, length-map}
 use lib.Seq.{sets, sets-eq, take-at, drop-at}
 use borrow.Author.Tests.{lt-ltb, le-ltb}
 use Rattle.rules.specs.Signs.{SignSet, has, mirrorOfSign, mirror}
@@ -17,7 +17,9 @@ use Rattle.rules.specs.Limits.{PartsWithin, BlockWithin}
 use Rattle.rules.specs.Answer.{lookedUp}
 use Rattle.sign_laws.specs.Sets.{setOf-small}
 use Rattle.ending_laws.specs.Nestings.{alone-each}
+use Rattle.ending_laws.specs.Shapes.{nodes-each, children-each}
 use Rattle.block.specs.Held.{tokens, kindOf, heldOf}
+use Rattle.block.specs.Tokens.{length-tokens, set-back}
 use Rattle.forms.specs.declared.WorkingTable.{WorkingTable}
 use Rattle.normal.specs.Normal.{turnedSet}
 use Rattle.forms.specs.Working.{tableOf, Worked}
@@ -32,41 +34,16 @@ normalised number turned a = record { number = getD number (a .number) 0; set = 
 
 -- ---- the tokens
 
--- A tree has a token for each node.
-pub length-tokens : (parts : Parts NumberedAtom) → length (tokens parts) ≡ nodes parts
-unfolding tokens nodes
-length-tokens end = refl
-length-tokens (atom a rest) = omega (arith, length-tokens rest)
-length-tokens (and kids rest) = rw (length-append (tokens kids) (tokens rest)) (omega (arith, length-tokens kids, length-tokens rest))
-length-tokens (or kids rest) = rw (length-append (tokens kids) (tokens rest)) (omega (arith, length-tokens kids, length-tokens rest))
-
--- Another kind of atom changes neither the number of nodes nor that of children.
-pub nodes-each : {A B : Type 0} (f : A → B) (parts : Parts A) → nodes (eachAtom f parts) ≡ nodes parts
-unfolding nodes eachAtom
-nodes-each f end = refl
-nodes-each f (atom a rest) = ap (λ (k : ℕ). 1 + k) (nodes-each f rest)
-nodes-each f (and kids rest) = ap₂ (λ (j k : ℕ). 1 + j + k) (nodes-each f kids) (nodes-each f rest)
-nodes-each f (or kids rest) = ap₂ (λ (j k : ℕ). 1 + j + k) (nodes-each f kids) (nodes-each f rest)
-
-pub children-each : {A B : Type 0} (f : A → B) (parts : Parts A) → children (eachAtom f parts) ≡ children parts
-unfolding children eachAtom
-children-each f end = refl
-children-each f (atom a rest) = ap (λ (k : ℕ). 1 + k) (children-each f rest)
-children-each f (and kids rest) = ap (λ (k : ℕ). 1 + k) (children-each f rest)
-children-each f (or kids rest) = ap (λ (k : ℕ). 1 + k) (children-each f rest)
-
+-- Other atoms leave the kind as it is.
 pub kind-each : (f : NumberedAtom → NumberedAtom) (tree : Node NumberedAtom) → kindOf (eachAtomOf f tree) ≡ kindOf tree
 unfolding kindOf eachAtomOf
 kind-each f (leaf a) = refl
 kind-each f (allOf kids) = refl
 kind-each f (anyOf kids) = refl
 
--- The two parts of an atom's token.
+-- An atom's token has its slot.
 pub slot-back : (number set : ℕ) → number < 64 → set < 8 → (number * 8 + set) / 8 % 64 ≡ number
 slot-back number set h k = omega arith
-
-pub set-back : (number set : ℕ) → set < 8 → (number * 8 + set) % 8 ≡ set
-set-back number set k = omega arith
 
 no-place : (number set : ℕ) → number < 64 → set < 8 → (number * 8 + set) / 512 * 512 ≡ 0
 no-place number set h k = omega arith

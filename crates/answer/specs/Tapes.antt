@@ -13,13 +13,15 @@ use Rattle.rules.specs.Level.{simplify}
 use Rattle.rules.specs.Block.{NumberedAtom}
 use Rattle.rules.specs.Limits.{PartsWithin}
 use Rattle.ending_laws.specs.Nestings.{alone-each}
+use Rattle.ending_laws.specs.Shapes.{nodes-each, children-each}
 use Rattle.table.specs.Table.{Table}
 use Rattle.block.specs.Held as held
+use Rattle.block.specs.Tokens.{length-tokens, set-back}
 use Rattle.level.specs.declared.writing.Tree.{Tree}
 use Rattle.tape.specs.Token.{atomOf}
 use Rattle.level.specs.Tree.{tokens, kindOf, TokensWithin, tokens-within, TreeHeld, Simplified}
 use Rattle.used.specs.Tape.{inSlot, NameSlots, Holds}
-use Rattle.answer.specs.Normal.{length-tokens, nodes-each, children-each, slot-back, set-back, tree-after}
+use Rattle.answer.specs.Normal.{slot-back, tree-after}
 
 -- The token of a numbered atom, and the numbered atom of a token.
 unfoldable pub tokenOf : NumberedAtom → ℕ

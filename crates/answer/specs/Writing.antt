@@ -14,9 +14,9 @@ use Rattle.rules.specs.Block.{NumberedAtom, Block, blockLength}
 use Rattle.rules.specs.Limits.{PartsWithin, BlockWithin}
 use Rattle.terms.specs.View.{termAt, termsFrom}
 use Rattle.block.specs.Held.{tokens, kindOf, heldOver}
+use Rattle.block.specs.Tokens.{length-tokens}
 use Rattle.writer.specs.Written.{termsAt, tableAt, PartsHeld, Holds, Writable}
 use Rattle.array_laws.specs.Arrays.{table-fits, arrays-hold}
-use Rattle.answer.specs.Normal.{length-tokens}
 
 -- ---- the table
 

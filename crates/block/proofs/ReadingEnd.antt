@@ -6,17 +6,18 @@ use Prim.Native.Nat.{ℕ, zero, suc, _+_, _-_, _*_, _^_, _≤_, _<_}
 use native.Mathlib.Nat.{zero-mul, zero-add}
 use native.Mathlib.Omega.{arith}
 use lib.Dec.{eqb}
-use lib.ListN.{length, take, drop, length-append}
+use lib.ListN.{length, take, drop}
 use lib.Pow.{pow-pos}
 use lib.Seq.{take-length}
 use borrow.Author.Tests.{lt-ltb, le-ltb, ne-eqb, leb-true, eqb-true, eqb-false, not-true}
 use Rattle.rules.specs.Signs.{bit}
 use Rattle.rules.specs.Bits.{value, unpack}
 use Rattle.rules.specs.Polynomial.{Polynomial}
-use Rattle.rules.specs.Formula.{Parts, end, atom, and, or, Node, leaf, alone, nodes}
+use Rattle.rules.specs.Formula.{Parts, Node, leaf, alone}
 use Rattle.rules.specs.Block.{NumberedAtom, Block, Stream, read, require, afterwards, readAtom, readJoin, byKind, readNodeBy, readNode, readParts, joined, allZero, readEnd}
 use Rattle.bits.proofs.Fields.{value-take-lt}
-use Rattle.block.specs.Held.{tokens, kindOf}
+use Rattle.block.specs.Held.{kindOf}
+use Rattle.block.specs.Tokens.{length-tokens}
 use Rattle.block.specs.Steps.{streamAt, Inside, Does, Reads, NodeStored, Ends, RootOf, RootFound}
 use Rattle.block.specs.declared.Place.{Place}
 use Rattle.block.specs.declared.Root.the-variants.{Refused as NoTree, Kind}
@@ -116,14 +117,6 @@ kind-read d m parent s node s₁ h =
     )
 
 -- ---- the tree and the end
-
--- A tree has as many tokens as nodes.
-pub length-tokens : (parts : Parts NumberedAtom) → length (tokens parts) ≡ nodes parts
-unfolding tokens nodes
-length-tokens end = refl
-length-tokens (atom a rest) = omega (arith, length-tokens rest)
-length-tokens (and kids rest) = rw (length-append (tokens kids) (tokens rest)) (omega (arith, length-tokens kids, length-tokens rest))
-length-tokens (or kids rest) = rw (length-append (tokens kids) (tokens rest)) (omega (arith, length-tokens kids, length-tokens rest))
 
 module _ (m : ℕ) {bytes : List ℕ} {place : Place} {count : ℕ} {token token₁ : List ℕ} {step : Step}
     (root : Reads bytes (readNode 6 m 0 (streamAt bytes place)) (NodeStored place count token token₁) step) where

@@ -5,4 +5,5 @@ pub mod Rounds
 pub mod AtOnce
 pub mod Turns
 pub mod Nestings
+pub mod Shapes
 pub mod Gcd

@@ -9,8 +9,8 @@ use Rattle.rules.specs.Formula.{Parts, end, atom, and, or, alone, nodes}
 use Rattle.rules.specs.Block.{NumberedAtom, Block}
 use Rattle.rules.specs.Limits.{PartsWithin, BlockWithin}
 use Rattle.block.specs.Held.{tokens, heldOf}
+use Rattle.block.specs.Tokens.{length-tokens}
 use Rattle.used.specs.Tape.{NameSlots, Holds}
-use Rattle.used.proofs.Slots.{length-tokens}
 
 -- The polynomial numbers of a block are below 64.
 parts-name-slots : (d m parent : ℕ) (parts : Parts NumberedAtom) → m ≤ 64 → PartsWithin d m parent parts → NameSlots parts

@@ -12,6 +12,7 @@ use Rattle.rules.specs.Formula.{Node, leaf, allOf, anyOf, eachAtom, eachAtomOf,
 use Rattle.rules.specs.Block.{NumberedAtom, Block}
 use Rattle.rules.specs.Answer.{used, numbered, blockOf}
 use Rattle.sign_laws.specs.Lists.{Every, every-none, every-getD}
+use Rattle.ending_laws.specs.Shapes.{nodes-each}
 use Rattle.terms.specs.View.{numbersFrom}
 use Rattle.table.specs.Table.{Table, formAt, Forms}
 use Rattle.block.specs.Held.{slots, tokens, kindOf, heldBy, heldOver}
@@ -19,7 +20,7 @@ use Rattle.used.specs.Tape.{inSlot, formsIn, Holds}
 use Rattle.used.specs.FirstUse.{orderOf, UsedFit, Ordered, Copied, renumbered}
 use Rattle.used.proofs.Slots.{slots-below}
 use Rattle.used.proofs.FirstUse.{Below, uses-below}
-use Rattle.used.proofs.Numbering.{used-forms, nodes-each, tokens-renumbered}
+use Rattle.used.proofs.Numbering.{used-forms, tokens-renumbered}
 use Rattle.used.proofs.Copying.{numbers-run}
 
 -- ---- The array of the order.

@@ -8,15 +8,17 @@ use native.Mathlib.Omega.{arith}
 use lib.ListN.{getD}
 use borrow.Author.Tests.{lt-ltb, le-ltb}
 use Rattle.rules.specs.Polynomial.{Polynomial}
-use Rattle.rules.specs.Formula.{Parts, end, atom, and, or, eachAtom, children, nodes}
+use Rattle.rules.specs.Formula.{Parts, end, atom, and, or, eachAtom, children}
 use Rattle.rules.specs.Block.{NumberedAtom}
 use Rattle.rules.specs.Answer.{knows, addedUnless, used, numberIn, numbered}
 use Rattle.sign_laws.specs.Lists.{Every, every-none, every}
+use Rattle.ending_laws.specs.Shapes.{children-each}
 use Rattle.table.specs.Table.{Table, formAt, Forms}
 use Rattle.block.specs.Held.{tokens}
+use Rattle.block.specs.Tokens.{set-back}
 use Rattle.used.specs.Tape.{inSlot, NameSlots}
 use Rattle.used.specs.FirstUse.{slotsOf, listed, listedUnless, firstUses, orderOf, placeIn, placeIf, numberOf, Numbers, atomOr, renumbered}
-use Rattle.used.proofs.Slots.{number-back, set-back, slot-named, slots-joined, slots-below}
+use Rattle.used.proofs.Slots.{number-back, slot-named, slots-joined, slots-below}
 use Rattle.used.proofs.FirstUse.{Below, listedUnless-below, uses-below, uses-append, Listed, uses-list}
 
 -- ---- The forms in the slots.
@@ -108,28 +110,13 @@ module _ {P : ℕ → Type 0} where
   every-rest [] ys h = h
   every-rest (x ∷ xs) ys h = every-rest xs ys (every-tail h)
 
--- Other atoms leave the children and the nodes as many as they were.
-children-each : {A B : Type 0} (f : A → B) (parts : Parts A) → children (eachAtom f parts) ≡ children parts
-unfolding children eachAtom
-children-each f end = refl
-children-each f (atom a rest) = rw (children-each f rest)
-children-each f (and kids rest) = rw (children-each f rest)
-children-each f (or kids rest) = rw (children-each f rest)
-
-pub nodes-each : {A B : Type 0} (f : A → B) (parts : Parts A) → nodes (eachAtom f parts) ≡ nodes parts
-unfolding nodes eachAtom
-nodes-each f end = refl
-nodes-each f (atom a rest) = rw (nodes-each f rest)
-nodes-each f (and kids rest) = rw (nodes-each f kids, nodes-each f rest)
-nodes-each f (or kids rest) = rw (nodes-each f kids, nodes-each f rest)
-
 -- An atom's token gets the new number and keeps its set,
 renumbered-atom : (number : List ℕ) (a : NumberedAtom) → a .number < 64 → a .set < 8
     → renumbered number (a .number * 8 + a .set) ≡ getD number (a .number) 0 * 8 + a .set
 unfolding renumbered atomOr
 renumbered-atom number a n s =
     let small : a .number * 8 + a .set < 16777216 = omega arith in
-    rw (lt-ltb (a .number * 8 + a .set) 16777216 small, number-back a s, set-back a s)
+    rw (lt-ltb (a .number * 8 + a .set) 16777216 small, number-back a s, set-back (a .number) (a .set) s)
 
 -- and another stays.
 renumbered-join : (number : List ℕ) (k : ℕ) → renumbered number (16777216 + k) ≡ 16777216 + k

@@ -3,17 +3,18 @@
 use mathlib.Core.Path.{_≡_, refl, ap, _∙_}
 use mathlib.Core.Bool.{Bool, true, false}
 use mathlib.Core.List.{List, [], _∷_, _++_}
-use Prim.Native.Nat.{ℕ, _+_, _*_, _/_, _%_, _<_, _≤_}
+use Prim.Native.Nat.{ℕ, _+_, _*_, _/_, _<_, _≤_}
 use native.Mathlib.Numerals.{add-one}
 use native.Mathlib.Omega.{arith}
 use lib.Dec.{ltb}
 use lib.ListN.{length, getD, take, length-append, length-take}
 use lib.Seq.{slice, slice-cons, slice-empty, getD-take}
 use borrow.Author.Tests.{lt-ltb, le-ltb}
-use Rattle.rules.specs.Formula.{Parts, end, atom, and, or, Node, alone, nodes, atoms, children}
+use Rattle.rules.specs.Formula.{Parts, end, atom, and, or, Node, alone, atoms, children}
 use Rattle.rules.specs.Block.{NumberedAtom}
 use Rattle.sign_laws.specs.Lists.{Every, every-none, every, every-append, every-getD}
 use Rattle.block.specs.Held.{tokens}
+use Rattle.block.specs.Tokens.{length-tokens}
 use Rattle.used.specs.Tape.{NameSlots, Holds}
 use Rattle.used.specs.FirstUse.{slotIf, slotsOf, TapeFits}
 
@@ -39,12 +40,9 @@ tape-end token count i h k = let e : i ≡ count = omega arith in rw e (slice-em
 
 -- ---- The tokens of a tree.
 
--- An atom's token has its number and its set.
+-- An atom's token has its number.
 pub number-back : (a : NumberedAtom) → a .set < 8 → (a .number * 8 + a .set) / 8 ≡ a .number
 number-back a h = omega arith
-
-pub set-back : (a : NumberedAtom) → a .set < 8 → (a .number * 8 + a .set) % 8 ≡ a .set
-set-back a h = omega arith
 
 -- So it names the slot of its number.
 pub slot-named : (a : NumberedAtom) (tape : List ℕ) → a .number < 64 → a .set < 8 → slotsOf ((a .number * 8 + a .set) ∷ tape) ≡ a .number ∷ slotsOf tape
@@ -86,14 +84,6 @@ slots-below (and kids rest) h = rw (slots-joined (children kids) (tokens kids) (
 slots-below (or kids rest) h = rw (slots-joined (children kids) (tokens kids) (tokens rest)) (every-append (slots-below kids (h .0)) (slots-below rest (h .1)))
 
 -- ---- A tape that holds a tree.
-
--- A tree has a token for each node.
-pub length-tokens : (parts : Parts NumberedAtom) → length (tokens parts) ≡ nodes parts
-unfolding tokens nodes
-length-tokens end = refl
-length-tokens (atom a rest) = omega (arith, length-tokens rest)
-length-tokens (and kids rest) = rw (length-append (tokens kids) (tokens rest)) (omega (arith, length-tokens kids, length-tokens rest))
-length-tokens (or kids rest) = rw (length-append (tokens kids) (tokens rest)) (omega (arith, length-tokens kids, length-tokens rest))
 
 -- A token that is an atom's is small.
 record SmallAtom (token : ℕ) : Type 0 where
