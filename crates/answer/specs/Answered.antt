@@ -1,5 +1,5 @@
--- What the entry returns and leaves in the lent output, as 01's answer: "A refusal returns its number and length 0 and the output keeps each byte.
--- An answer returns a verdict and a length; the output's first bytes are the new block and the rest keep their values."
+-- What the entry returns for the book's answer, and the book's answer by cases. 01, "Refusal numbers": "A refusal returns its number and length 0",
+-- "An answer returns a verdict (formula, always, unsatisfiable) and a length".
 use mathlib.Core.Path.{_≡_, refl, sym, ap, _∙_}
 use mathlib.Core.Bool.{Bool, true, false}
 use mathlib.Core.List.{List, [], _++_}

@@ -15,5 +15,6 @@ length-tokens (atom a rest) = omega (arith, length-tokens rest)
 length-tokens (and kids rest) = rw (length-append (tokens kids) (tokens rest)) (omega (arith, length-tokens kids, length-tokens rest))
 length-tokens (or kids rest) = rw (length-append (tokens kids) (tokens rest)) (omega (arith, length-tokens kids, length-tokens rest))
 
+-- What is left of an atom's token by eights is its set.
 pub set-back : (number set : ℕ) → set < 8 → (number * 8 + set) % 8 ≡ set
 set-back number set h = omega arith

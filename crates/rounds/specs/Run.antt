@@ -35,7 +35,7 @@ pub record CountedRun (t : Table) (list : Atoms) (r : Counted) : Type 0 where
   pub variables : r .state .board .variables ≡ t .variables
   pub atoms : NonVariable t list (r .state .atoms)
 
--- st is the start of the list, but for turns of its variables, in some order, that have been taken ahead of the rounds; if it is still, each is idle
+-- r has the start of the list, but for turns of its variables, in some order, that have been taken ahead of the rounds; if it is still, each is idle
 pub record NarrowedStart (t : Table) (list : Atoms) (r : Beginning) : Type 0 where
   pub variables : r .state .board .variables ≡ t .variables
   pub atoms : atomsOf t (r .state .atoms) ≡ start (t .variables) (atomsOf t list) .atoms

@@ -1,5 +1,5 @@
 -- 01, "Refusal numbers", "A level" (last paragraph) and "The program": the answer to a byte string, from its bytes to the verdict, the new block's
--- bytes and the four counts.
+-- bytes and the four counts; and what the lent output holds then.
 use mathlib.Core.Bool.{Bool, true, false, _||_}
 use mathlib.Core.List.{List, [], _∷_, _++_}
 use Prim.Native.Nat.{ℕ, suc}
@@ -74,7 +74,8 @@ countsOf given new = record {
   polynomials-out = length (new .table);
 }
 
--- "A refusal returns its number", "An answer returns a verdict (formula, always, unsatisfiable) and a length": the length is that of the new block's bytes.
+-- "A refusal returns its number and length 0": it has no bytes. "An answer returns a verdict (formula, always, unsatisfiable) and a length": that of the
+-- new block's bytes.
 pub data Answer : Type 0 where
   refusal : ℕ → Answer
   answered : Verdict → List ℕ → Counts → Answer
@@ -89,6 +90,7 @@ unfoldable pub filledPart : Answer → List ℕ
 filledPart (refusal number) = []
 filledPart (answered verdict bytes counts) = bytes
 
+-- "exactly on refusal"
 unfoldable pub isRefusal : Answer → Bool
 isRefusal (refusal number) = true
 isRefusal (answered verdict bytes counts) = false

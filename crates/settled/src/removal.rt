@@ -1,5 +1,5 @@
 // 01, "A level", step 5: the atoms of a list that the other remaining ones imply are removed, from the first to the last.
-// An atom that stays by the settled state is not looked at again; what the others imply is worked out from it alone.
+// An atom that stays by the settled state stays without rounds; for any other, rounds are run afresh over the others, from the sets that they carry.
 ghost use mathlib.Core.Path.{_≡_};
 ghost use mathlib.Core.Bool.{not, _&&_};
 ghost use mathlib.Core.List.{[]};

@@ -4,4 +4,3 @@ pub mod Ordering
 pub mod Copying
 pub mod Numbering
 pub mod Collected
-pub mod Blocks
