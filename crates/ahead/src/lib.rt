@@ -341,8 +341,8 @@ pub fn ahead(
     order: Order,
 ) -> Passed
     requires { let t = lentTable coefficient monomial terms (board .variables) in
-        ⌜ Ready t (setsOf board) atoms (now sign)
-        × ((floor .variables ≡ board .variables) × Floor (board .variables) (atomsOf t atoms) (setsOf board) (setsOf floor)) ⌝ }
+        ⌜ Forms t × ((length (now sign) ≡ 1280)
+        × ((floor .variables ≡ board .variables) × Floor (board .variables) (atomsOf t atoms) (setsOf board) (setsOf floor))) ⌝ }
     ensures { λ r.
         let t = lentTable (coefficient .entry) (monomial .entry) (terms .entry) (board .variables) in
         ⌜ Ahead t atoms board r (now (sign .exit)) ⌝ }

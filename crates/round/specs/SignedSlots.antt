@@ -12,11 +12,11 @@ use lib.Seq.{length-sets}
 use Rattle.rules.specs.Signs.{SignSet}
 use Rattle.rules.specs.Polynomial.{Board, monomialSign}
 use Rattle.terms.specs.View.{setsOf, termsOf}
-use Rattle.terms.specs.Signed.{Signed, Held, signed, signsFrom, signed-there, signed-before, signed-past, signed-within}
+use Rattle.terms.specs.Signed.{Signed, Held, signed, signsFrom, signed-there, signed-before, signed-past}
 use Rattle.terms.specs.declared.Board.{Board as Sets}
 use Rattle.table.specs.declared.Atoms.{Atoms}
 use Rattle.table.specs.Table.{Table, Forms, formAt, many}
-use Rattle.round.specs.Signing.{variableSlot, atomSlot, signedSlot, signedSlots, signedList, Slots, SignedSlot, Ready}
+use Rattle.round.specs.Signing.{variableSlot, atomSlot, signedSlot, signedSlots, signedList, signedTable, Slots, SignedSlot, SignedTable, Ready}
 
 -- as many other signs serve as well
 pub same-slots : {ms ts ss us : List ℕ} → Slots ms ts ss → length us ≡ length ss → Slots ms ts us
@@ -160,18 +160,19 @@ run-held {t} {board} {ss} {from} {to} k forms places low f g s =
       signed = rw (f, g) s;
     }
 
--- ---- signs that are worked out at all places
+-- ---- signs that are worked out in every slot
 
--- are there in each slot
-pub all-signed : {t : Table} {board : Board} {ss : List SignSet} → Forms t → Signed board (t .monomial) ss 0 1280 → (k : ℕ) → k < 80 → SignedSlot t board ss k
-all-signed {t} forms s k h = signed-within (16 * k) (16 * k + getD (t .terms) k 0) (omega arith) (omega (arith, forms .few k)) s
+-- are there
+pub table-signed : {t : Table} (board : Board) (ss : List SignSet) → Forms t → length ss ≡ 1280
+    → SignedTable t board (signedTable board (t .monomial) (t .terms) ss)
+table-signed {t} board ss forms places =
+    λ k h. slots-there board (t .monomial) (t .terms) (λ j. j) 0 80 (form-slots forms places) (λ j l. omega arith) k (omega arith) (omega arith)
 
 -- and are what a round asks
-pub all-ready : {t : Table} {board : Board} {ss : List SignSet} (a : Atoms) → Forms t → length ss ≡ 1280 → Signed board (t .monomial) ss 0 1280
-    → Ready t board a ss
-all-ready a forms places s = record {
+pub table-ready : {t : Table} {board : Board} {ss : List SignSet} (a : Atoms) → Forms t → length ss ≡ 1280 → SignedTable t board ss → Ready t board a ss
+table-ready a forms places s = record {
   forms = forms;
   places = places;
-  variables = λ i h. all-signed forms s (variableSlot i) (omega (arith, forms .variables));
-  atoms = λ i h. all-signed forms s (atomSlot (a .number) i) (omega arith);
+  variables = λ i h. s (variableSlot i) (omega (arith, forms .variables));
+  atoms = λ i h. s (atomSlot (a .number) i) (omega arith);
 }

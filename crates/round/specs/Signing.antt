@@ -33,6 +33,10 @@ abbrev pub signedList : Sets → List ℕ → List ℕ → Atoms → List SignSe
 signedList b ms ts a ss =
     signedSlots (setsOf b) ms ts (atomSlot (a .number)) (signedSlots (setsOf b) ms ts variableSlot ss 0 (b .variables)) 0 (many (a .count))
 
+-- the same of every slot
+abbrev pub signedTable : Board → List ℕ → List ℕ → List SignSet → List SignSet
+signedTable board ms ts ss = signedSlots board ms ts (λ k. k) ss 0 80
+
 -- What working them out asks of the slices: eighty slots of at most sixteen terms each.
 pub record Slots (ms ts ss : List ℕ) : Type 0 where
   pub monomials : length ms ≡ 1280
@@ -43,6 +47,10 @@ pub record Slots (ms ts ss : List ℕ) : Type 0 where
 -- the places of slot k hold the board's signs
 abbrev pub SignedSlot : Table → Board → List SignSet → ℕ → Type 0
 SignedSlot t board ss k = Signed board (t .monomial) ss (16 * k) (16 * k + getD (t .terms) k 0)
+
+-- the places of every slot do
+abbrev pub SignedTable : Table → Board → List SignSet → Type 0
+SignedTable t board ss = (k : ℕ) → k < 80 → SignedSlot t board ss k
 
 -- What a round asks: a table of forms, and the signs of the variables and of the atoms worked out for the board.
 pub record Ready (t : Table) (board : Board) (a : Atoms) (ss : List SignSet) : Type 0 where

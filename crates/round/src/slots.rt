@@ -8,7 +8,7 @@ ghost use Rattle.terms.specs.View.{setsOf};
 ghost use Rattle.terms.specs.Masks.{MasksOf};
 ghost use Rattle.table.specs.Table.{Forms, formAt, many as manyOf};
 ghost use Rattle.round.specs.Views.{lentTable, variableOf, Below};
-ghost use Rattle.round.specs.Signing.{Slots, variableSlot, atomSlot, signedSlot, signedSlots, signedList};
+ghost use Rattle.round.specs.Signing.{Slots, variableSlot, atomSlot, signedSlot, signedSlots, signedList, signedTable};
 use crate::list::many;
 use deduce::Run;
 use table::Atoms;
@@ -125,4 +125,17 @@ pub fn sign_list(board: Board, monomial: &[u64], terms: &[u8], atoms: Atoms, sig
     let masks = masks_of(board);
     sign_variables(masks, board.variables, monomial, terms, sign);
     sign_atoms(masks, monomial, terms, atoms, sign);
+}
+
+// The signs of all slots, once for a board: for one that asks about polynomials all over the table.
+pub fn sign_table(board: Board, monomial: &[u64], terms: &[u8], sign: &mut [u8])
+    requires { ⌜ Slots (now monomial) (now terms) (now sign) ⌝ }
+    ensures { λ r. ⌜ now (sign .exit) ≡ signedTable (setsOf board) (now (monomial .entry)) (now (terms .entry)) (now (sign .entry)) ⌝ }
+{
+    let masks = masks_of(board);
+    let mut k = 0;
+    while k < 80 {
+        slot_by(masks, monomial, terms, sign, k);
+        k += 1;
+    }
 }

@@ -14,7 +14,6 @@ use crate::start::start;
 use ahead::Order;
 use ahead::ahead;
 use round::State;
-use round::slots::sign_list;
 use table::Atoms;
 use terms::Board;
 
@@ -50,7 +49,6 @@ pub fn narrowed(
     let board = first.board;
     let atoms = first.atoms;
     let mut sign = [0u8; 1280];
-    sign_list(board, monomial, terms, atoms, &mut sign);
     let passed = ahead(
         coefficient,
         monomial,

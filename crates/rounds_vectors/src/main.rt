@@ -55,7 +55,7 @@ fn said(table: WorkingTable, variables: usize, state: State, polynomials: usize)
     let terms = table.terms;
     let count = many(polynomials);
     let mut sign = [0u8; 1280];
-    terms::sign_terms(state.board, &monomial, &mut sign, 0, 1280);
+    round::slots::sign_table(state.board, &monomial, &terms, &mut sign);
     let mut sets = [0u8; 64];
     let mut i = 0;
     while i < count {

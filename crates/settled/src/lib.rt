@@ -6,10 +6,9 @@ ghost use Prim.Native.Nat.{_<_, _≤_};
 ghost use lib.ListN.{length};
 ghost use Rattle.rules.specs.Rounds.{held as heldOf, saysIn, carried as carriedOf};
 ghost use Rattle.terms.specs.View.{setsOf};
-ghost use Rattle.terms.specs.Signed.{Signed};
 ghost use Rattle.table.specs.Table.{Table, Forms, formAt, atomsOf};
 ghost use Rattle.round.specs.Views.{lentTable, variableOf, Below, stateOf};
-ghost use Rattle.round.specs.Signing.{SignedSlot, Ready};
+ghost use Rattle.round.specs.Signing.{SignedSlot, SignedTable, Ready};
 ghost use Rattle.rounds.specs.Run.{NonVariable};
 ghost use Rattle.settled.specs.Carried.{Carried, carriedSet, carriedNext};
 use round::State;
@@ -83,7 +82,7 @@ fn says_at(
     )
 }
 
-// What a settled state says of the polynomial in slot number, where the signs of all places are worked out for its board.
+// What a settled state says of the polynomial in slot number, where the signs of all slots are worked out for its board.
 pub fn says(
     coefficient: &[i32],
     monomial: &[u64],
@@ -94,7 +93,7 @@ pub fn says(
     number: usize,
 ) -> SignSet
     requires { ⌜ Forms (lentTable coefficient monomial terms variables) × ((state .board .variables ≡ variables) × (number < 64)) ⌝ }
-    requires { ⌜ (length (now sign) ≡ 1280) × Signed (setsOf (state .board)) (now monomial) (now sign) 0 1280 ⌝ }
+    requires { ⌜ (length (now sign) ≡ 1280) × SignedTable (lentTable coefficient monomial terms variables) (setsOf (state .board)) (now sign) ⌝ }
     ensures { λ r.
         let t = lentTable (coefficient .entry) (monomial .entry) (terms .entry) variables in
         ⌜ r .0 ≡ saysIn variables (stateOf t state) (formAt t number) ⌝ }

@@ -10,7 +10,6 @@ use Rattle.rules.specs.Signs.{SignSet, empty, complement, intersect, inside}
 use Rattle.rules.specs.Rounds.{saysIn}
 use Rattle.rules.specs.Level.{Formula, complemented, dual, parts, prune, enter, sweep, Walk}
 use Rattle.terms.specs.View.{setsOf}
-use Rattle.terms.specs.Signed.{Signed}
 use Rattle.table.specs.Table.{Table, formAt, Forms}
 use Rattle.round.specs.declared.State.{State}
 use Rattle.tape.specs.declared.walks.Walked.{Walked}
@@ -21,12 +20,13 @@ use Rattle.tape.specs.Token.{slot, atomOf, atomsIn}
 use Rattle.tape.specs.Tape.{Children, laid, orsIn}
 use Rattle.tape.specs.Walked.{Stands, afterwards, load}
 use Rattle.round.specs.Views.{stateOf}
+use Rattle.round.specs.Signing.{SignedTable}
 
--- What asking the list needs: a state that rounds over the table left, and the signs of all monomials of the table on the state's board.
+-- What asking the list needs: a state that rounds over the table left, and the signs of all slots of the table on the state's board.
 pub record Hears (t : Table) (state : State) (sign : List ℕ) : Type 0 where
   pub forms : Forms t
   pub variables : state .board .variables ≡ t .variables
-  pub signed : Signed (setsOf (state .board)) (t .monomial) sign 0 1280
+  pub signed : SignedTable t (setsOf (state .board)) sign
   pub long : length sign ≡ 1280
 
 -- What the list says of the polynomial of a token.

@@ -12,6 +12,7 @@ ghost use Rattle.tape.specs.Tape.{Children, laid, ChildAt};
 ghost use Rattle.tape.specs.Walked.{Stands};
 ghost use Rattle.steps.specs.Swept.{Hears, CutIs, PruneIs, EntersPruned, SweepIs};
 use round::State;
+use round::slots::sign_table;
 use settled::says;
 use signs::SignSet;
 use tape::rows::Row;
@@ -25,7 +26,6 @@ use tape::walks::Level;
 use tape::walks::Walked;
 use tape::walks::add;
 use tape::walks::begin;
-use terms::sign_terms;
 
 // What becomes of an atom of a child: the child is implied, the atom is gone, or this is its token now.
 struct Cut {
@@ -218,6 +218,6 @@ pub fn sweep(
     }
     let mut sign = [0u8; 1280];
     let board = state.board;
-    sign_terms(board, monomial, &mut sign, 0, 1280);
+    sign_table(board, monomial, terms, &mut sign);
     walk_over(coefficient, monomial, terms, &sign, variables, state, ors)
 }

@@ -28,21 +28,21 @@ table s = lentTable (s .args .coefficient) (s .args .monomial) (s .args .terms) 
 sign-list-requires : tie.Need-sign-list-requires Inv-loop μ-loop
 sign-list-requires c κs =
     let s = c .before .before .before .before .before .before .before .before .before in
-    let ready = s .pre .0 in
+    let (forms, (places, below)) = s .pre in
     let r = c .before .before .before .replay in
-    (form-slots {t = table s} (ready .forms) (r .kept .1 .1 .1 .0 ∙ ready .places), omega (arith, r .ensures .variables, ready .forms .variables))
+    (form-slots {t = table s} forms (r .kept .1 .1 .1 .0 ∙ places), omega (arith, r .ensures .variables, forms .variables))
 
 loop-holds : tie.Need-loop-holds Inv-loop μ-loop
 loop-holds c =
     let s = c .before .before .before .before .before .before .before .before .before .before .before .before in
-    let ready = s .pre .0 in
+    let (forms, (places, below)) = s .pre in
     let r = c .before .before .before .before .before .before .replay in (
       refl,
       record {
         variables = refl;
         after = no-turn;
-        ready = rw (c .before .before .sign-list .ensures) (list-ready (r .result) (s .args .atoms) _ (forms-over _ _ _ (sym (r .ensures .variables)) (ready .forms)) refl
-            (r .kept .1 .1 .1 .0 ∙ ready .places));
+        ready = rw (c .before .before .sign-list .ensures) (list-ready (r .result) (s .args .atoms) _ (forms-over _ _ _ (sym (r .ensures .variables)) forms) refl
+            (r .kept .1 .1 .1 .0 ∙ places));
       },
     )
 
@@ -52,7 +52,7 @@ pass-requires c κs =
     let l = c .before .before .before .before .loop in
     let r = c .before .before .before .before .before .before .before .before .before .before .before .replay .ensures in
     let whole = reached-after r (after-over _ _ _ (r .variables) (l .inv .1)) in
-    let (ready, (same, below)) = s .pre in
+    let (forms, (places, (same, below))) = s .pre in
     let over = sym (whole .variables) in (
       ready-over _ _ _ over (whole .ready),
       (
@@ -85,7 +85,7 @@ returns-2 c =
 pub ahead-spec : {M : Type 1} → statement M
 ahead-spec =
     tie.close
-    (tie.spec Inv-loop μ-loop (λ c. omega arith) (λ c. omega arith) (λ c κs. (c .before .before .before .before .before .pre .0 .forms, c .before .before .before .before .before .pre .0 .places)) sign-list-requires loop-holds
+    (tie.spec Inv-loop μ-loop (λ c. omega arith) (λ c. omega arith) (λ c κs. (c .before .before .before .before .before .pre .0, c .before .before .before .before .before .pre .1 .0)) sign-list-requires loop-holds
     (λ c. omega arith) pass-requires
     (λ c. c .before .before .before .pass .kept .1 .1 .1 .0 ∙ c .before .before .before .before .before .before .before .before .loop .inv .0 ∙ c .before .before .before .before .before .before .before .before .before .before .before .sign-list .kept .1 .1 .1 .1 .0 ∙ c .before .before .before .before .before .before .before .before .before .before .before .before .before .before .before .replay .kept .1 .1 .1 .0) returns (λ c. omega arith) loop-again
     (λ c. c .before .before .before .loop .inv .0 ∙ c .before .before .before .before .before .before .sign-list .kept .1 .1 .1 .1 .0 ∙ c .before .before .before .before .before .before .before .before .before .before .replay .kept .1 .1 .1 .0) returns-2)
