@@ -14,7 +14,6 @@ use Rattle.table.specs.Table.{Table}
 use Rattle.tape.specs.declared.rows.Row.{Row}
 use Rattle.tape.specs.declared.walks.Level.{Level}
 use Rattle.tape.specs.declared.walks.Walked.{Walked}
-use Rattle.steps.specs.declared.tidying.Tidied.{Tidied}
 use Rattle.steps.specs.declared.carrying.Carrying.{Carrying}
 use Rattle.level.specs.declared.settling.Stage.{Stage}
 use Rattle.tape.specs.Row.{Lists}
@@ -35,8 +34,8 @@ never-parts t = refl
 
 -- ---- what step 3 leaves is what step 5 asks
 
-pub left-by : {t : Table} {l : List ℕ} {m : Tidied} (f : Tidies t l m) → m .broken ≡ false → {c : Carrying} (g : Carries t (f .list) c)
-    → c .contradiction ≡ false → LeftBy t (c .state) (c .list)
+pub left-by : {t : Table} {l : List ℕ} {kept : Row} {b : Bool} (f : Tidies t l kept b) → b ≡ false → {cut : Row} {c : Carrying} (g : Carries t (f .list) cut c)
+    → c .contradiction ≡ false → LeftBy t (c .state) cut
 unfolding tidiedOf
 left-by {t} {l} f e g z = record {
   list = g .list;
@@ -65,19 +64,19 @@ module _ {t : Table} {l : List ℕ} (children : Children) where
     tight = λ z. let y : _≡_ {A = ℕ} 0 1 = cc (f .over) in absurd (omega arith);
   }
 
-  module _ {m : Tidied} (f : Tidies t l m) where
+  module _ {kept : Row} {b : Bool} (f : Tidies t l kept b) where
     -- step 2
-    pub turn-broken : m .broken ≡ true → (r : Stage) → NodeIsFalse r → StageIs t l children 1 r
+    pub turn-broken : b ≡ true → (r : Stage) → NodeIsFalse r → StageIs t l children 1 r
     unfolding tidiedOf afterTidy
     turn-broken e r n = false-stage n (sym (no-turn-missing (t .variables) (atomsIn t l) (orsIn t children) ∙ rw (f .is, e)))
 
-    after-tidy : m .broken ≡ false
+    after-tidy : b ≡ false
         → afterRounds (t .variables) (atomsIn t (f .list)) (run (t .variables) (atomsIn t (f .list))) (orsIn t children) (settled-down (t .variables))
         ≡ settled-down (t .variables) (atomsIn t l) (orsIn t children)
     unfolding tidiedOf afterTidy
     after-tidy e = sym (no-turn-missing (t .variables) (atomsIn t l) (orsIn t children) ∙ rw (f .is, e))
 
-    module _ (e : m .broken ≡ false) {c : Carrying} (g : Carries t (f .list) c) where
+    module _ (e : b ≡ false) {cut : Row} {c : Carrying} (g : Carries t (f .list) cut c) where
       -- step 3
       pub turn-contradiction : c .contradiction ≡ true → (r : Stage) → NodeIsFalse r → StageIs t l children 1 r
       unfolding afterRounds

@@ -51,12 +51,20 @@ fn turn(
     requires { ⌜ Forms (lentTable coefficient monomial terms variables) × Ready atoms ors ⌝ }
     ensures { λ r. let t = lentTable (coefficient .entry) (monomial .entry) (terms .entry) variables in ⌜ ((l : List ℕ) (children : Children) → Lists atoms l → Lists ors (laid children) → StageIs t l children 1 r) ⌝ }
 {
-    let tidied = tidy(coefficient, monomial, terms, variables, atoms);
-    if tidied.broken {
+    let mut list = atoms.token;
+    let kept = tidy(
+        coefficient,
+        monomial,
+        terms,
+        variables,
+        &mut list,
+        atoms.count,
+    );
+    if kept.broken {
         return never();
     }
-    let list = tidied.list;
-    let carrying = carry(coefficient, monomial, terms, variables, list);
+    let count = kept.count;
+    let carrying = carry(coefficient, monomial, terms, variables, &mut list, count);
     if carrying.contradiction {
         return never();
     }
@@ -65,11 +73,14 @@ fn turn(
     if walked.falls {
         return never();
     }
-    let cut = carrying.list;
-    let new = walked.new;
     let left = walked.ors;
     if walked.moved {
+        let new = walked.new;
         let n = new.count;
+        let cut = Row {
+            token: list,
+            count: count,
+        };
         let longer = append(cut, new, 0, n);
         return Stage {
             over: false,
@@ -77,10 +88,21 @@ fn turn(
             ors: left,
         };
     }
-    let remaining = without_implied(coefficient, monomial, terms, variables, cut, state);
+    let remaining = without_implied(
+        coefficient,
+        monomial,
+        terms,
+        variables,
+        &mut list,
+        count,
+        state,
+    );
     Stage {
         over: true,
-        atoms: remaining,
+        atoms: Row {
+            token: list,
+            count: remaining,
+        },
         ors: left,
     }
 }

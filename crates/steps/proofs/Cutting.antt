@@ -84,7 +84,7 @@ module _ {t : Table} (l : List ℕ) {list : Atoms} (n : list .count ≡ length l
   settled-is : ran .contradiction ≡ false → run (t .variables) (atomsOf t list) ≡ settled (stateOf t (ran .state))
   settled-is e = sym (o .outcome) ∙ rw e
 
-  pub contradicts : ran .contradiction ≡ true → (row : Row) → Lists row l → Carries t l (record { contradiction = true; list = row; state = ran .state })
+  pub contradicts : ran .contradiction ≡ true → (row : Row) → Lists row l → Carries t l row (record { contradiction = true; state = ran .state })
   contradicts e row h = record {
     is = rw e at ran-is;
     variables = o .variables;
@@ -95,7 +95,7 @@ module _ {t : Table} (l : List ℕ) {list : Atoms} (n : list .count ≡ length l
   }
 
   pub carries-on : ran .contradiction ≡ false → {cut : Atoms} → Carried t list (carried (t .variables) (setsOf (ran .state .board)) (atomsOf t list) (atomsOf t (ran .state .atoms))) cut
-      → (row : Row) → Lists row (withSets (cut .set) 0 l) → Carries t l (record { contradiction = false; list = row; state = ran .state })
+      → (row : Row) → Lists row (withSets (cut .set) 0 l) → Carries t l row (record { contradiction = false; state = ran .state })
   carries-on e {cut} c row h =
       let many-is : many (list .count) ≡ length l = omega arith in
       let many-cut : many (cut .count) ≡ length l = omega (arith, c .count) in

@@ -15,7 +15,6 @@ use Rattle.rules.specs.Level.{mergedIf, mergeInto, merge, keptIf, withoutFull, 
 use Rattle.sign_laws.specs.Sets.{intersect-below}
 use Rattle.table.specs.Table.{Table, formAt, Forms}
 use Rattle.tape.specs.declared.rows.Row.{Row}
-use Rattle.steps.specs.declared.tidying.Tidied.{Tidied}
 use Rattle.steps.specs.declared.tidying.Truth.{Truth}
 use Rattle.steps.specs.declared.tidying.Truth.the-variants.{Open, True, False}
 use Rattle.tape.specs.Row.{Lists}
@@ -109,7 +108,7 @@ pub merge-start : (t : Table) (all : List ℕ) (row : Row) → Lists row [] → 
 unfolding Apart
 merge-start t all row h = record { list = []; lists = h; is = refl; apart = tt }
 
-pub merge-end : {t : Table} {all : List ℕ} {row : Row} → Merging t all row [] → Merges t all (record { broken = false; list = row })
+pub merge-end : {t : Table} {all : List ℕ} {row : Row} → Merging t all row [] → Merges t all row false
 unfolding merge tidiedOf
 merge-end m = record { list = m .list; lists = m .lists; is = sym (m .is); apart = m .apart }
 
@@ -118,7 +117,7 @@ module _ {t : Table} {all : List ℕ} {row : Row} {x : ℕ} {rest : List ℕ} (m
   unfolding merge
   next = is-truth .is (atomsIn t (m .list)) (λ (l : List Atom). merge l (atomsIn t rest))
 
-  pub merge-false : r ≡ False → Merges t all (record { broken = true; list = row })
+  pub merge-false : r ≡ False → Merges t all row true
   unfolding afterTruth tidiedOf
   merge-false e = record { list = m .list; lists = m .lists; is = sym (m .is) ∙ (rw e at next); apart = m .apart }
 
@@ -160,7 +159,7 @@ kept-cons t x l = refl
 pub keep-start : (t : Table) (all : List ℕ) (row : Row) → Lists row [] → Keeping t all row all
 keep-start t all row h = record { list = []; lists = h; small = omega arith; is = front-nil _; apart = λ a. a }
 
-pub keep-end : {t : Table} {all : List ℕ} {row : Row} → Keeping t all row [] → WithoutFull t all (record { broken = false; list = row })
+pub keep-end : {t : Table} {all : List ℕ} {row : Row} → Keeping t all row [] → WithoutFull t all row false
 unfolding front withoutFull tidiedOf
 keep-end {t} k = record {
   list = k .list;
@@ -171,7 +170,7 @@ keep-end {t} k = record {
 }
 
 module _ {t : Table} {all : List ℕ} {row : Row} {x : ℕ} {rest : List ℕ} (k : Keeping t all row (x ∷ rest)) where
-  pub keep-empty : x % 8 ≡ 0 → WithoutFull t all (record { broken = true; list = row })
+  pub keep-empty : x % 8 ≡ 0 → WithoutFull t all row true
   unfolding front keptIf tidiedOf
   keep-empty e = record {
     list = k .list;
@@ -202,14 +201,14 @@ module _ {t : Table} {all : List ℕ} {row : Row} {x : ℕ} {rest : List ℕ} (k
 
 -- ---- the whole step
 
-module _ {t : Table} {l : List ℕ} {row : Row} (h : Lists row l) {m : Tidied} (n : m .list .count ≤ row .count) (g : Merges t l m) where
-  pub tidy-broken : m .broken ≡ true → Tidies t l (record { list = m .list; broken = true })
+module _ {t : Table} {l : List ℕ} {row merged : Row} (h : Lists row l) {b : Bool} (n : merged .count ≤ row .count) (g : Merges t l merged b) where
+  pub tidy-broken : b ≡ true → Tidies t l merged b
   unfolding tidy afterMerging tidiedOf
   tidy-broken e = record { list = g .list; lists = g .lists; small = omega (arith, g .lists .size, h .size); few = apart-few (g .list) (g .apart); is = rw (g .is, e) }
 
-  pub tidy-goes : m .broken ≡ false → (r : Tidied) → WithoutFull t (g .list) r → Tidies t l r
+  pub tidy-goes : b ≡ false → {left : Row} {c : Bool} → WithoutFull t (g .list) left c → Tidies t l left c
   unfolding tidy afterMerging tidiedOf
-  tidy-goes e r w = record {
+  tidy-goes e w = record {
     list = w .list;
     lists = w .lists;
     small = omega (arith, w .small, g .lists .size, h .size);

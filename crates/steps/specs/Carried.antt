@@ -33,11 +33,11 @@ remaining keep i (a ∷ l) = keptWhen (getD keep i false) a (remaining keep (suc
 
 -- ---- The two steps.
 
-pub record Carries (t : Table) (l : List ℕ) (r : Carrying) : Type 0 where
+pub record Carries (t : Table) (l : List ℕ) (row : Row) (r : Carrying) : Type 0 where
   pub is : run (t .variables) (atomsIn t l) ≡ ending (r .contradiction) (stateOf t (r .state))
   pub variables : r .state .board .variables ≡ t .variables
   pub list : List ℕ
-  pub lists : Lists (r .list) list
+  pub lists : Lists row list
   pub same : length list ≡ length l
   pub carries : r .contradiction ≡ false → carried (t .variables) (setsOf (r .state .board)) (atomsIn t l) (atomsOf t (r .state .atoms)) ≡ atomsIn t list
 

@@ -9,20 +9,14 @@ use Rattle.rules.specs.Polynomial.{Atom, normal, constant}
 use Rattle.rules.specs.Level.{Tidied as Outcome, broken, tidied, mergeInto, mergeNormal, merge, withoutFull, tidy}
 use Rattle.table.specs.Table.{Table}
 use Rattle.tape.specs.declared.rows.Row.{Row}
-use Rattle.steps.specs.declared.tidying.Tidied.{Tidied}
-use Rattle.steps.specs.declared.tidying.Kept.{Kept}
 use Rattle.steps.specs.declared.tidying.Truth.{Truth}
 use Rattle.steps.specs.declared.tidying.Truth.the-variants.{Open, True, False}
-use Rattle.tape.specs.Row.{rowOf, Lists}
+use Rattle.tape.specs.Row.{Lists}
 use Rattle.tape.specs.Token.{slot, atomOf, atomsIn}
 
 unfoldable pub tidiedOf : Bool → List Atom → Outcome
 tidiedOf true l = broken
 tidiedOf false l = tidied l
-
--- What is kept at the front of a list, as the atoms that step 2 leaves.
-abbrev pub keptIn : List ℕ → Kept → Tidied
-keptIn list kept = record { list = rowOf list (kept .count); broken = kept .broken }
 
 -- ---- A constant's atom is true or false, and step 2 goes on without it or breaks off; an open one is merged.
 
@@ -49,7 +43,7 @@ unfoldable pub Apart : List ℕ → Type 0
 Apart [] = Unit {0}
 Apart (x ∷ l) = Absent (slot x) l × Apart l
 
--- ---- The steps.
+-- ---- The steps: the row is what is kept, and `breaks` says that the node is false.
 
 pub record MergesInto (t : Table) (token : ℕ) (l : List ℕ) (row : Row) : Type 0 where
   pub list : List ℕ
@@ -57,22 +51,22 @@ pub record MergesInto (t : Table) (token : ℕ) (l : List ℕ) (row : Row) : Typ
   pub is : mergeInto (atomOf t token) (atomsIn t l) ≡ atomsIn t list
   pub apart : Apart l → Apart list
 
-pub record Merges (t : Table) (l : List ℕ) (r : Tidied) : Type 0 where
+pub record Merges (t : Table) (l : List ℕ) (row : Row) (breaks : Bool) : Type 0 where
   pub list : List ℕ
-  pub lists : Lists (r .list) list
-  pub is : merge [] (atomsIn t l) ≡ tidiedOf (r .broken) (atomsIn t list)
+  pub lists : Lists row list
+  pub is : merge [] (atomsIn t l) ≡ tidiedOf breaks (atomsIn t list)
   pub apart : Apart list
 
-pub record WithoutFull (t : Table) (l : List ℕ) (r : Tidied) : Type 0 where
+pub record WithoutFull (t : Table) (l : List ℕ) (row : Row) (breaks : Bool) : Type 0 where
   pub list : List ℕ
-  pub lists : Lists (r .list) list
+  pub lists : Lists row list
   pub small : length list ≤ length l
-  pub is : withoutFull (atomsIn t l) ≡ tidiedOf (r .broken) (atomsIn t list)
+  pub is : withoutFull (atomsIn t l) ≡ tidiedOf breaks (atomsIn t list)
   pub apart : Apart l → Apart list
 
-pub record Tidies (t : Table) (l : List ℕ) (r : Tidied) : Type 0 where
+pub record Tidies (t : Table) (l : List ℕ) (row : Row) (breaks : Bool) : Type 0 where
   pub list : List ℕ
-  pub lists : Lists (r .list) list
+  pub lists : Lists row list
   pub small : length list ≤ length l
   pub few : length list ≤ 64
-  pub is : tidy (atomsIn t l) ≡ tidiedOf (r .broken) (atomsIn t list)
+  pub is : tidy (atomsIn t l) ≡ tidiedOf breaks (atomsIn t list)

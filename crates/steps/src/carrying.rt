@@ -16,12 +16,10 @@ use settled::removal::Remaining;
 use settled::removal::remove_implied;
 use signs::SignSet;
 use table::Atoms;
-use tape::rows::Row;
 use tape::tokens::with_set;
 
-// What step 3 leaves: a contradiction, or the list with the cut sets and the state of its rounds.
+// What step 3 leaves beside its list: the state of its rounds, or that they found a contradiction.
 pub struct Carrying {
-    pub list: Row,
     pub state: State,
     pub contradiction: bool,
 }
@@ -40,38 +38,30 @@ fn with_sets(list: &mut [u32], n: usize, atoms: Atoms)
     }
 }
 
+// Step 3 of the first n tokens of a list: where the rounds settle, each token gets the set that its atom carries.
 pub fn carry(
     coefficient: &[i32],
     monomial: &[u64],
     terms: &[u8],
     variables: usize,
-    row: Row,
+    list: &mut [u32],
+    n: usize,
 ) -> Carrying
-    requires { ⌜ Forms (lentTable coefficient monomial terms variables) × (row .count ≤ 64) ⌝ }
-    ensures { λ r. let t = lentTable (coefficient .entry) (monomial .entry) (terms .entry) variables in ⌜ ((l : List ℕ) → Lists row l → Carries t l r) ⌝ }
+    requires { ⌜ Forms (lentTable coefficient monomial terms variables) × ((n ≤ length (now list)) × (n ≤ 64)) ⌝ }
+    ensures { λ r. let t = lentTable (coefficient .entry) (monomial .entry) (terms .entry) variables in ⌜ ((l : List ℕ) → Lists (rowOf (now (list .entry)) n) l → Carries t l (rowOf (now (list .exit)) n) r) ⌝ }
 {
-    let n = row.count;
-    let mut list = row.token;
-    let atoms = atoms_in(&list, n);
+    let atoms = atoms_in(list, n);
     let ran = run(coefficient, monomial, terms, variables, atoms);
     let state = ran.state;
     if ran.contradiction {
         return Carrying {
-            list: Row {
-                token: list,
-                count: n,
-            },
             state: state,
             contradiction: true,
         };
     }
     let cut = carried(coefficient, monomial, terms, variables, atoms, state);
-    with_sets(&mut list, n, cut);
+    with_sets(list, n, cut);
     Carrying {
-        list: Row {
-            token: list,
-            count: n,
-        },
         state: state,
         contradiction: false,
     }
@@ -97,25 +87,21 @@ fn kept_of(list: &mut [u32], n: usize, kept: Remaining) -> usize
 }
 
 // Step 5: "In order, an atom is removed if what the other remaining atoms say of it lies inside its carried set." The state is the one of step 3.
+// The tokens that remain are moved to the front; how many they are.
 pub fn without_implied(
     coefficient: &[i32],
     monomial: &[u64],
     terms: &[u8],
     variables: usize,
-    row: Row,
+    list: &mut [u32],
+    n: usize,
     state: State,
-) -> Row
+) -> usize
     requires { let t = lentTable coefficient monomial terms variables in
-        ⌜ Forms t × ((row .count ≤ 64) × LeftBy t state row) ⌝ }
-    ensures { λ r. let t = lentTable (coefficient .entry) (monomial .entry) (terms .entry) variables in ⌜ ((l : List ℕ) → Lists row l → Remains t l r) ⌝ }
+        ⌜ Forms t × ((n ≤ length (now list)) × ((n ≤ 64) × LeftBy t state (rowOf (now list) n))) ⌝ }
+    ensures { λ r. let t = lentTable (coefficient .entry) (monomial .entry) (terms .entry) variables in ⌜ ((l : List ℕ) → Lists (rowOf (now (list .entry)) n) l → Remains t l (rowOf (now (list .exit)) r)) ⌝ }
 {
-    let n = row.count;
-    let mut list = row.token;
-    let atoms = atoms_in(&list, n);
+    let atoms = atoms_in(list, n);
     let kept = remove_implied(coefficient, monomial, terms, variables, atoms, state);
-    let count = kept_of(&mut list, n, kept);
-    Row {
-        token: list,
-        count: count,
-    }
+    kept_of(list, n, kept)
 }

@@ -10,18 +10,17 @@ ghost use Rattle.table.specs.Table.{Table, Forms, atomsOf};
 ghost use Rattle.tape.specs.Row.{rowOf, Lists, Ahead};
 ghost use Rattle.tape.specs.Token.{slot, atomsIn};
 ghost use Rattle.round.specs.Views.{lentTable};
-ghost use Rattle.steps.specs.Tidied.{truthIf, TruthIs, keptIn, MergesInto, Merges, WithoutFull, Tidies};
+ghost use Rattle.steps.specs.Tidied.{truthIf, TruthIs, MergesInto, Merges, WithoutFull, Tidies};
 use signs::SignSet;
 use table::Atoms;
-use tape::rows::Row;
 use tape::tokens::set_of;
 use tape::tokens::slot_of;
 use tape::tokens::with_set;
 use terms::sign_of;
 
-// The atoms that step 2 leaves, or that the node is false.
-pub struct Tidied {
-    pub list: Row,
+// How many tokens step 2 keeps, at the front of their list, or that the node is false.
+pub struct Kept {
+    pub count: usize,
     pub broken: bool,
 }
 
@@ -88,12 +87,6 @@ fn merge_into(list: &mut [u32], count: usize, token: u32) -> usize
     count + 1
 }
 
-// How many tokens are kept, at the front of their list, or that the node is false.
-struct Kept {
-    count: usize,
-    broken: bool,
-}
-
 fn merge(
     coefficient: &[i32],
     monomial: &[u64],
@@ -103,7 +96,7 @@ fn merge(
     n: usize,
 ) -> Kept
     requires { ⌜ Forms (lentTable coefficient monomial terms variables) × (n ≤ length (now list)) ⌝ }
-    ensures { λ r. let t = lentTable (coefficient .entry) (monomial .entry) (terms .entry) variables in ⌜ (r .count ≤ n) × ((l : List ℕ) → Lists (rowOf (now (list .entry)) n) l → Merges t l (keptIn (now (list .exit)) r)) ⌝ }
+    ensures { λ r. let t = lentTable (coefficient .entry) (monomial .entry) (terms .entry) variables in ⌜ (r .count ≤ n) × ((l : List ℕ) → Lists (rowOf (now (list .entry)) n) l → Merges t l (rowOf (now (list .exit)) (r .count)) (r .broken)) ⌝ }
 {
     let mut count = 0;
     let mut i = 0;
@@ -132,7 +125,7 @@ fn merge(
 
 fn without_full(list: &mut [u32], n: usize) -> Kept
     requires { ⌜ n ≤ length (now list) ⌝ }
-    ensures { λ r. ⌜ ((t : Table) (l : List ℕ) → Lists (rowOf (now (list .entry)) n) l → WithoutFull t l (keptIn (now (list .exit)) r)) ⌝ }
+    ensures { λ r. ⌜ ((t : Table) (l : List ℕ) → Lists (rowOf (now (list .entry)) n) l → WithoutFull t l (rowOf (now (list .exit)) (r .count)) (r .broken)) ⌝ }
 {
     let mut count = 0;
     let mut i = 0;
@@ -157,38 +150,23 @@ fn without_full(list: &mut [u32], n: usize) -> Kept
     }
 }
 
-// The list is copied once, and each part of the step works where it lies.
+// Step 2 of the first n tokens of a list, where they lie.
 pub fn tidy(
     coefficient: &[i32],
     monomial: &[u64],
     terms: &[u8],
     variables: usize,
-    row: Row,
-) -> Tidied
-    requires { ⌜ Forms (lentTable coefficient monomial terms variables) × (row .count ≤ 256) ⌝ }
-    ensures { λ r. let t = lentTable (coefficient .entry) (monomial .entry) (terms .entry) variables in ⌜ ((l : List ℕ) → Lists row l → Tidies t l r) ⌝ }
+    list: &mut [u32],
+    n: usize,
+) -> Kept
+    requires { ⌜ Forms (lentTable coefficient monomial terms variables) × (n ≤ length (now list)) ⌝ }
+    ensures { λ r. let t = lentTable (coefficient .entry) (monomial .entry) (terms .entry) variables in ⌜ ((l : List ℕ) → Lists (rowOf (now (list .entry)) n) l → Tidies t l (rowOf (now (list .exit)) (r .count)) (r .broken)) ⌝ }
 {
-    let n = row.count;
-    let mut list = row.token;
-    let merged = merge(coefficient, monomial, terms, variables, &mut list, n);
-    let count = merged.count;
+    let merged = merge(coefficient, monomial, terms, variables, list, n);
     if merged.broken {
-        return Tidied {
-            list: Row {
-                token: list,
-                count: count,
-            },
-            broken: true,
-        };
+        return merged;
     }
-    let left = without_full(&mut list, count);
-    Tidied {
-        list: Row {
-            token: list,
-            count: left.count,
-        },
-        broken: left.broken,
-    }
+    without_full(list, merged.count)
 }
 
 // ---- the list as the rounds take it
