@@ -2,7 +2,7 @@
 -- Each step takes what the function of that step ensures, and gives what the next one asks.
 use mathlib.Core.Path.{_≡_, sym, ap, ap₂, _∙_, subst}
 use mathlib.Core.List.{List, [], _∷_, _++_, map}
-use Prim.Native.Nat.{ℕ, zero, suc, _≤_}
+use Prim.Native.Nat.{ℕ, _≤_}
 use native.Mathlib.Nat.{zero-add}
 use native.Mathlib.Omega.{arith}
 use lib.IntN.{ℤ}
@@ -24,6 +24,7 @@ use Rattle.writer.specs.Written.{Writable}
 use Rattle.forms.specs.declared.WorkingTable.{WorkingTable}
 use Rattle.forms.specs.Working.{TableRead, tableOf, Worked}
 use Rattle.forms.specs.Tokens.{normalTokens}
+use Rattle.tape.specs.Listing.{row-long}
 use Rattle.level.specs.declared.writing.Tree.{Tree}
 use Rattle.level.specs.Tree.{TreeHeld, Simplified}
 use Rattle.used.specs.Tape.{inSlot, Holds, HoldsSome}
@@ -101,11 +102,6 @@ module _ {bytes : List ℕ} {held : Held} {room : ℕ} (accepted : Accepted byte
 
 -- ---- the tape that comes out
 
-take-long : (n : ℕ) (l : List ℕ) → length (take n l) ≡ n → n ≤ length l
-take-long zero l e = omega arith
-take-long (suc n) [] e = absurd (omega arith)
-take-long (suc n) (x ∷ l) e = omega (arith, take-long n l (omega arith))
-
 module _ {given : Block} {held : Held} {w : WorkingTable} {token : List ℕ} (prepared : Prepared given held w token) where
   -- What the level rules ask for.
   pub asks-tree : TreeHeld token (held .root) (eachAtomOf tokenOf (prepared .tree))
@@ -116,12 +112,9 @@ module _ {given : Block} {held : Held} {w : WorkingTable} {token : List ℕ} (pr
   asks-atoms = record { tree = prepared .tree; holds = prepared .holds }
 
   module _ (r : Tree) (simpler : Simplified (tableOf (held .variables) w) (eachAtomOf tokenOf (prepared .tree)) r) where
-    row-long : r .tokens .count ≤ length (r .tokens .token)
-    row-long = take-long (r .tokens .count) (r .tokens .token) (ap length (simpler .lists .is) ∙ sym (simpler .lists .size))
-
     -- The row has as many tokens as are counted.
     pub counts-row : r .tokens .count ≤ length (r .tokens .token)
-    counts-row = row-long
+    counts-row = row-long (simpler .lists)
 
     -- The simplified tree.
     abbrev pub simplerTree : Node NumberedAtom

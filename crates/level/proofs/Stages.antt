@@ -16,7 +16,7 @@ use Rattle.tape.specs.declared.walks.Level.{Level}
 use Rattle.tape.specs.declared.walks.Walked.{Walked}
 use Rattle.steps.specs.declared.carrying.Carrying.{Carrying}
 use Rattle.level.specs.declared.settling.Stage.{Stage}
-use Rattle.tape.specs.Row.{Lists}
+use Rattle.tape.specs.Row.{rowOf, Lists}
 use Rattle.tape.specs.Token.{atomOf, atomsIn}
 use Rattle.tape.specs.Tape.{Children, none, child, laid, orsIn}
 use Rattle.tape.specs.Walked.{walkOf, Shows, Stands, oneIf, room, load, sizeOf}
@@ -24,9 +24,23 @@ use Rattle.steps.specs.Tidied.{tidiedOf, Tidies}
 use Rattle.round.specs.Views.{stateOf}
 use Rattle.steps.specs.Carried.{Carries, LeftBy, Remains}
 use Rattle.steps.specs.Swept.{SweepIs}
-use Rattle.level.specs.Settled.{NodeIsFalse, resultOf, StageIs, Ready, SettleIs, due, Gathered, FinishIs}
+use Rattle.level.specs.Settled.{NodeIsFalse, resultOf, StageIs, Ready, levelOf, SettleIs, due, Gathered, FinishIs}
 use Rattle.tape.specs.Listing.{whole}
+use Rattle.tape.specs.Storing.{counted}
 use Rattle.tape.specs.Entering.{map-append}
+
+-- the node is false, in two lists
+abbrev pub FalseIn : List ℕ → List ℕ → Stage → Type 0
+FalseIn atoms ors r = NodeIsFalse (rowOf atoms (r .atoms)) (rowOf ors (r .ors)) (r .over)
+
+-- all of a row, laid down after what a list has
+pub laid-down : {out : List ℕ} (n k : ℕ) (l m : List ℕ) → Lists (rowOf out (n + (k - 0))) (l ++ take (k - 0) (drop 0 m)) → k ≡ length m
+    → Lists (rowOf out (n + k)) (l ++ m)
+laid-down n k l m w e = counted (rw (whole m k e) at w) (omega arith)
+
+-- the same at the front of a list
+pub laid-first : {out : List ℕ} (k : ℕ) (m : List ℕ) → Lists (rowOf out (0 + (k - 0))) (take (k - 0) (drop 0 m)) → k ≡ length m → Lists (rowOf out k) m
+laid-first k m w e = counted (rw (whole m k e) at w) (omega arith)
 
 never-parts : (t : Table) → parts (atomsIn t []) (orsIn t (child [] none none)) ≡ never
 unfolding parts orParts orsIn never dual
@@ -52,23 +66,24 @@ left-by {t} {l} f e g z = record {
 -- ---- one turn
 
 module _ {t : Table} {l : List ℕ} (children : Children) where
-  false-stage : {r : Stage} → NodeIsFalse r → never ≡ settled-down (t .variables) (atomsIn t l) (orsIn t children) → StageIs t l children 1 r
+  false-stage : {atoms ors : List ℕ} {r : Stage} → FalseIn atoms ors r → never ≡ settled-down (t .variables) (atomsIn t l) (orsIn t children)
+      → StageIs t l children 1 atoms ors r
   unfolding resultOf
   false-stage f e = record {
     list = [];
     left = child [] none none;
-    lists = f .atoms;
-    lies = f .ors;
-    is = rw (f .over) (never-parts t ∙ e);
+    lists = f .lists;
+    lies = f .lies;
+    is = rw (f .ends) (never-parts t ∙ e);
     small = λ h. absurd (omega arith);
-    tight = λ z. let y : _≡_ {A = ℕ} 0 1 = cc (f .over) in absurd (omega arith);
+    tight = λ z. let y : _≡_ {A = ℕ} 0 1 = cc (f .ends) in absurd (omega arith);
   }
 
   module _ {kept : Row} {b : Bool} (f : Tidies t l kept b) where
     -- step 2
-    pub turn-broken : b ≡ true → (r : Stage) → NodeIsFalse r → StageIs t l children 1 r
+    pub turn-broken : b ≡ true → {atoms ors : List ℕ} {r : Stage} → FalseIn atoms ors r → StageIs t l children 1 atoms ors r
     unfolding tidiedOf afterTidy
-    turn-broken e r n = false-stage n (sym (no-turn-missing (t .variables) (atomsIn t l) (orsIn t children) ∙ rw (f .is, e)))
+    turn-broken e n = false-stage n (sym (no-turn-missing (t .variables) (atomsIn t l) (orsIn t children) ∙ rw (f .is, e)))
 
     after-tidy : b ≡ false
         → afterRounds (t .variables) (atomsIn t (f .list)) (run (t .variables) (atomsIn t (f .list))) (orsIn t children) (settled-down (t .variables))
@@ -78,9 +93,9 @@ module _ {t : Table} {l : List ℕ} (children : Children) where
 
     module _ (e : b ≡ false) {cut : Row} {c : Carrying} (g : Carries t (f .list) cut c) where
       -- step 3
-      pub turn-contradiction : c .contradiction ≡ true → (r : Stage) → NodeIsFalse r → StageIs t l children 1 r
+      pub turn-contradiction : c .contradiction ≡ true → {atoms ors : List ℕ} {r : Stage} → FalseIn atoms ors r → StageIs t l children 1 atoms ors r
       unfolding afterRounds
-      turn-contradiction z r n = false-stage n (rw (g .is, z) at (after-tidy e))
+      turn-contradiction z n = false-stage n (rw (g .is, z) at (after-tidy e))
 
       after-rounds : c .contradiction ≡ false
           → afterSweep (t .variables) (atomsIn t (g .list)) (sweep (t .variables) (stateOf t (c .state)) (orsIn t children)) (settled-down (t .variables))
@@ -90,61 +105,70 @@ module _ {t : Table} {l : List ℕ} (children : Children) where
 
       module _ (z : c .contradiction ≡ false) {w : Walked} (h : SweepIs t (c .state) children w) where
         -- step 4
-        pub turn-falls : w .falls ≡ true → (r : Stage) → NodeIsFalse r → StageIs t l children 1 r
+        pub turn-falls : w .falls ≡ true → {atoms ors : List ℕ} {r : Stage} → FalseIn atoms ors r → StageIs t l children 1 atoms ors r
         unfolding walkOf afterSweep
-        turn-falls x r n = false-stage n (rw (sym (h .stands .is), x) at (after-rounds z))
+        turn-falls x n = false-stage n (rw (sym (h .stands .is), x) at (after-rounds z))
 
-        module _ (x : w .falls ≡ false) where
-          pub turn-moved : w .moved ≡ true → (longer : Row) → Lists longer (g .list ++ take (w .new .count - 0) (drop 0 (h .stands .new)))
-              → StageIs t l children 1 (record { over = false; atoms = longer; ors = w .ors })
+        module _ (x : w .falls ≡ false) {ors : List ℕ} {m : ℕ} (v : Lists (rowOf ors m) (laid (h .stands .children))) where
+          pub turn-moved : w .moved ≡ true → {atoms : List ℕ} {n : ℕ} → Lists (rowOf atoms n) (g .list ++ h .stands .new)
+              → StageIs t l children 1 atoms ors (record { over = false; atoms = n; ors = m })
           unfolding walkOf afterSweep resultOf
-          turn-moved y longer p =
+          turn-moved y p =
               let one : oneIf (w .moved) ≡ 1 = rw y in
               let sizes : length (g .list ++ h .stands .new) + length (laid (h .stands .children)) + 1 ≤ length l + length (laid children) =
               omega (arith, length-append (g .list) (h .stands .new), h .small, g .same, f .small, h .stands .lists .size, h .stands .lies .size) in
               record {
                 list = g .list ++ h .stands .new;
                 left = h .stands .children;
-                lists = rw (whole (h .stands .new) (w .new .count) (h .stands .lists .size)) at p;
-                lies = h .stands .lies;
+                lists = p;
+                lies = v;
                 is = rw (map-append (atomOf t) (g .list) (h .stands .new)) (rw (sym (h .stands .is), x, y) at (after-rounds z));
                 small = λ q. omega (arith, sizes);
                 tight = λ q. sizes;
               }
 
           -- step 5
-          pub turn-over : w .moved ≡ false → (remaining : Row) → Remains t (g .list) remaining → StageIs t l children 1 (record { over = true; atoms = remaining; ors = w .ors })
+          pub turn-over : w .moved ≡ false → {atoms : List ℕ} {n : ℕ} → Remains t (g .list) (rowOf atoms n)
+              → StageIs t l children 1 atoms ors (record { over = true; atoms = n; ors = m })
           unfolding walkOf afterSweep resultOf
-          turn-over y remaining p = record {
+          turn-over y p = record {
             list = p .list;
             left = h .stands .children;
             lists = p .lists;
-            lies = h .stands .lies;
+            lies = v;
             is = rw (sym (p .is)) (rw (sym (h .stands .is), x, y) at (after-rounds z));
             small = λ q. omega (arith, p .small, h .small, g .same, f .small, h .stands .lists .size, h .stands .lies .size);
-            tight = λ q. let v : _≡_ {A = ℕ} 0 1 = cc in absurd (omega arith);
+            tight = λ q. let z : _≡_ {A = ℕ} 0 1 = cc in absurd (omega arith);
           }
 
 -- ---- the turns
 
-pub stage-start : (t : Table) (l : List ℕ) (children : Children) (atoms ors : Row) → Lists atoms l → Lists ors (laid children)
-    → StageIs t l children 0 (record { over = false; atoms = atoms; ors = ors })
+pub stage-start : (t : Table) (l : List ℕ) (children : Children) {atoms ors : List ℕ} {n m : ℕ} → Lists (rowOf atoms n) l → Lists (rowOf ors m) (laid children)
+    → StageIs t l children 0 atoms ors (record { over = false; atoms = n; ors = m })
 unfolding resultOf
-stage-start t l children atoms ors h k = record { list = l; left = children; lists = h; lies = k; is = refl; small = λ q. omega arith; tight = λ z. omega arith }
+stage-start t l children h k = record { list = l; left = children; lists = h; lies = k; is = refl; small = λ q. omega arith; tight = λ z. omega arith }
 
-module _ {t : Table} {l : List ℕ} {children : Children} {s : Stage} (f : StageIs t l children 0 s) where
-  pub stage-ready : s .over ≡ false → length l + length (laid children) ≤ 256 → Ready (s .atoms) (s .ors)
-  stage-ready e h = record { list = f .list; children = f .left; lists = f .lists; lies = f .lies; fits = omega (arith, f .tight e, f .lists .size, f .lies .size) }
+module _ {t : Table} {l : List ℕ} {children : Children} {atoms ors : List ℕ} {s : Stage} (f : StageIs t l children 0 atoms ors s) where
+  pub stage-ready : s .over ≡ false → length l + length (laid children) ≤ 256 → length atoms ≡ 256 → length ors ≡ 256 → Ready atoms (s .atoms) ors (s .ors)
+  stage-ready e h long wide = record {
+    list = f .list;
+    children = f .left;
+    lists = f .lists;
+    lies = f .lies;
+    fits = omega (arith, f .tight e, f .lists .size, f .lies .size);
+    long = long;
+    wide = wide;
+  }
 
-  pub stage-end : s .over ≡ true → SettleIs t l children (record { atoms = s .atoms; ors = s .ors })
+  pub stage-end : s .over ≡ true → SettleIs t l children (levelOf atoms ors s)
   unfolding resultOf
   stage-end e = record {
     shows = record { list = f .list; children = f .left; lists = f .lists; lies = f .lies; is = rw e at (f .is) };
     small = λ h. omega (arith, f .small (omega (arith, f .lists .size, f .lies .size)), f .lists .size, f .lies .size);
   }
 
-  module _ (e : s .over ≡ false) {r : Stage} (g : StageIs t (f .list) (f .left) 1 r) where
-    pub stage-turn : StageIs t l children 0 r
+  module _ (e : s .over ≡ false) {atoms′ ors′ : List ℕ} {r : Stage} (g : StageIs t (f .list) (f .left) 1 atoms′ ors′ r) where
+    pub stage-turn : StageIs t l children 0 atoms′ ors′ r
     unfolding resultOf
     stage-turn = record {
       list = g .list;
@@ -156,11 +180,11 @@ module _ {t : Table} {l : List ℕ} {children : Children} {s : Stage} (f : Stage
       tight = λ z. omega (arith, g .tight z, f .tight e);
     }
 
-    less-in : (b : Bool) → r .over ≡ b → due b (r .atoms .count + r .ors .count) < due false (s .atoms .count + s .ors .count)
+    less-in : (b : Bool) → r .over ≡ b → due b (r .atoms + r .ors) < due false (s .atoms + s .ors)
     less-in true q = omega arith
     less-in false q = omega (arith, g .tight q, g .lists .size, g .lies .size, f .lists .size, f .lies .size)
 
-    pub stage-less : due (r .over) (r .atoms .count + r .ors .count) < due (s .over) (s .atoms .count + s .ors .count)
+    pub stage-less : due (r .over) (r .atoms + r .ors) < due (s .over) (s .atoms + s .ors)
     stage-less = rw e (less-in (r .over) refl)
 
 -- ---- after step 1
@@ -171,11 +195,12 @@ gathered-in n l new ors true q = refl
 gathered-in n l new ors false q = rw (q refl, append-nil l)
 
 module _ {t : Table} {w : Walked} {walk : Walk} (s : Stands t w walk) where
-  pub finish-falls : (l : List ℕ) (n : ℕ) → w .falls ≡ true → (stage : Stage) → NodeIsFalse stage → FinishIs t l walk n (record { atoms = stage .atoms; ors = stage .ors })
+  pub finish-falls : (l : List ℕ) (n : ℕ) → w .falls ≡ true → {atoms ors : List ℕ} {stage : Stage} → FalseIn atoms ors stage
+      → FinishIs t l walk n (levelOf atoms ors stage)
   unfolding walkOf afterGather
-  finish-falls l n e stage f = record {
-    shows = record { list = []; children = child [] none none; lists = f .atoms; lies = f .ors; is = never-parts t ∙ (rw (sym (s .is), e)) };
-    small = λ h. absurd (omega (arith, f .atoms .size, f .ors .size));
+  finish-falls l n e f = record {
+    shows = record { list = []; children = child [] none none; lists = f .lists; lies = f .lies; is = never-parts t ∙ (rw (sym (s .is), e)) };
+    small = λ h. absurd (omega (arith, f .lists .size, f .lies .size));
   }
 
   pub finish-goes : (l : List ℕ) (n : ℕ) → w .falls ≡ false → length l + room w ≤ n → (r : Level) → SettleIs t (l ++ s .new) (s .children) r → FinishIs t l walk n r
@@ -184,12 +209,14 @@ module _ {t : Table} {w : Walked} {walk : Walk} (s : Stands t w walk) where
     small = λ k. omega (arith, f .small k, length-append l (s .new), s .lists .size, s .lies .size);
   }
 
-pub gathered-ready : {atoms : Row} {w : Walked} (g : Gathered atoms w) (longer : Row) → longer .count + 0 ≡ atoms .count + w .new .count
-    → Lists longer (g .list ++ take (w .new .count - 0) (drop 0 (g .stands .new))) → Ready longer (w .ors)
-gathered-ready {atoms} {w} g longer e h = record {
+pub gathered-ready : {atoms : Row} {w : Walked} (g : Gathered atoms w) {list : List ℕ} → Lists (rowOf list (atoms .count + w .new .count)) (g .list ++ g .stands .new)
+    → length list ≡ 256 → length (w .ors .token) ≡ 256 → Ready list (atoms .count + w .new .count) (w .ors .token) (w .ors .count)
+gathered-ready {atoms} {w} g h long wide = record {
   list = g .list ++ g .stands .new;
   children = g .stands .children;
-  lists = rw (whole (g .stands .new) (w .new .count) (g .stands .lists .size)) at h;
+  lists = h;
   lies = g .stands .lies;
   fits = omega (arith, g .fits);
+  long = long;
+  wide = wide;
 }

@@ -11,39 +11,45 @@ use Rattle.tape.specs.declared.rows.Row.{Row}
 use Rattle.tape.specs.declared.walks.Level.{Level}
 use Rattle.tape.specs.declared.walks.Walked.{Walked}
 use Rattle.level.specs.declared.settling.Stage.{Stage}
-use Rattle.tape.specs.Row.{Lists}
+use Rattle.tape.specs.Row.{rowOf, Lists}
 use Rattle.tape.specs.Token.{atomsIn}
 use Rattle.tape.specs.Tape.{Children, none, child, laid, orsIn}
 use Rattle.tape.specs.Walked.{Shows, Stands, sizeOf, room}
 
 -- The rows that say that the node is false: no atoms, and an OR with no parts.
-pub record NodeIsFalse (r : Stage) : Type 0 where
-  pub over : r .over ≡ true
-  pub atoms : Lists (r .atoms) []
-  pub ors : Lists (r .ors) (laid (child [] none none))
+pub record NodeIsFalse (atoms ors : Row) (over : Bool) : Type 0 where
+  pub ends : over ≡ true
+  pub lists : Lists atoms []
+  pub lies : Lists ors (laid (child [] none none))
 
 -- The parts, if the stage is over; else what settling on would give.
 unfoldable pub resultOf : Bool → ℕ → List Atom → List Formula → Formula
 resultOf true n l ors = parts l ors
 resultOf false n l ors = settled-down n l ors
 
--- A stage of settling the atoms l and the children. Its rows have at most as many tokens, or one alone; and fewer by e unless it is over.
-pub record StageIs (t : Table) (l : List ℕ) (children : Children) (e : ℕ) (r : Stage) : Type 0 where
+-- A stage of settling the atoms l and the children, in two lists. It has at most as many tokens, or one alone; and fewer by e unless it is over.
+pub record StageIs (t : Table) (l : List ℕ) (children : Children) (e : ℕ) (atoms ors : List ℕ) (r : Stage) : Type 0 where
   pub list : List ℕ
   pub left : Children
-  pub lists : Lists (r .atoms) list
-  pub lies : Lists (r .ors) (laid left)
+  pub lists : Lists (rowOf atoms (r .atoms)) list
+  pub lies : Lists (rowOf ors (r .ors)) (laid left)
   pub is : resultOf (r .over) (t .variables) (atomsIn t list) (orsIn t left) ≡ settled-down (t .variables) (atomsIn t l) (orsIn t children)
   pub small : 1 < length list + length (laid left) → length list + length (laid left) ≤ length l + length (laid children)
   pub tight : r .over ≡ false → length list + length (laid left) + e ≤ length l + length (laid children)
 
--- A node's atoms and OR children that fit a row together.
-pub record Ready (atoms ors : Row) : Type 0 where
+-- A node's n atoms and m tokens of OR children in two lists of 256 places, one of which has room for all.
+pub record Ready (atoms : List ℕ) (n : ℕ) (ors : List ℕ) (m : ℕ) : Type 0 where
   pub list : List ℕ
   pub children : Children
-  pub lists : Lists atoms list
-  pub lies : Lists ors (laid children)
-  pub fits : atoms .count + ors .count ≤ 256
+  pub lists : Lists (rowOf atoms n) list
+  pub lies : Lists (rowOf ors m) (laid children)
+  pub fits : n + m ≤ 256
+  pub long : length atoms ≡ 256
+  pub wide : length ors ≡ 256
+
+-- The level that a stage has in two lists.
+abbrev pub levelOf : List ℕ → List ℕ → Stage → Level
+levelOf atoms ors stage = record { atoms = rowOf atoms (stage .atoms); ors = rowOf ors (stage .ors) }
 
 pub record SettleIs (t : Table) (l : List ℕ) (children : Children) (r : Level) : Type 0 where
   pub shows : Shows t r (settled-down (t .variables) (atomsIn t l) (orsIn t children))

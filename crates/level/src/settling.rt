@@ -1,41 +1,40 @@
 // 01, "A level", steps 2 to 6 in a row. "If any did, go to 2": the way back is a loop, and each turn of it takes a token off the two rows.
 ghost use mathlib.Core.List.{List};
-ghost use Prim.Native.Nat.{ℕ, _+_};
+ghost use Prim.Native.Nat.{ℕ, _+_, _<_};
+ghost use lib.ListN.{length};
 ghost use Rattle.rules.specs.Level.{Walk};
 ghost use Rattle.table.specs.Table.{Forms};
-ghost use Rattle.tape.specs.Row.{Lists};
+ghost use Rattle.tape.specs.Row.{rowOf, Lists};
 ghost use Rattle.round.specs.Views.{lentTable};
 ghost use Rattle.tape.specs.Tape.{Children, laid};
 ghost use Rattle.tape.specs.Walked.{Stands, room};
-ghost use Rattle.level.specs.Settled.{NodeIsFalse, StageIs, Ready, SettleIs, Gathered, FinishIs};
+ghost use Rattle.level.specs.Settled.{NodeIsFalse, StageIs, Ready, levelOf, SettleIs, Gathered, FinishIs};
 use steps::carrying::carry;
 use steps::carrying::without_implied;
 use steps::sweeping::sweep;
 use steps::tidying::tidy;
 use tape::rows::Row;
-use tape::rows::append;
-use tape::rows::empty;
-use tape::rows::put_child;
+use tape::rows::lay;
 use tape::walks::Level;
 use tape::walks::Walked;
 
-// The atoms and the OR children of a node between two turns, or its parts when the last turn is over.
+// How many atoms a node has and how many tokens of OR children, in two lists that are lent, between two turns or when the last turn is over.
 pub struct Stage {
-    pub atoms: Row,
-    pub ors: Row,
+    pub atoms: usize,
+    pub ors: usize,
     pub over: bool,
 }
 
-// "the node is false": its one part is an OR with no parts.
-fn never() -> Stage
-    ensures { λ r. ⌜ NodeIsFalse r ⌝ }
+// "the node is false": its one part is an OR with no parts, whose head counts nothing.
+fn never(ors: &mut [u32]) -> Stage
+    requires { ⌜ 0 < length (now ors) ⌝ }
+    ensures { λ r. ⌜ ((list : List ℕ) → NodeIsFalse (rowOf list (r .atoms)) (rowOf (now (ors .exit)) (r .ors)) (r .over)) ⌝ }
 {
-    let nothing = empty();
-    let fallen = put_child(nothing, nothing, nothing);
+    ors[0] = 0;
     Stage {
+        atoms: 0,
+        ors: 1,
         over: true,
-        atoms: nothing,
-        ors: fallen,
     }
 }
 
@@ -45,65 +44,50 @@ fn turn(
     monomial: &[u64],
     terms: &[u8],
     variables: usize,
-    atoms: Row,
-    ors: Row,
+    list: &mut [u32],
+    n: usize,
+    ors: &mut [u32],
+    m: usize,
 ) -> Stage
-    requires { ⌜ Forms (lentTable coefficient monomial terms variables) × Ready atoms ors ⌝ }
-    ensures { λ r. let t = lentTable (coefficient .entry) (monomial .entry) (terms .entry) variables in ⌜ ((l : List ℕ) (children : Children) → Lists atoms l → Lists ors (laid children) → StageIs t l children 1 r) ⌝ }
+    requires { ⌜ Forms (lentTable coefficient monomial terms variables) × Ready (now list) n (now ors) m ⌝ }
+    ensures { λ r. let t = lentTable (coefficient .entry) (monomial .entry) (terms .entry) variables in
+        ⌜ ((l : List ℕ) (children : Children) → Lists (rowOf (now (list .entry)) n) l → Lists (rowOf (now (ors .entry)) m) (laid children)
+        → StageIs t l children 1 (now (list .exit)) (now (ors .exit)) r) ⌝ }
 {
-    let mut list = atoms.token;
-    let kept = tidy(
-        coefficient,
-        monomial,
-        terms,
-        variables,
-        &mut list,
-        atoms.count,
-    );
+    let kept = tidy(coefficient, monomial, terms, variables, list, n);
     if kept.broken {
-        return never();
+        return never(ors);
     }
     let count = kept.count;
-    let carrying = carry(coefficient, monomial, terms, variables, &mut list, count);
+    let carrying = carry(coefficient, monomial, terms, variables, list, count);
     if carrying.contradiction {
-        return never();
+        return never(ors);
     }
     let state = carrying.state;
-    let walked = sweep(coefficient, monomial, terms, variables, state, ors);
+    let walked = sweep(coefficient, monomial, terms, variables, state, ors, m);
     if walked.falls {
-        return never();
+        return never(ors);
     }
-    let left = walked.ors;
+    let stay = walked.ors;
+    let left = stay.token;
+    let rest = stay.count;
+    lay(ors, 0, &left, 0, rest);
     if walked.moved {
-        let new = walked.new;
-        let n = new.count;
-        let cut = Row {
-            token: list,
-            count: count,
-        };
-        let longer = append(cut, new, 0, n);
+        let join = walked.new;
+        let new = join.token;
+        let more = join.count;
+        lay(list, count, &new, 0, more);
         return Stage {
+            atoms: count + more,
+            ors: rest,
             over: false,
-            atoms: longer,
-            ors: left,
         };
     }
-    let remaining = without_implied(
-        coefficient,
-        monomial,
-        terms,
-        variables,
-        &mut list,
-        count,
-        state,
-    );
+    let remaining = without_implied(coefficient, monomial, terms, variables, list, count, state);
     Stage {
+        atoms: remaining,
+        ors: rest,
         over: true,
-        atoms: Row {
-            token: list,
-            count: remaining,
-        },
-        ors: left,
     }
 }
 
@@ -113,28 +97,34 @@ fn settle(
     monomial: &[u64],
     terms: &[u8],
     variables: usize,
-    atoms: Row,
-    ors: Row,
-) -> Level
-    requires { ⌜ Forms (lentTable coefficient monomial terms variables) × Ready atoms ors ⌝ }
-    ensures { λ r. let t = lentTable (coefficient .entry) (monomial .entry) (terms .entry) variables in ⌜ ((l : List ℕ) (children : Children) → Lists atoms l → Lists ors (laid children) → SettleIs t l children r) ⌝ }
+    list: &mut [u32],
+    n: usize,
+    ors: &mut [u32],
+    m: usize,
+) -> Stage
+    requires { ⌜ Forms (lentTable coefficient monomial terms variables) × Ready (now list) n (now ors) m ⌝ }
+    ensures { λ r. let t = lentTable (coefficient .entry) (monomial .entry) (terms .entry) variables in
+        ⌜ ((l : List ℕ) (children : Children) → Lists (rowOf (now (list .entry)) n) l → Lists (rowOf (now (ors .entry)) m) (laid children)
+        → SettleIs t l children (levelOf (now (list .exit)) (now (ors .exit)) r)) ⌝ }
 {
     let mut stage = Stage {
+        atoms: n,
+        ors: m,
         over: false,
-        atoms: atoms,
-        ors: ors,
     };
     while !stage.over {
-        let list = stage.atoms;
-        let left = stage.ors;
-        stage = turn(coefficient, monomial, terms, variables, list, left);
+        stage = turn(
+            coefficient,
+            monomial,
+            terms,
+            variables,
+            list,
+            stage.atoms,
+            ors,
+            stage.ors,
+        );
     }
-    let list = stage.atoms;
-    let left = stage.ors;
-    Level {
-        atoms: list,
-        ors: left,
-    }
+    stage
 }
 
 // What step 1 has gathered, through steps 2 to 6: the node's direct atoms, and the walk over its OR children.
@@ -149,18 +139,45 @@ pub fn finish(
     requires { ⌜ Forms (lentTable coefficient monomial terms variables) × Gathered atoms walked ⌝ }
     ensures { λ r. let t = lentTable (coefficient .entry) (monomial .entry) (terms .entry) variables in ⌜ ((l : List ℕ) (walk : Walk) → Lists atoms l → Stands t walked walk → FinishIs t l walk (atoms .count + room walked) r) ⌝ }
 {
+    let mut list = atoms.token;
+    let n = atoms.count;
+    let stay = walked.ors;
+    let mut ors = stay.token;
     if walked.falls {
-        let stage = never();
-        let list = stage.atoms;
-        let ors = stage.ors;
+        let stage = never(&mut ors);
         return Level {
-            atoms: list,
-            ors: ors,
+            atoms: Row {
+                token: list,
+                count: stage.atoms,
+            },
+            ors: Row {
+                token: ors,
+                count: stage.ors,
+            },
         };
     }
-    let new = walked.new;
-    let ors = walked.ors;
-    let n = new.count;
-    let longer = append(atoms, new, 0, n);
-    settle(coefficient, monomial, terms, variables, longer, ors)
+    let join = walked.new;
+    let new = join.token;
+    let more = join.count;
+    lay(&mut list, n, &new, 0, more);
+    let stage = settle(
+        coefficient,
+        monomial,
+        terms,
+        variables,
+        &mut list,
+        n + more,
+        &mut ors,
+        stay.count,
+    );
+    Level {
+        atoms: Row {
+            token: list,
+            count: stage.atoms,
+        },
+        ors: Row {
+            token: ors,
+            count: stage.ors,
+        },
+    }
 }

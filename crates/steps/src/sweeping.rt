@@ -162,7 +162,7 @@ fn enter_pruned(
     )
 }
 
-// All children of a row, with the signs of the table's monomials worked out.
+// All children in the first n tokens of a list, with the signs of the table's monomials worked out.
 fn walk_over(
     coefficient: &[i32],
     monomial: &[u64],
@@ -170,17 +170,17 @@ fn walk_over(
     sign: &[u8],
     variables: usize,
     state: State,
-    ors: Row,
+    ors: &[u32],
+    n: usize,
 ) -> Walked
-    requires { ⌜ Hears (lentTable coefficient monomial terms variables) state (now sign) × ((ors .count ≤ 256) × ((children : Children) × Lists ors (laid children))) ⌝ }
-    ensures { λ r. let t = lentTable (coefficient .entry) (monomial .entry) (terms .entry) variables in ⌜ ((children : Children) → Lists ors (laid children) → SweepIs t state children r) ⌝ }
+    requires { ⌜ Hears (lentTable coefficient monomial terms variables) state (now sign)
+        × ((length (now ors) ≡ 256) × ((n ≤ 256) × ((children : Children) × Lists (rowOf (now ors) n) (laid children)))) ⌝ }
+    ensures { λ r. let t = lentTable (coefficient .entry) (monomial .entry) (terms .entry) variables in ⌜ ((children : Children) → Lists (rowOf (now (ors .entry)) n) (laid children) → SweepIs t state children r) ⌝ }
 {
-    let n = ors.count;
-    let list = ors.token;
     let mut walked = begin();
     let mut place = 0;
     while place < n {
-        let head = list[place];
+        let head = ors[place];
         let atoms = atoms_of(head);
         let tokens = tokens_of(head);
         walked = enter_pruned(
@@ -191,7 +191,7 @@ fn walk_over(
             variables,
             state,
             walked,
-            &list,
+            ors,
             place,
             atoms,
             tokens,
@@ -208,16 +208,27 @@ pub fn sweep(
     terms: &[u8],
     variables: usize,
     state: State,
-    ors: Row,
+    ors: &[u32],
+    n: usize,
 ) -> Walked
-    requires { ⌜ Forms (lentTable coefficient monomial terms variables) × ((state .board .variables ≡ variables) × ((ors .count ≤ 256) × ((children : Children) × Lists ors (laid children)))) ⌝ }
-    ensures { λ r. let t = lentTable (coefficient .entry) (monomial .entry) (terms .entry) variables in ⌜ ((children : Children) → Lists ors (laid children) → SweepIs t state children r) ⌝ }
+    requires { ⌜ Forms (lentTable coefficient monomial terms variables) × ((state .board .variables ≡ variables)
+        × ((length (now ors) ≡ 256) × ((n ≤ 256) × ((children : Children) × Lists (rowOf (now ors) n) (laid children))))) ⌝ }
+    ensures { λ r. let t = lentTable (coefficient .entry) (monomial .entry) (terms .entry) variables in ⌜ ((children : Children) → Lists (rowOf (now (ors .entry)) n) (laid children) → SweepIs t state children r) ⌝ }
 {
-    if ors.count == 0 {
+    if n == 0 {
         return begin();
     }
     let mut sign = [0u8; 1280];
     let board = state.board;
     sign_table(board, monomial, terms, &mut sign);
-    walk_over(coefficient, monomial, terms, &sign, variables, state, ors)
+    walk_over(
+        coefficient,
+        monomial,
+        terms,
+        &sign,
+        variables,
+        state,
+        ors,
+        n,
+    )
 }

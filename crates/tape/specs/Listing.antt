@@ -18,6 +18,15 @@ pushed row longer t h stored more l w = record {
   size = omega (arith, length-append l (t ∷ []), w .size);
 }
 
+-- a row has room for the tokens that it counts
+take-long : (n : ℕ) (l : List ℕ) → length (take n l) ≡ n → n ≤ length l
+take-long zero l e = omega arith
+take-long (suc n) [] e = absurd (omega arith)
+take-long (suc n) (x ∷ l) e = omega (arith, take-long n l (omega arith))
+
+pub row-long : {row : Row} {l : List ℕ} → Lists row l → row .count ≤ length (row .token)
+row-long {row} w = take-long (row .count) (row .token) (ap length (w .is) ∙ sym (w .size))
+
 -- what a row has at a place is what its list has there
 pub held-at : {row : Row} {l : List ℕ} → Lists row l → (i : ℕ) → i < length l → getD (row .token) i 0 ≡ getD l i 0
 held-at {row} w i h = sym (getD-take (row .count) (row .token) i 0 (omega (arith, w .size))) ∙ ap (λ (x : List ℕ). getD x i 0) (w .is)

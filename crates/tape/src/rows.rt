@@ -36,7 +36,7 @@ pub fn push(row: Row, token: u32) -> Row
 }
 
 // Tokens from one place up to another, laid down from a place on.
-fn lay(out: &mut [u32], n: usize, tokens: &[u32], from: usize, to: usize)
+pub fn lay(out: &mut [u32], n: usize, tokens: &[u32], from: usize, to: usize)
     requires { ⌜ (from ≤ to) × ((to ≤ length (now tokens)) × (n + to ≤ length (now out) + from)) ⌝ }
     ensures { λ r. ⌜ ((k : ℕ) (l m : List ℕ) → Lists (rowOf (now (out .entry)) n) l → Lists (rowOf (now (tokens .entry)) k) m → to ≤ length m → Lists (rowOf (now (out .exit)) (n + (to - from))) (l ++ take (to - from) (drop from m))) ⌝ }
 {

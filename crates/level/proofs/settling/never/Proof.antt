@@ -1,14 +1,17 @@
+-- `never` meets its contract: the one token that it stores is the head of an OR with no parts.
 use mathlib.Core.Path.{refl}
 use mathlib.Core.List.{[]}
-use borrow.Author.Needs.{needs}
-use Rattle.tape.specs.Tape.{none}
+use lib.ListN.{length-set}
+use Rattle.tape.specs.Storing.{stored}
 use Rattle.level.proofs.settling.never.Statement.{statement}
 use Rattle.level.proofs.settling.never.Tie as tie
 
 returns : tie.Need-returns
-returns c =
-    let nothing = c .before .empty .ensures .1 in
-    record { over = refl; atoms = nothing; ors = c .put-child .ensures .1 none [] none nothing nothing nothing }
+returns c list = record {
+  ends = refl;
+  lists = record { is = refl; size = refl };
+  lies = stored (c .args .ors .now) 0 0 (c .pre) [] (record { is = refl; size = refl });
+}
 
 pub never-spec : {M : Type 1} → statement M
-never-spec = tie.close (tie.spec (λ c κs. search needs) (λ c κs. search needs) returns)
+never-spec = tie.close (tie.spec (λ c. c .pre) (λ c. length-set (c .args .ors .now) 0 0) returns)

@@ -1,80 +1,93 @@
--- `turn` meets its contract: steps 2 to 5 of the atoms, which lie in one list that is lent to each, and of the children.
-use mathlib.Core.Path.{_≡_}
-use Prim.Native.Nat.{ℕ}
-use borrow.Author.Needs.{needs, length-unmapped}
+-- `turn` meets its contract: steps 2 to 5 of the atoms, which lie in one list that is lent to each, and of the children, which lie in another.
+use mathlib.Core.Path.{refl, _∙_}
+use mathlib.Core.List.{[]}
+use borrow.Author.Needs.{needs}
 use native.Mathlib.Omega.{arith}
-use lib.ListN.{length}
-use Rattle.level.proofs.Stages.{turn-broken, turn-contradiction, turn-falls, turn-moved, left-by, turn-over}
+use Rattle.tape.specs.Tape.{laid}
+use Rattle.tape.specs.Listing.{row-long}
+use Rattle.level.proofs.Stages.{laid-down, laid-first, turn-broken, turn-contradiction, turn-falls, turn-moved, left-by, turn-over}
 use Rattle.level.proofs.settling.turn.Statement.{statement}
 use Rattle.level.proofs.settling.turn.Tie as tie
 
--- the list has the places of a row
-long : (s : tie.Start) → length (s .args .atoms .token) ≡ 256
-long s = length-unmapped ℕ (s .args .atoms .token) 256 (s .good .1 .1 .1 .1 .0 .1 .1 .0 .1 .0 .1)
-
 tidy-requires : tie.Need-tidy-requires
-tidy-requires c κs = let s = c .before .before .before .before in (s .pre .0, omega (arith, s .pre .1 .fits, long s))
+tidy-requires c κs = let (forms, ready) = c .before .before .before .before .before .pre in (forms, omega (arith, ready .fits, ready .long))
 
 broken : tie.Need-returns
-broken c l children h k = turn-broken children (c .before .before .before .tidy .ensures l h) (c .before .if1 .taken) _ (c .never .ensures)
+broken c l children h k = turn-broken children (c .before .before .before .before .before .before .before .tidy .ensures l h) (c .before .before .before .before .if1 .taken) (c .before .before .never .ensures _)
 
 carry-requires : tie.Need-carry-requires
 carry-requires c κs =
-    let s = c .before .before .before .before .before .before .before .before in
-    let tidied = c .before .before .before .tidy in
-    let f = tidied .ensures (s .pre .1 .list) (s .pre .1 .lists) in
-    (s .pre .0, (omega (arith, f .few, f .lists .size, tidied .kept .1 .1 .1 .1 .0, long s), omega (arith, f .few, f .lists .size)))
+    let (forms, ready) = c .before .before .before .before .before .before .before .before .before .before .pre in
+    let f = c .before .before .before .before .tidy .ensures (ready .list) (ready .lists) in
+    (forms, (omega (arith, f .few, f .lists .size, ready .long), omega (arith, f .few, f .lists .size)))
 
 contradiction : tie.Need-returns-2
 contradiction c l children h k =
-    let f = c .before .before .before .before .before .before .before .tidy .ensures l h in
-    turn-contradiction children f (c .before .before .before .before .before .if1 .left) (c .before .before .before .carry .ensures (f .list) (f .lists)) (c .before .if2 .taken) _ (c .never2 .ensures)
+    let f = c .before .before .before .before .before .before .before .before .before .before .before .before .tidy .ensures l h in
+    turn-contradiction children f (c .before .before .before .before .before .before .before .before .before .if1 .left) (c .before .before .before .before .before .before .before .carry .ensures (f .list) (f .lists)) (c .before .before .before .before .if2 .taken) (c .before .before .never2 .ensures _)
 
 sweep-requires : tie.Need-sweep-requires
 sweep-requires c κs =
-    let pre = c .before .before .before .before .before .before .before .before .before .before .before .before .pre in
-    let f = c .before .before .before .before .before .before .before .tidy .ensures (pre .1 .list) (pre .1 .lists) in
-    (pre .0, (c .before .before .before .carry .ensures (f .list) (f .lists) .variables, (omega (arith, pre .1 .fits), (pre .1 .children, pre .1 .lies))))
+    let (forms, ready) = c .before .before .before .before .before .before .before .before .before .before .before .before .before .before .before .before .pre in
+    let f = c .before .before .before .before .before .before .before .before .before .before .tidy .ensures (ready .list) (ready .lists) in
+    (forms, (c .before .before .before .before .before .carry .ensures (f .list) (f .lists) .variables, (ready .wide, (omega (arith, ready .fits), (ready .children, ready .lies)))))
 
 falls : tie.Need-returns-3
 falls c l children h k =
-    let f = c .before .before .before .before .before .before .before .before .before .before .tidy .ensures l h in
-    turn-falls children f (c .before .before .before .before .before .before .before .before .if1 .left) (c .before .before .before .before .before .before .carry .ensures (f .list) (f .lists)) (c .before .before .before .before .if2 .left) (c .before .before .sweep .ensures children k) (c .before .if3 .taken) _ (c .never3 .ensures)
+    let f = c .before .before .before .before .before .before .before .before .before .before .before .before .before .before .before .before .tidy .ensures l h in
+    turn-falls children f (c .before .before .before .before .before .before .before .before .before .before .before .before .before .if1 .left) (c .before .before .before .before .before .before .before .before .before .before .before .carry .ensures (f .list) (f .lists)) (c .before .before .before .before .before .before .before .before .if2 .left) (c .before .before .before .before .before .sweep .ensures children k) (c .before .before .before .before .if3 .taken) (c .before .before .never3 .ensures _)
 
-append-requires : tie.Need-append-requires
-append-requires c κs =
-    let pre = c .before .before .before .before .before .before .before .before .before .before .before .before .before .before .before .before .before .pre .1 in
-    let f = c .before .before .before .before .before .before .before .before .before .before .before .before .tidy .ensures (pre .list) (pre .lists) in
-    let g = c .before .before .before .before .before .before .before .before .carry .ensures (f .list) (f .lists) in
-    let w = c .before .before .before .before .sweep .ensures (pre .children) (pre .lies) in
-    (omega arith, (omega (arith, w .small, pre .fits, pre .lies .size), omega (arith, g .lists .size, g .same, f .small, pre .lists .size, w .small, pre .fits, pre .lies .size)))
+lay-ors-requires : tie.Need-lay-requires
+lay-ors-requires c κs =
+    let ready = c .before .before .before .before .before .before .before .before .before .before .before .before .before .before .before .before .before .before .before .before .before .before .pre .1 in
+    let w = c .before .before .before .before .before .sweep .ensures (ready .children) (ready .lies) in
+    (omega arith, (row-long (w .stands .lies), omega (arith, w .small, ready .fits, ready .lies .size, ready .wide)))
+
+lay-list-requires : tie.Need-lay-requires-2
+lay-list-requires c κs =
+    let ready = c .before .before .before .before .before .before .before .before .before .before .before .before .before .before .before .before .before .before .before .before .before .before .before .before .before .before .before .before .before .before .pre .1 in
+    let f = c .before .before .before .before .before .before .before .before .before .before .before .before .before .before .before .before .before .before .before .before .before .before .before .before .tidy .ensures (ready .list) (ready .lists) in
+    let w = c .before .before .before .before .before .before .before .before .before .before .before .before .before .sweep .ensures (ready .children) (ready .lies) in
+    (omega arith, (row-long (w .stands .lists), omega (arith, f .small, f .lists .size, ready .lists .size, w .small, ready .fits, ready .lies .size, c .before .before .before .before .before .before .before .before .before .before .before .before .before .before .before .before .before .before .before .carry .kept .1 .1 .1 .1 .0, c .before .before .before .before .before .before .before .before .before .before .before .before .before .before .before .before .before .before .before .before .before .before .before .before .tidy .kept .1 .1 .1 .1 .0, ready .long)))
 
 moved : tie.Need-returns-4
 moved c l children h k =
-    let f = c .before .before .before .before .before .before .before .before .before .before .before .before .before .tidy .ensures l h in
-    let g = c .before .before .before .before .before .before .before .before .before .carry .ensures (f .list) (f .lists) in
-    let w = c .before .before .before .before .before .sweep .ensures children k in
-    turn-moved children f (c .before .before .before .before .before .before .before .before .before .before .before .if1 .left) g (c .before .before .before .before .before .before .before .if2 .left) w (c .before .before .before .before .if3 .left) (c .before .before .if4 .taken) _
-    (c .append .ensures .1 _ _ (g .lists) (w .stands .lists) (omega (arith, w .stands .lists .size)))
+    let f = c .before .before .before .before .before .before .before .before .before .before .before .before .before .before .before .before .before .before .before .before .before .before .before .before .before .before .before .tidy .ensures l h in
+    let g = c .before .before .before .before .before .before .before .before .before .before .before .before .before .before .before .before .before .before .before .before .before .before .carry .ensures (f .list) (f .lists) in
+    let w = c .before .before .before .before .before .before .before .before .before .before .before .before .before .before .before .before .sweep .ensures children k in
+    turn-moved children f (c .before .before .before .before .before .before .before .before .before .before .before .before .before .before .before .before .before .before .before .before .before .before .before .before .if1 .left) g (c .before .before .before .before .before .before .before .before .before .before .before .before .before .before .before .before .before .before .before .if2 .left) w (c .before .before .before .before .before .before .before .before .before .before .before .before .before .before .before .if3 .left)
+    (laid-first _ (laid (w .stands .children)) (c .before .before .before .before .before .before .before .before .before .before .lay .ensures _ [] _ (record { is = refl; size = refl }) (w .stands .lies) (omega (arith, w .stands .lies .size))) (w .stands .lies .size)) (c .before .before .before .before .before .before .before .if4 .taken)
+    (laid-down _ _ (g .list) (w .stands .new) (c .before .before .lay2 .ensures _ (g .list) _ (g .lists) (w .stands .lists) (omega (arith, w .stands .lists .size))) (w .stands .lists .size))
 
 without-implied-requires : tie.Need-without-implied-requires
 without-implied-requires c κs =
-    let s = c .before .before .before .before .before .before .before .before .before .before .before .before .before .before .before .before .before in
-    let tidied = c .before .before .before .before .before .before .before .before .before .before .before .before .tidy in
-    let carried = c .before .before .before .before .before .before .before .before .carry in
-    let f = tidied .ensures (s .pre .1 .list) (s .pre .1 .lists) in
-    let g = carried .ensures (f .list) (f .lists) in
-    (s .pre .0, (omega (arith, f .few, f .lists .size, carried .kept .1 .1 .1 .1 .0, tidied .kept .1 .1 .1 .1 .0, long s), (omega (arith, f .few, g .same, g .lists .size), left-by f (c .before .before .before .before .before .before .before .before .before .before .if1 .left) g (c .before .before .before .before .before .before .if2 .left))))
+    let (forms, ready) = c .before .before .before .before .before .before .before .before .before .before .before .before .before .before .before .before .before .before .before .before .before .before .before .before .before .before .before .pre in
+    let f = c .before .before .before .before .before .before .before .before .before .before .before .before .before .before .before .before .before .before .before .before .before .tidy .ensures (ready .list) (ready .lists) in
+    let g = c .before .before .before .before .before .before .before .before .before .before .before .before .before .before .before .before .carry .ensures (f .list) (f .lists) in
+    (forms, (omega (arith, f .few, f .lists .size, c .before .before .before .before .before .before .before .before .before .before .before .before .before .before .before .before .carry .kept .1 .1 .1 .1 .0, c .before .before .before .before .before .before .before .before .before .before .before .before .before .before .before .before .before .before .before .before .before .tidy .kept .1 .1 .1 .1 .0, ready .long), (omega (arith, f .few, g .same, g .lists .size), left-by f (c .before .before .before .before .before .before .before .before .before .before .before .before .before .before .before .before .before .before .if1 .left) g (c .before .before .before .before .before .before .before .before .before .before .before .before .before .if2 .left))))
 
 over : tie.Need-returns-5
 over c l children h k =
-    let f = c .before .before .before .before .before .before .before .before .before .before .before .before .before .before .tidy .ensures l h in
-    let g = c .before .before .before .before .before .before .before .before .before .before .carry .ensures (f .list) (f .lists) in
-    turn-over children f (c .before .before .before .before .before .before .before .before .before .before .before .before .if1 .left) g (c .before .before .before .before .before .before .before .before .if2 .left) (c .before .before .before .before .before .before .sweep .ensures children k) (c .before .before .before .before .before .if3 .left) (c .before .before .before .if4 .left) _
-    (c .before .without-implied .ensures (g .list) (g .lists))
+    let f = c .before .before .before .before .before .before .before .before .before .before .before .before .before .before .before .before .before .before .before .before .before .before .before .before .tidy .ensures l h in
+    let g = c .before .before .before .before .before .before .before .before .before .before .before .before .before .before .before .before .before .before .before .carry .ensures (f .list) (f .lists) in
+    let w = c .before .before .before .before .before .before .before .before .before .before .before .before .before .sweep .ensures children k in
+    turn-over children f (c .before .before .before .before .before .before .before .before .before .before .before .before .before .before .before .before .before .before .before .before .before .if1 .left) g (c .before .before .before .before .before .before .before .before .before .before .before .before .before .before .before .before .if2 .left) w (c .before .before .before .before .before .before .before .before .before .before .before .before .if3 .left)
+    (laid-first _ (laid (w .stands .children)) (c .before .before .before .before .before .before .before .lay .ensures _ [] _ (record { is = refl; size = refl }) (w .stands .lies) (omega (arith, w .stands .lies .size))) (w .stands .lies .size)) (c .before .before .before .before .if4 .left)
+    (c .before .before .without-implied .ensures (g .list) (g .lists))
+
+adds : tie.Need-add-t44
+adds c =
+    let ready = c .before .before .before .before .before .before .before .before .before .before .before .before .before .before .before .before .before .before .before .before .before .before .before .before .before .before .before .before .before .before .before .before .before .pre .1 in
+    let f = c .before .before .before .before .before .before .before .before .before .before .before .before .before .before .before .before .before .before .before .before .before .before .before .before .before .before .before .tidy .ensures (ready .list) (ready .lists) in
+    let w = c .before .before .before .before .before .before .before .before .before .before .before .before .before .before .before .before .sweep .ensures (ready .children) (ready .lies) in
+    omega (arith, f .few, f .lists .size, w .small, ready .fits, ready .lies .size)
 
 pub turn-spec : {M : Type 1} → statement M
 turn-spec =
     tie.close
-    (tie.spec (λ c. search needs) tidy-requires (λ c κs. search needs) broken (λ c. search needs) carry-requires (λ c κs. search needs) contradiction sweep-requires (λ c κs. search needs) falls
-    append-requires moved (λ c. search needs) without-implied-requires over)
+    (tie.spec tidy-requires (λ c κs. omega (arith, c .before .before .before .before .before .before .before .before .before .before .pre .1 .wide)) (λ c. search needs) (λ c. search needs) broken carry-requires
+    (λ c κs. omega (arith, c .before .before .before .before .before .before .before .before .before .before .before .before .before .before .before .pre .1 .wide)) (λ c. search needs) (λ c. search needs) contradiction sweep-requires
+    (λ c κs. omega (arith, c .before .before .before .before .before .before .before .before .before .before .before .before .before .before .before .before .before .before .before .pre .1 .wide)) (λ c. search needs) (λ c. search needs) falls
+    (λ c. search needs) lay-ors-requires (λ c. search (needs, c .before .before .before .before .before .before .before .before .before .before .before .before .before .sweep .ok)) lay-list-requires adds
+    (λ c. c .before .before .lay2 .kept .0 ∙ c .before .before .before .before .before .before .before .before .before .before .before .before .before .before .before .before .before .before .before .before .before .before .carry .kept .1 .1 .1 .1 .0 ∙ c .before .before .before .before .before .before .before .before .before .before .before .before .before .before .before .before .before .before .before .before .before .before .before .before .before .before .before .tidy .kept .1 .1 .1 .1 .0) (λ c. c .before .before .before .before .before .before .before .before .before .before .lay .kept .0) moved without-implied-requires
+    (λ c. c .before .before .without-implied .kept .1 .1 .1 .1 .0 ∙ c .before .before .before .before .before .before .before .before .before .before .before .before .before .before .before .before .before .before .before .carry .kept .1 .1 .1 .1 .0 ∙ c .before .before .before .before .before .before .before .before .before .before .before .before .before .before .before .before .before .before .before .before .before .before .before .before .tidy .kept .1 .1 .1 .1 .0) (λ c. c .before .before .before .before .before .before .before .lay .kept .0) over)

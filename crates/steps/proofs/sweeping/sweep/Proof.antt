@@ -1,7 +1,7 @@
--- `level::sweeping::sweep` walks over the children with the signs of the board; a row without tokens has no child. Assumes nothing.
+-- `sweep` meets its contract: a walk over the children with the signs of the board; where there is no token there is no child.
 use borrow.Author.Needs.{needs}
 use native.Mathlib.Omega.{arith}
-use Rattle.round.specs.SignedSlots.{form-slots, table-signed}
+use Rattle.round.specs.SignedSlots.{table-signed}
 use Rattle.steps.proofs.Childwise.{sweep-start, sweep-end}
 use Rattle.steps.proofs.sweeping.sweep.Statement.{statement}
 use Rattle.steps.proofs.sweeping.sweep.Tie as tie
@@ -9,7 +9,10 @@ use Rattle.steps.proofs.sweeping.sweep.Tie as tie
 walk-over-requires : tie.Need-walk-over-requires
 walk-over-requires c κs =
     let pre = c .before .before .before .before .before .before .before .before .before .pre in
-    (record { forms = pre .0; variables = pre .1 .0; signed = rw (c .before .before .sign-table .ensures) (table-signed _ _ (pre .0) (search needs)); long = c .before .before .sign-table .kept .1 .1 .1 .0 }, pre .1 .1)
+    let worked-out = c .before .before .sign-table in (
+      record { forms = pre .0; variables = pre .1 .0; signed = rw (worked-out .ensures) (table-signed _ _ (pre .0) (search needs)); long = worked-out .kept .1 .1 .1 .0 },
+      pre .1 .1,
+    )
 
 no-child : tie.Need-returns
 no-child c children h = sweep-end (sweep-start _ _ children _ (c .begin .ensures .0) (c .begin .ensures .1 .1 _)) _ h (omega (arith, c .before .if1 .taken))
