@@ -6,7 +6,7 @@ use Prim.Native.Nat.{ℕ, suc, _+_, _-_, _<_, _≤_}
 use native.Mathlib.Omega.{arith}
 use lib.ListN.{length, take, drop, length-append}
 use Rattle.rules.specs.Polynomial.{Atom}
-use Rattle.rules.specs.Rounds.{settled, run}
+use Rattle.rules.specs.Rounds.{State, settled, run}
 use Rattle.rules.specs.Level.{Formula, dual, orParts, parts, never, Walk, falls, still, moved, sweep, afterSweep, afterRounds, afterTidy, settled-down, afterGather}
 use Rattle.ending_laws.specs.Turns.{no-turn-missing}
 use Rattle.removal_laws.specs.Apart.{tidy-apart}
@@ -45,6 +45,12 @@ laid-first k m w e = counted (rw (whole m k e) at w) (omega arith)
 never-parts : (t : Table) → parts (atomsIn t []) (orsIn t (child [] none none)) ≡ never
 unfolding parts orParts orsIn never dual
 never-parts t = refl
+
+-- no child, no walk
+no-sweep : (n : ℕ) (state : State) (t : Table) (children : Children) → length (laid children) ≡ 0 → sweep n state (orsIn t children) ≡ still []
+unfolding sweep orsIn
+no-sweep n state t none e = refl
+no-sweep n state t (child l own later) e = absurd (omega arith)
 
 -- ---- what step 3 leaves is what step 5 asks
 
@@ -102,6 +108,20 @@ module _ {t : Table} {l : List ℕ} (children : Children) where
           ≡ settled-down (t .variables) (atomsIn t l) (orsIn t children)
       unfolding afterRounds
       after-rounds z = rw (g .is, z, g .carries z) at (after-tidy e)
+
+      -- step 5 where there is no child for step 4
+      pub turn-alone : c .contradiction ≡ false → length (laid children) ≡ 0 → {atoms ors : List ℕ} {n : ℕ} → Remains t (g .list) (rowOf atoms n)
+          → StageIs t l children 1 atoms ors (record { over = true; atoms = n; ors = 0 })
+      unfolding afterSweep resultOf orsIn
+      turn-alone z e p = record {
+        list = p .list;
+        left = none;
+        lists = p .lists;
+        lies = record { is = refl; size = refl };
+        is = rw (sym (p .is)) (rw (no-sweep (t .variables) (stateOf t (c .state)) t children e) at (after-rounds z));
+        small = λ q. omega (arith, p .small, g .same, f .small);
+        tight = λ q. let y : _≡_ {A = ℕ} 0 1 = cc in absurd (omega arith);
+      }
 
       module _ (z : c .contradiction ≡ false) {w : Walked} (h : SweepIs t (c .state) children w) where
         -- step 4

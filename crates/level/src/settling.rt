@@ -38,7 +38,7 @@ fn never(ors: &mut [u32]) -> Stage
     }
 }
 
-// One turn: steps 2 to 4, and step 5 if no child joined or was spliced.
+// One turn: steps 2 to 4, and step 5 if no child joined or was spliced. Where there is no child step 4 has nothing to do.
 fn turn(
     coefficient: &[i32],
     monomial: &[u64],
@@ -64,6 +64,14 @@ fn turn(
         return never(ors);
     }
     let state = carrying.state;
+    if m == 0 {
+        let alone = without_implied(coefficient, monomial, terms, variables, list, count, state);
+        return Stage {
+            atoms: alone,
+            ors: 0,
+            over: true,
+        };
+    }
     let walked = sweep(coefficient, monomial, terms, variables, state, ors, m);
     if walked.falls {
         return never(ors);

@@ -201,7 +201,7 @@ fn walk_over(
     walked
 }
 
-// The signs are worked out once for the state's board, and serve each atom of each child. Where there is no child they serve nobody.
+// The signs are worked out once for the state's board, and serve each atom of each child.
 pub fn sweep(
     coefficient: &[i32],
     monomial: &[u64],
@@ -215,9 +215,6 @@ pub fn sweep(
         × ((length (now ors) ≡ 256) × ((n ≤ 256) × ((children : Children) × Lists (rowOf (now ors) n) (laid children))))) ⌝ }
     ensures { λ r. let t = lentTable (coefficient .entry) (monomial .entry) (terms .entry) variables in ⌜ ((children : Children) → Lists (rowOf (now (ors .entry)) n) (laid children) → SweepIs t state children r) ⌝ }
 {
-    if n == 0 {
-        return begin();
-    }
     let mut sign = [0u8; 1280];
     let board = state.board;
     sign_table(board, monomial, terms, &mut sign);
