@@ -329,7 +329,7 @@ fn replay(
 // ---- all of them
 
 // The turns of an order first, each in part, then passes, two down, two up, and so on, until one changes nothing, or until as many are over as a board of so many
-// variables can change its sets.
+// variables can change its sets. What is lent for the signs is room: they are worked out here.
 pub fn ahead(
     coefficient: &[i32],
     monomial: &[u64],

@@ -1,5 +1,5 @@
 // 01, "A level": a tree of atoms simplified by the AND rule and the OR rule, on tapes of tokens.
-// The table of normal forms is lent as three slices and the number of variables; all else is held by value.
+// The table of normal forms is lent as three slices and the number of variables. A node settles in two lists that it lends; what it hands up is a value.
 ghost use Prim.Native.Nat.{ℕ};
 ghost use Rattle.rules.specs.Formula.{Node};
 ghost use Rattle.table.specs.Table.{Forms};

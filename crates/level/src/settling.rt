@@ -1,4 +1,5 @@
-// 01, "A level", steps 2 to 6 in a row. "If any did, go to 2": the way back is a loop, and each turn of it takes a token off the two rows.
+// 01, "A level", steps 2 to 6 in a row. "If any did, go to 2": the way back is a loop, and each turn of it takes a token off the two lists.
+// A node's atoms lie in one list and its OR children in another; both are lent to each step and changed where they lie.
 ghost use mathlib.Core.List.{List};
 ghost use Prim.Native.Nat.{ℕ, _+_, _<_};
 ghost use lib.ListN.{length};
