@@ -2,7 +2,7 @@
 -- text's bytes are determined by the input and by what was lent.
 use mathlib.Core.Path.{_≡_, sym, ap, _∙_, subst}
 use mathlib.Core.List.{List, _++_}
-use Prim.Native.Nat.{ℕ, _<_, _≤_}
+use Prim.Native.Nat.{ℕ, _+_, _*_, _<_, _≤_}
 use native.Mathlib.Omega.{arith}
 use lib.ListN.{length, take, drop, length-append}
 use lib.Seq.{take-append-seam, length-take-le}
@@ -10,6 +10,8 @@ use borrow.Author.Tests.{le-leb}
 use Rattle.rules.specs.Answer as book
 use Rattle.rules.specs.Answer.{written, filledPart}
 use Rattle.rules.specs.Report.{report}
+use Rattle.rules.specs.Demands.{NeverLonger}
+use Rattle.laws.specs.Answers.{never-longer-answer}
 use Rattle.lines.specs.Parts.{refusal-long, line-long, lines-long}
 use Rattle.answer.specs.declared.Verdict.{Verdict}
 use Rattle.answer.specs.declared.Counts.{Counts}
@@ -39,7 +41,16 @@ lines-most (book.answered verdict bytes counts) (by-block head longest) = omega 
 pub lines-fit : (room : ℕ) (bytes : List ℕ) → length (report (book.answer room bytes)) ≤ 38082
 lines-fit room bytes = lines-most (book.answer room bytes) (answer-bounded room bytes)
 
--- so that all of them are told there.
+-- so that all of them are told there. So has a text of three bytes for each byte of the input and 32 more (PLACARDPAN_TEXT in include/placardpan.h):
+-- the new block is never longer than the given one.
+lines-within : (bytes : List ℕ) (a : book.Answer) → NeverLonger bytes a → length (report a) ≤ 3 * length bytes + 32
+unfolding NeverLonger
+lines-within bytes (book.refusal number) short = omega (arith, refusal-long number)
+lines-within bytes (book.answered verdict new counts) short = omega (arith, short .2, lines-long verdict new counts, line-long verdict counts)
+
+pub lines-fit-input : (room : ℕ) (bytes : List ℕ) → length (report (book.answer room bytes)) ≤ 3 * length bytes + 32
+lines-fit-input room bytes = lines-within bytes (book.answer room bytes) (never-longer-answer room bytes)
+
 pub reports-all : {bytes before after text text-after : List ℕ} {n : ℕ} → Reports bytes before after text text-after n → 38082 ≤ length text
     → take n text-after ≡ report (book.answer (length before) bytes)
 unfolding told toldLength
