@@ -5,3 +5,4 @@ pub mod Part
 pub mod Exported
 pub mod Lines
 pub mod OneResult
+pub mod ShutOut
