@@ -5,7 +5,7 @@ use mathlib.Core.Bool.{true≢false}
 use mathlib.Core.List.{List, [], _∷_, _++_}
 use Prim.Native.Nat.{ℕ}
 use native.Mathlib.Omega.{arith}
-use lib.IntN.{pos}
+use lib.IntN.{pos, pow, one}
 use lib.ListN.{length, drop, getD}
 use Rattle.rules.specs.Signs.{open-signs}
 use Rattle.rules.specs.Polynomial.{open-polynomial}
@@ -29,12 +29,12 @@ use Rattle.lift.specs.Lines.{is-answer}
 
 -- ---- demand 2, case A
 
-countsOfA : book.Counts
+-- "FORMULA 2 1 2 1"
+abbrev pub countsOfA : book.Counts
 countsOfA = record { atoms-in = 2; atoms-out = 1; polynomials-in = 2; polynomials-out = 1 }
 
 module _ {before after : List ℕ} {returned : Answer} (room : length before ≡ 36) (answers : Answers caseA before after returned) where
   answer-is : answer (length before) caseA ≡ book.answered book.formula shortA countsOfA
-  unfolding countsOfA
   answer-is = ap (λ (n : ℕ). answer n caseA) room ∙ bytes-of-A
 
   returned-is : returned ≡ answerOf (book.answered book.formula shortA countsOfA)
@@ -67,7 +67,7 @@ caseE = 0x10 ∷ 0x81 ∷ 0x01 ∷ 0x00 ∷ 0x10 ∷ 0x10 ∷ 0x00 ∷ 0x00 ∷ 
 
 -- At x = 0 it does not hold.
 not-always : (bytes : List ℕ) (counts : book.Counts) → SameLifts (readBlock caseE) (book.answered book.always bytes counts) → ⊥
-unfolding SameLifts open-signs open-polynomial open-formula open-bits open-block formulaOf lookedUp monomialAt valueBy signAt atomHolds holds holdsAt caseE
+unfolding SameLifts open-signs open-polynomial open-formula open-bits open-block formulaOf lookedUp monomialAt valueBy signAt atomHolds holds holdsAt caseE pow one
 not-always bytes counts same = true≢false (sym (same (pos 0 ∷ []) refl .1 refl))
 
 -- Always "ALWAYS": demand 3 alone does not allow it here.
