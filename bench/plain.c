@@ -689,7 +689,13 @@ static __attribute__((noinline)) Answer simplify(const uint8_t *input, size_t le
     answer.refusal = read_block(&r, input, length, &root);
     if (answer.refusal) return answer;
     to_forms(&r);
-    for (int k = 0; k < r.nodes; k++) answer.atoms_in += !(r.token[k] & NODE);
+    uint64_t named = 0; // the forms that atoms name, but for a constant
+    for (int k = 0; k < r.nodes; k++) {
+        if (r.token[k] & NODE) continue;
+        answer.atoms_in++;
+        if (!form[r.token[k] >> 3].constant) named |= (uint64_t)1 << (r.token[k] >> 3);
+    }
+    answer.polynomials_in = __builtin_popcountll(named);
     Level level;
     int flip = root == 2 ? 7 : 0;
     if (root == 0) {
@@ -709,7 +715,6 @@ static __attribute__((noinline)) Answer simplify(const uint8_t *input, size_t le
     tell_children(&tree, level.child, level.length, flip ^ 7);
     answer.verdict = tree.atoms ? "FORMULA" : tree.token[0] >> 13 & 1 ? "ALWAYS" : "UNSATISFIABLE";
     answer.atoms_out = tree.atoms;
-    answer.polynomials_in = r.polynomials;
     answer.polynomials_out = tree.forms;
     answer.length = write_block(&tree, output);
     return answer;

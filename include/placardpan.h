@@ -69,7 +69,10 @@ static inline size_t placardpan_length(uint32_t answer)
     return answer < 256 ? 0 : answer & 0xffff;
 }
 
-/* The same, with the counts over the two blocks, each through a number of the caller's; all 0 on refusal. */
+/* The same, with the counts over the two blocks, each through a number of the caller's; all 0 on refusal.
+ * Polynomials in: the different non-constant normal forms that the input's tree uses. Equal, multiple and negated polynomials are one form, a constant
+ * is none, a polynomial that no atom names is none; an atom with the empty or the full set uses its polynomial all the same. Polynomials out: the size
+ * of the new block's table, all of which its tree uses, each form once and none constant. So both count the same, and out is never above in. */
 uint32_t placardpan_counted(const uint8_t *input, size_t input_length, uint8_t *output, size_t output_length,
                             size_t *atoms_in, size_t *atoms_out, size_t *polynomials_in, size_t *polynomials_out);
 
@@ -78,9 +81,9 @@ uint32_t placardpan_counted(const uint8_t *input, size_t input_length, uint8_t *
 size_t placardpan_simplified(const uint8_t *input, size_t input_length, uint8_t *output, size_t output_length);
 
 /* Simplifies a block and writes the program's lines to the text's first bytes: one of the words FORMULA, ALWAYS, UNSATISFIABLE with atoms in, atoms out,
- * polynomials in, polynomials out, and the new block in lower-case hex pairs, one space apart; or REFUSED and the number. Each line ends with a newline,
- * and there is no 0 byte. Returns how many bytes the lines are; if they do not fit, 0, and the text keeps each byte. The output is left as by
- * placardpan_simplify. */
+ * polynomials in, polynomials out, counted as above, and the new block in lower-case hex pairs, one space apart; or REFUSED and the number. Each line
+ * ends with a newline, and there is no 0 byte. Returns how many bytes the lines are; if they do not fit, 0, and the text keeps each byte. The output is
+ * left as by placardpan_simplify. */
 size_t placardpan_report(const uint8_t *input, size_t input_length, uint8_t *output, size_t output_length, uint8_t *text, size_t text_length);
 
 /* A text in which the lines for an input of this length fit. */

@@ -1,5 +1,5 @@
 //! The answer to a block: bytes in, verdict and bytes out; and the lines that the program prints.
-//! Document 01, "Refusal numbers", "A level" (the new block) and "The program".
+//! Document 01, "Refusal numbers", "A level" (the new block) and "The program"; document 02, #103.
 
 use crate::block::{read, write, Formula, Refusal};
 use crate::level::simplify;
@@ -64,9 +64,22 @@ fn new_formula(variables: usize, tree: &Node<Polynomial>) -> Formula {
     Formula { variables, table, tree }
 }
 
+/// 02, #103: "Polynomials in is now the number of different non-constant normal forms that the input's tree
+/// uses." A polynomial that no atom names is none, whatever set an atom has.
+pub fn polynomials_in(formula: &Formula) -> usize {
+    let mut forms: Vec<Polynomial> = vec![];
+    formula.tree.map(&mut |&number| {
+        let (form, _) = formula.table[number].normal_form();
+        if !form.is_constant() && !forms.contains(&form) {
+            forms.push(form);
+        }
+    });
+    forms.len()
+}
+
 /// "prints one line: one of the words FORMULA, ALWAYS, UNSATISFIABLE with atoms in, atoms out, polynomials
-/// in, polynomials out (table sizes); or REFUSED and the number. Except on refusal, a second line has the
-/// new block in lower-case hex pairs, one space apart."
+/// in, polynomials out; or REFUSED and the number. Except on refusal, a second line has the new block in
+/// lower-case hex pairs, one space apart." Polynomials out are the new table's.
 pub fn report(input: &[u8]) -> String {
     // "the rest is not read"; the lent output is as long as what was read.
     let input = &input[..input.len().min(MOST_READ)];
@@ -83,7 +96,7 @@ pub fn report(input: &[u8]) -> String {
                 "{word} {} {} {} {}\n{}\n",
                 answer.original.tree.atoms(),
                 answer.simplified.tree.atoms(),
-                answer.original.table.len(),
+                polynomials_in(&answer.original),
                 answer.simplified.table.len(),
                 pairs.join(" ")
             )

@@ -1,9 +1,9 @@
 //! The claim that holds the book to this reading: blocks and their answers as a file of antt definitions.
 //! The proof checker works out the book's own answer to each block and compares.
 
-use crate::answer::{answer, Verdict};
+use crate::answer::{answer, polynomials_in, Verdict};
 use crate::cases::cases;
-use crate::{block, corpus};
+use crate::{block, corpus, uses};
 
 /// How many blocks one claim takes: the checker allows a claim only so many steps.
 const BLOCKS_IN_A_CLAIM: usize = 20;
@@ -11,7 +11,8 @@ const BLOCKS_IN_A_CLAIM: usize = 20;
 /// Longer blocks are left to the programs, which run them: the checker counts bits.
 const LONGEST: usize = 100;
 
-/// The file over the blocks of the known cases, `count` random valid blocks and half as many damaged ones.
+/// The file over the blocks of the known cases, `count` random valid blocks and half as many damaged ones, and
+/// those whose polynomials in are known.
 pub fn claims(seed: u64, count: usize) -> String {
     let mut blocks: Vec<Vec<u8>> = cases().iter().map(|case| block::write(&case.formula)).collect();
     blocks.extend(
@@ -20,6 +21,7 @@ pub fn claims(seed: u64, count: usize) -> String {
     blocks.extend(
         corpus::damaged(seed, 8 * count).into_iter().filter(|block| block.len() <= LONGEST).take(count / 2),
     );
+    blocks.extend(uses::blocks().into_iter().map(|known| known.bytes).filter(|block| block.len() <= LONGEST));
     let mut text = HEADER.to_string();
     for (number, some) in blocks.chunks(BLOCKS_IN_A_CLAIM).enumerate() {
         text += &claim(number + 1, some);
@@ -79,7 +81,7 @@ fn gives(block: &[u8]) -> String {
                 bytes(&answer.bytes),
                 answer.original.tree.atoms(),
                 answer.simplified.tree.atoms(),
-                answer.original.table.len(),
+                polynomials_in(&answer.original),
                 answer.simplified.table.len()
             )
         }

@@ -1,7 +1,7 @@
 //! The self-check: each random formula against its answer, at many points and in all its counts.
 //! Used by the command `check` and by the tests.
 
-use crate::answer::{answer, Answer, Verdict};
+use crate::answer::{answer, polynomials_in, Answer, Verdict};
 use crate::block::{read, write, Formula, Refusal};
 use crate::corpus::random_formula;
 use crate::level::{in_normal_form, tidied};
@@ -117,7 +117,8 @@ fn wrong_form(formula: &Formula, block: &[u8], answer: &Answer) -> Vec<String> {
         }
     };
     must(simplified.tree.atoms() <= formula.tree.atoms(), "more atoms");
-    must(simplified.table.len() <= formula.table.len(), "more polynomials");
+    must(simplified.table.len() <= polynomials_in(formula), "more polynomials");
+    must(simplified.table.len() == polynomials_in(simplified), "polynomials out counted otherwise");
     must(simplified.tree.nodes() <= formula.tree.nodes(), "more nodes");
     must(answer.bytes.len() <= block.len(), "more bytes");
     must(simplified.variables == formula.variables, "another n");

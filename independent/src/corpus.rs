@@ -21,6 +21,13 @@ pub fn trees(seed: u64, count: usize) -> Vec<Vec<u8>> {
     (0..count).map(|index| write(&whole_tree(&mut random, index % 4 == 0))).collect()
 }
 
+/// Formulas of which many atoms name a polynomial of the same form as another, equal, multiple or negated, or a
+/// constant, and whose tables have polynomials that no atom names.
+pub fn uses(seed: u64, count: usize) -> Vec<Vec<u8>> {
+    let mut random = Random::new(seed);
+    (0..count).map(|_| write(&uses_formula(&mut random))).collect()
+}
+
 pub fn damaged(seed: u64, count: usize) -> Vec<Vec<u8>> {
     let mut random = Random::new(seed);
     (0..count).map(|_| damaged_block(&mut random)).collect()
@@ -358,6 +365,25 @@ fn shuffle_table(random: &mut Random, formula: &mut Formula) {
     let old_numbers = shuffled(random, formula.table.len());
     formula.table = old_numbers.iter().map(|&old| formula.table[old].clone()).collect();
     formula.tree = formula.tree.map(&mut |&old| old_numbers.iter().position(|&k| k == old).unwrap_or(0));
+}
+
+fn uses_formula(random: &mut Random) -> Formula {
+    let mut formula = random_formula(random);
+    let one = Polynomial { terms: vec![Term { coefficient: 1, exponents: vec![0; formula.variables] }] };
+    let mut table = formula.table;
+    formula.tree = formula.tree.map(&mut |&number| {
+        if table.len() == 64 || random.percent(50) {
+            return number;
+        }
+        let of = if random.percent(20) { &one } else { &table[number] };
+        table.push(fitted(&times(of, random.pick(&[1, 1, 2, 6, -1, -1, -3]))));
+        table.len() - 1
+    });
+    let extra = random.below(40);
+    extend_table(random, formula.variables, &mut table, extra);
+    formula.table = table;
+    shuffle_table(random, &mut formula);
+    formula
 }
 
 // -------------------------------------------------------------------------------------- polynomials

@@ -42,6 +42,9 @@ pub mod random;
 // The fixed edge blocks
 pub mod edge;
 
+// Blocks whose polynomials in are known
+pub mod uses;
+
 // The claims that the book is held to
 pub mod book;
 

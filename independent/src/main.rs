@@ -7,12 +7,12 @@ use std::process::ExitCode;
 use independent::answer::{answer, read_report, report, MOST_READ};
 use independent::cases::cases;
 use independent::count::work_of;
-use independent::{bench, block, book, check, corpus, edge, engine, search, smt};
+use independent::{bench, block, book, check, corpus, edge, engine, search, smt, uses};
 
 const USAGE: &str =
     "usage: independent [many | read | describe | deductions | lists | count | repeat | smt | bench NAME |\n\
                     corpus KIND SEED COUNT | book SEED COUNT | check SEED COUNT]\n\
-     KIND is valid, damaged, trees, edge, long, cases, deductions, lists or candidates\n";
+     KIND is valid, damaged, trees, uses, edge, long, cases, deductions, lists or candidates\n";
 
 fn main() -> ExitCode {
     let arguments: Vec<String> = std::env::args().skip(1).collect();
@@ -95,6 +95,10 @@ fn write_corpus(kind: &str, seed: u64, count: usize) -> io::Result<ExitCode> {
         "valid" => corpus::valid(seed, count),
         "damaged" => corpus::damaged(seed, count),
         "trees" => corpus::trees(seed, count),
+        "uses" => {
+            let known = uses::blocks().into_iter().map(|known| known.bytes);
+            known.chain(corpus::uses(seed, count)).collect()
+        }
         "edge" => edge::blocks().into_iter().map(|edge| edge.bytes).collect(),
         "long" => edge::long(),
         "deductions" => engine::deductions(seed, count),

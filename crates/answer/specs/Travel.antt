@@ -1,15 +1,16 @@
 -- From the normalised tape to the new block: what is simplified over the slots of the working table is the block's simplified formula, and the new
 -- block is within the limits and no longer than the bytes that were read.
-use mathlib.Core.Path.{_≡_, ap, _∙_}
-use mathlib.Core.List.{List}
+use mathlib.Core.Path.{_≡_, sym, ap, _∙_}
+use mathlib.Core.List.{List, []}
 use Prim.Native.Nat.{ℕ, _≤_}
 use native.Mathlib.Omega.{arith}
 use lib.ListN.{length}
-use Rattle.rules.specs.Formula.{eachAtomOf}
+use Rattle.rules.specs.Polynomial.{Atom, normal}
+use Rattle.rules.specs.Formula.{Node, alone, eachAtomOf}
 use Rattle.rules.specs.Level.{simplify}
 use Rattle.rules.specs.Block.{Block, Stream, read, readBlock, blockLength}
 use Rattle.rules.specs.Limits.{BlockWithin}
-use Rattle.rules.specs.Answer.{simplified, newBlock}
+use Rattle.rules.specs.Answer.{lookedUp, formulaOf, used, withoutConstants, formsUsed, simplified, newBlock}
 use Rattle.block_laws.specs.Blocks.{block-accepted, accepted-within}
 use Rattle.length_laws.specs.NeverLonger.{never-longer}
 use Rattle.length_laws.specs.NewWithin.{new-within}
@@ -18,13 +19,20 @@ use Rattle.block.specs.Held.{heldOf}
 use Rattle.forms.specs.declared.WorkingTable.{WorkingTable}
 use Rattle.forms.specs.Working.{tableOf, Worked}
 use Rattle.used.specs.Tape.{inSlot}
-use Rattle.answer.specs.Normal.{normalTree, normal-forms}
+use Rattle.answer.specs.Normal.{tree-after, normalTree, normal-forms}
 
 module _ (given : Block) (within : BlockWithin given) (w : WorkingTable)
     (worked : Worked (heldOf given .coefficient) (heldOf given .monomial) (heldOf given .terms) (length (given .table)) (given .variables) w) where
   -- The normalised tree over the working table's slots is simplified to the block's simplified formula.
   pub slots-simplified : simplify (given .variables) (eachAtomOf (inSlot (tableOf (given .variables) w)) (normalTree given within w worked)) ≡ simplified given
   slots-simplified = ap (simplify (given .variables)) (normal-forms given within w worked) ∙ block-normal-first given within
+
+  -- And the forms that it uses are those that the block's tree uses.
+  pub slots-used : withoutConstants (used [] (alone (eachAtomOf (inSlot (tableOf (given .variables) w)) (normalTree given within w worked)))) ≡ formsUsed (formulaOf given)
+  unfolding formsUsed formulaOf
+  slots-used =
+      ap (λ (tree : Node Atom). withoutConstants (used [] (alone tree)))
+      (normal-forms given within w worked ∙ sym (tree-after normal (lookedUp (given .table)) (given .tree)))
 
 -- The new block of an accepted one can be written,
 pub new-writable : (bytes : List ℕ) {given : Block} {stream : Stream} → readBlock bytes ≡ read given stream → BlockWithin (newBlock given)

@@ -14,7 +14,7 @@ use Rattle.rules.specs.Level.{simplify}
 use Rattle.rules.specs.Block.{NumberedAtom, Block, writeBlock, blockLength}
 use Rattle.rules.specs.Limits.{PartsWithin, BlockWithin}
 use Rattle.rules.specs.Answer as book
-use Rattle.rules.specs.Answer.{used, numbered, blockOf, simplified, newBlock}
+use Rattle.rules.specs.Answer.{formulaOf, used, withoutConstants, formsUsed, numbered, blockOf, simplified, newBlock}
 use Rattle.block_laws.specs.Blocks.{accepted-within}
 use Rattle.block_laws.specs.Sizes.{length-block}
 use Rattle.block.specs.declared.Held.{Held}
@@ -33,7 +33,7 @@ use Rattle.answer.specs.declared.Answer.the-variants.{Answered}
 use Rattle.array_laws.specs.Arrays.{held-table-read}
 use Rattle.answer.specs.Normal.{normalised, normalTree, normal-holds, normal-kind, normal-within}
 use Rattle.answer.specs.Tapes.{tokenOf, plain, plainTokens, tokens-in-slots, held-as-tokens, result, result-is, result-holds, result-kind}
-use Rattle.answer.specs.Travel.{slots-simplified, new-writable, new-room}
+use Rattle.answer.specs.Travel.{slots-simplified, slots-used, new-writable, new-room}
 use Rattle.answer.specs.Answered.{verdictFrom, verdictOf, countsOf, answerOf, answer-accepted, answer-written, new-verdict, atoms-same}
 use Rattle.answer.specs.Writing.{writable}
 use Rattle.answer.specs.Entry.{Accepted, Answers}
@@ -48,6 +48,7 @@ pub record Prepared (given : Block) (held : Held) (w : WorkingTable) (token : Li
   pub within : PartsWithin 6 64 0 (alone tree)
   pub simplifies : simplify (held .variables) (eachAtomOf (inSlot (tableOf (held .variables) w)) tree) ≡ simplified given
   pub counted : atoms (alone tree) ≡ atoms (alone (given .tree))
+  pub uses : withoutConstants (used [] (alone (eachAtomOf (inSlot (tableOf (held .variables) w)) tree))) ≡ formsUsed (formulaOf given)
 
 module _ {bytes : List ℕ} {held : Held} {room : ℕ} (accepted : Accepted bytes held room) where
   within : BlockWithin (accepted .given)
@@ -90,6 +91,7 @@ module _ {bytes : List ℕ} {held : Held} {room : ℕ} (accepted : Accepted byte
     within = normal-within (accepted .given) within w worked;
     simplifies = slots-simplified (accepted .given) within w worked;
     counted = atoms-same (normalised (w .number) (w .turned)) (accepted .given .tree);
+    uses = slots-used (accepted .given) within w worked;
   }
 
   -- The tape brought to normal form is prepared.
@@ -180,31 +182,32 @@ module _ {bytes : List ℕ} (before : List ℕ) {held : Held} (accepted : Accept
       ∙ sym (atoms-same (numbered (used [] (alone (simplified (accepted .given))))) (simplified (accepted .given)))
 
   -- So what is returned and written is the book's answer.
-  pub answers : (new : Held) → new ≡ newHeld → (after : List ℕ) (atoms-in atoms-out size : ℕ) (verdict : Verdict)
+  pub answers : (new : Held) → new ≡ newHeld → (after : List ℕ) (atoms-in atoms-out polynomials-in size : ℕ) (verdict : Verdict)
       → size ≡ blockLength (newBlock (accepted .given)) → after ≡ sets before 0 (writeBlock (newBlock (accepted .given)))
-      → atoms-in ≡ atoms (alone (prepared .tree)) → atoms-out ≡ atoms (alone (simplerTree prepared r simpler)) → verdict ≡ verdictFrom (new .root) (new .tokens)
+      → atoms-in ≡ atoms (alone (prepared .tree)) → atoms-out ≡ atoms (alone (simplerTree prepared r simpler))
+      → polynomials-in ≡ length (withoutConstants (used [] (alone (eachAtomOf (inSlot (tableOf (held .variables) w)) (prepared .tree))))) → verdict ≡ verdictFrom (new .root) (new .tokens)
       → Answers bytes before after (Answered verdict size (record {
         «atoms_in» = atoms-in;
         «atoms_out» = atoms-out;
-        «polynomials_in» = held .polynomials;
+        «polynomials_in» = polynomials-in;
         «polynomials_out» = new .polynomials;
       }))
   unfolding answerOf countsOf book.countsOf heldOf
-  answers new new-is after atoms-in atoms-out size verdict size-is after-is in-is out-is verdict-is =
+  answers new new-is after atoms-in atoms-out polynomials-in size verdict size-is after-is in-is out-is uses-is verdict-is =
       let given = accepted .given in
       let told : verdict ≡ verdictOf (book.verdictOf (simplified given))
       = verdict-is ∙ ap (λ (h : Held). verdictFrom (h .root) (h .tokens)) new-is ∙ sym (new-verdict given) in
       let long : size ≡ length (writeBlock (newBlock given)) = size-is ∙ sym (length-block (newBlock given)) in
       let before-in : atoms-in ≡ atoms (alone (given .tree)) = in-is ∙ prepared .counted in
       let before-out : atoms-out ≡ atoms (alone (newBlock given .tree)) = out-is ∙ new-atoms in
-      let table-in : held .polynomials ≡ length (given .table) = ap (λ (h : Held). h .polynomials) (accepted .is) in
+      let forms-in : polynomials-in ≡ length (formsUsed (formulaOf given)) = uses-is ∙ ap length (prepared .uses) in
       let table-out : new .polynomials ≡ length (newBlock given .table) = ap (λ (h : Held). h .polynomials) new-is in
       let fits : length (writeBlock (newBlock given)) ≤ length before
       = omega (arith, new-room bytes (accepted .accepted), accepted .enough, length-block (newBlock given)) in
       let stored : sets before 0 (writeBlock (newBlock given)) ≡ writeBlock (newBlock given) ++ drop (length (writeBlock (newBlock given))) before
       = rw (zero-add (length (writeBlock (newBlock given)))) at (sets-eq (writeBlock (newBlock given)) before 0 (omega arith)) in
       record {
-        returns = rw (answer-accepted (length before) bytes (accepted .enough) (accepted .accepted), told, long, before-in, before-out, table-in, table-out);
+        returns = rw (answer-accepted (length before) bytes (accepted .enough) (accepted .accepted), told, long, before-in, before-out, forms-in, table-out);
         output = after-is ∙ stored ∙ ap (λ (k : ℕ). writeBlock (newBlock given) ++ drop k before) (length-block (newBlock given))
             ∙ sym (answer-written (length before) bytes (accepted .enough) (accepted .accepted) before);
       }

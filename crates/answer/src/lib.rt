@@ -12,6 +12,7 @@ use forms::normal_tokens;
 use forms::work;
 use used::atoms;
 use used::collect;
+use used::forms_used;
 use writer::write;
 
 // "one of the words FORMULA, ALWAYS, UNSATISFIABLE"
@@ -21,7 +22,8 @@ pub enum Verdict {
     Unsatisfiable,
 }
 
-// "atoms in, atoms out, polynomials in, polynomials out (table sizes)"
+// "atoms in, atoms out, polynomials in, polynomials out": polynomials in are the different non-constant normal forms that the given tree uses,
+// polynomials out the new table's.
 pub struct Counts {
     pub atoms_in: usize,
     pub atoms_out: usize,
@@ -106,6 +108,7 @@ pub fn answer_to(
     );
     normal_tokens(token, count, &number, &turned);
     let atoms_in = atoms(token, count);
+    let polynomials_in = forms_used(&form_monomial, &form_terms, token, count);
     let tree = level::simplified(
         &form_coefficient,
         &form_monomial,
@@ -136,7 +139,7 @@ pub fn answer_to(
     let counts = Counts {
         atoms_in: atoms_in,
         atoms_out: atoms_out,
-        polynomials_in: polynomials,
+        polynomials_in: polynomials_in,
         polynomials_out: new_polynomials,
     };
     let length = write(

@@ -19,6 +19,8 @@ use Rattle.block_laws.specs.Sizes.{length-block}
 use Rattle.level_laws.specs.Rules.{verdict-always, verdict-unsatisfiable}
 use Rattle.level_laws.specs.Written.{newBlock-keeps}
 use Rattle.length_laws.specs.NeverLonger.{never-longer}
+use Rattle.length_laws.specs.NewTable as table
+use Rattle.length_laws.specs.NewTable.{TableUsed}
 use Rattle.length_laws.specs.NewWithin.{new-within}
 use Rattle.laws.specs.Fractions.{respected-over, whole-holds}
 
@@ -44,6 +46,11 @@ module _ (bytes : List ℕ) {given : Block} {stream : Stream} (accepted : readBl
   never-longer-of =
       let shorter = never-longer given (accepted-within bytes accepted) in
       (shorter .atoms, shorter .polynomials, omega (arith, length-block (newBlock given), shorter .bytes, block-accepted bytes accepted .long))
+
+  -- The answer's table is all used, each form once, none a constant: polynomials out are the forms that the new tree uses, as polynomials in are those
+  -- that the given tree uses.
+  pub new-table-used : TableUsed (newBlock given)
+  new-table-used = table.new-table-used given (accepted-within bytes accepted)
 
 -- ---- The answer to any byte string, however much output is lent: a refusal, or that to an accepted block.
 

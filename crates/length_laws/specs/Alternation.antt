@@ -3,7 +3,7 @@
 use mathlib.Core.List.{List}
 use Prim.Native.Nat.{ℕ, suc}
 use Rattle.rules.specs.Polynomial.{Atom}
-use Rattle.rules.specs.Formula.{end, atom, and, or, Node, leaf, allOf, anyOf, alone, open-formula}
+use Rattle.rules.specs.Formula.{end, atom, and, or, Node, leaf, allOf, anyOf, alone, eachAtom, open-formula}
 use Rattle.rules.specs.Level.{Formula, complemented, dual, dualNode, atomsOf, orsOf, orParts, parts}
 use Rattle.sign_laws.specs.Lists.{Every, every-none, every}
 
@@ -37,6 +37,24 @@ module _ {P : Atom → Type 0} where
   alternates-wider h (an-atom {a = a} k rest) = an-atom (h a k) (alternates-wider h rest)
   alternates-wider h (an-and kids rest) = an-and (alternates-wider h kids) (alternates-wider h rest)
   alternates-wider h (an-or kids rest) = an-or (alternates-wider h kids) (alternates-wider h rest)
+
+  -- Other atoms at the same places alternate.
+  pub alternates-each : {Q : Atom → Type 0} (g : Atom → Atom) → ((a : Atom) → P a → Q (g a)) → {join : Join} {d : ℕ} {f : Formula} → Alternates P join d f
+      → Alternates Q join d (eachAtom g f)
+  unfolding eachAtom
+  alternates-each g h no-parts = no-parts
+  alternates-each g h (an-atom {a = a} k rest) = an-atom (h a k) (alternates-each g h rest)
+  alternates-each g h (an-and kids rest) = an-and (alternates-each g h kids) (alternates-each g h rest)
+  alternates-each g h (an-or kids rest) = an-or (alternates-each g h kids) (alternates-each g h rest)
+
+  -- And what is known of them may be used for the atoms.
+  pub alternates-beside : {Q R : Atom → Type 0} (g : Atom → Atom) → ((a : Atom) → P a → Q (g a) → R a) → {join : Join} {d : ℕ} {f : Formula}
+      → Alternates P join d f → Alternates Q join d (eachAtom g f) → Alternates R join d f
+  unfolding eachAtom
+  alternates-beside g h no-parts no-parts = no-parts
+  alternates-beside g h (an-atom {a = a} k rest) (an-atom l others) = an-atom (h a k l) (alternates-beside g h rest others)
+  alternates-beside g h (an-and kids rest) (an-and ones others) = an-and (alternates-beside g h kids ones) (alternates-beside g h rest others)
+  alternates-beside g h (an-or kids rest) (an-or ones others) = an-or (alternates-beside g h kids ones) (alternates-beside g h rest others)
 
   -- After complement and exchange the parts alternate as those of the other kind.
   pub alternates-dual : ((a : Atom) → P a → P (complemented a)) → {join : Join} {d : ℕ} {f : Formula} → Alternates P join d f → Alternates P (other join) d (dual f)

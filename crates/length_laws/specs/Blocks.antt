@@ -1,8 +1,8 @@
 -- From the limits of a block to its formula, and back: a tree within the limits is one whose atoms are as given and whose ANDs and ORs alternate;
 -- such a formula, its atoms numbered by a table that lists them all, is again a tree within the limits.
-use mathlib.Core.Path.{_≡_, refl, sym, ap, _∙_, subst}
+use mathlib.Core.Path.{_≡_, refl, sym, subst}
 use mathlib.Core.List.{List, [], map}
-use mathlib.Core.List.{List·Memᴰ as Member, Memᴰ·map as member-mapped, Memᴰ·of-map as member-of-map}
+use mathlib.Core.List.{Memᴰ·map as member-mapped}
 use Prim.Native.Nat.{ℕ, zero, suc, _-_, _<_}
 use native.Mathlib.Omega.{arith}
 use lib.ListN.{length}
@@ -13,7 +13,7 @@ use Rattle.rules.specs.Block.{NumberedAtom}
 use Rattle.rules.specs.Limits.{PartsWithin}
 use Rattle.rules.specs.Answer.{lookedUp, numbered}
 use Rattle.sign_laws.specs.Lists.{loaded-member}
-use Rattle.normal_laws.specs.Shape.{normalForm, normalForm-twice}
+use Rattle.normal_laws.specs.Shape.{normalForm}
 use Rattle.length_laws.specs.Alternation.{Join, AND, OR, other, Alternates, no-parts, an-atom, an-and, an-or, TreeAlternates, one-atom, one-and, one-or}
 use Rattle.length_laws.specs.Formed.{Given, Formed}
 use Rattle.length_laws.specs.Table.{Listed, number-within}
@@ -21,10 +21,6 @@ use Rattle.length_laws.specs.Table.{Listed, number-within}
 -- The normal forms of a table's polynomials.
 abbrev pub formsOf : List Polynomial → List Polynomial
 formsOf table = map normalForm table
-
--- Each of them is its own normal form.
-pub own-form : (table : List Polynomial) (p : Polynomial) → Member p (formsOf table) → normalForm p ≡ p
-own-form table p m = let (q, k, e) = member-of-map normalForm table m in ap normalForm (sym e) ∙ normalForm-twice q ∙ e
 
 -- A parent's kind, as the limits give it.
 abbrev pub kindOf : Join → ℕ
@@ -38,7 +34,7 @@ one-less d = omega arith
 
 looked-given : (table : List Polynomial) (a : NumberedAtom) → a .number < length table → a .set < 8 → Given (formsOf table) (lookedUp table a)
 unfolding lookedUp
-looked-given table a h k = record { small = record { bits = k }; form = member-mapped normalForm (loaded-member table (a .number) [] h) }
+looked-given table a h k = record { small = record { bits = k }; form = λ e. member-mapped normalForm (loaded-member table (a .number) [] h) }
 
 parts-given : (table : List Polynomial) (join : Join) (d : ℕ) (f : Parts NumberedAtom) → PartsWithin d (length table) (kindOf join) f
     → Alternates (Given (formsOf table)) join d (eachAtom (lookedUp table) f)

@@ -1,12 +1,13 @@
 -- What is said of the atoms of a block, and of the atoms that the level rules make of them: sets of three bits, and polynomials whose normal forms
--- are, or that are themselves, among given forms.
+-- are, unless constant, or that are themselves, among given forms.
 use mathlib.Core.List.{List}
 use mathlib.Core.List.{List·Memᴰ as Member, Memᴰ·cast as member-same}
-use mathlib.Core.Path.{_≡_}
+use mathlib.Core.Option.{none}
+use mathlib.Core.Path.{_≡_, sym, ap, _∙_}
 use Prim.Native.Nat.{_<_}
 use lib.Dec.{lit<}
 use Rattle.rules.specs.Signs.{SignSet, full, complement, intersect}
-use Rattle.rules.specs.Polynomial.{Polynomial, Atom, normal}
+use Rattle.rules.specs.Polynomial.{Polynomial, Atom, normal, constant}
 use Rattle.rules.specs.Level.{complemented}
 use Rattle.sign_laws.specs.Sets.{intersect-below, complement-below}
 use Rattle.normal_laws.specs.Shape.{normalForm, normal-small, normal-alike}
@@ -15,10 +16,10 @@ use Rattle.normal_laws.specs.Shape.{normalForm, normal-small, normal-alike}
 pub record Small (s : SignSet) : Type 0 where
   pub bits : s < 8
 
--- An atom as a block gives it: its polynomial's normal form is one of the forms.
+-- An atom as a block gives it: its polynomial's normal form is one of the forms, unless it is a constant.
 pub record Given (forms : List Polynomial) (a : Atom) : Type 0 where
   pub small : Small (a .set)
-  pub form : Member (normalForm (a .polynomial)) forms
+  pub form : constant (normalForm (a .polynomial)) ≡ none → Member (normalForm (a .polynomial)) forms
 
 -- An atom in normal form: its polynomial is one of the forms.
 pub record Formed (forms : List Polynomial) (a : Atom) : Type 0 where
@@ -45,9 +46,12 @@ module _ {forms : List Polynomial} where
   pub formed-with : {a : Atom} (s : SignSet) → Small s → Formed forms a → Formed forms (record { polynomial = a .polynomial; set = s })
   formed-with s h k = record { small = h; form = k .form }
 
-  -- The normal form of an atom that a block gives is formed.
-  pub formed-normal : (a : Atom) → Given forms a → Formed forms (normal a)
-  formed-normal a h = record { small = record { bits = normal-small a (h .small .bits) }; form = member-same (normal-alike a) (h .form) }
+  -- The normal form of an atom that a block gives is formed, unless it is a constant.
+  pub formed-normal : (a : Atom) → constant (normal a .polynomial) ≡ none → Given forms a → Formed forms (normal a)
+  formed-normal a e h = record {
+    small = record { bits = normal-small a (h .small .bits) };
+    form = member-same (normal-alike a) (h .form (ap constant (sym (normal-alike a)) ∙ e));
+  }
 
   -- The complement of an atom is as a block might give it, if the atom is.
   pub given-complemented : (a : Atom) → Given forms a → Given forms (complemented a)
@@ -61,4 +65,4 @@ module _ {forms : List Polynomial} where
 
   -- The forms being normal forms, an atom in normal form is also as a block might give it.
   pub formed-given : ((p : Polynomial) → Member p forms → normalForm p ≡ p) → (a : Atom) → Formed forms a → Given forms a
-  formed-given own a h = record { small = h .small; form = member-same (own (a .polynomial) (h .form)) (h .form) }
+  formed-given own a h = record { small = h .small; form = λ e. member-same (own (a .polynomial) (h .form)) (h .form) }

@@ -1,6 +1,6 @@
 -- 01, "A level": what the rules make of the parts of an AND whose atoms are as a block gives them. Their atoms are formed, AND and OR alternate, and
 -- the nesting is no deeper. Only "false", an OR with no parts, may stand one deeper: the parent drops it, and at the root there is room for it.
-use mathlib.Core.Path.{_≡_}
+use mathlib.Core.Path.{_≡_, refl}
 use mathlib.Core.Bool.{Bool, true, false}
 use mathlib.Core.List.{List, _++_}
 use mathlib.Core.List.{List·Memᴰ as Member}
@@ -137,17 +137,17 @@ module _ {forms : List Polynomial} where
   mergeConstant-formed true {l} more h k = k l h
   mergeConstant-formed false more h k = is-broken
 
-  mergeNormal-formed : (o : Option ℤ) {a : Atom} {l : List Atom} (more : List Atom → Tidied) → Formed forms a → Every (Formed forms) l
+  mergeNormal-formed : (o : Option ℤ) {a : Atom} {l : List Atom} (more : List Atom → Tidied) → (o ≡ none → Formed forms a) → Every (Formed forms) l
       → ((m : List Atom) → Every (Formed forms) m → TidiedFormed forms (more m)) → TidiedFormed forms (mergeNormal o a l more)
   unfolding mergeNormal
-  mergeNormal-formed none {a} {l} more g h k = k (mergeInto a l) (mergeInto-formed g h)
+  mergeNormal-formed none {a} {l} more g h k = k (mergeInto a l) (mergeInto-formed (g refl) h)
   mergeNormal-formed (some c) {a} more g h k = mergeConstant-formed (has (signOf c) (a .set)) more h k
 
   merge-formed : {l later : List Atom} → Every (Formed forms) l → Every (Given forms) later → TidiedFormed forms (merge l later)
   unfolding merge
   merge-formed h every-none = is-tidied h
   merge-formed h (every {a} {l = later} k ks) =
-      mergeNormal-formed (constant (normal a .polynomial)) (λ (m : List Atom). merge m later) (formed-normal a k) h (λ m hs. merge-formed hs ks)
+      mergeNormal-formed (constant (normal a .polynomial)) (λ (m : List Atom). merge m later) (λ e. formed-normal a e k) h (λ m hs. merge-formed hs ks)
 
   keptIf-formed : (b c : Bool) {a : Atom} {t : Tidied} → Formed forms a → TidiedFormed forms t → TidiedFormed forms (keptIf b c a t)
   unfolding keptIf

@@ -7,5 +7,7 @@ pub mod LevelKeeps
 pub mod Pigeonhole
 pub mod Table
 pub mod Blocks
+pub mod FormsUsed
 pub mod NeverLonger
+pub mod NewTable
 pub mod NewWithin

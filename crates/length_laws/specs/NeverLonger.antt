@@ -1,5 +1,5 @@
--- Law never-longer: atoms, nodes, polynomials and bytes of the new block are at most the given block's.
--- Atoms and nodes for every block; the table, and with it the bytes, for a block within the limits.
+-- Law never-longer: atoms, nodes, polynomials and bytes of the new block are at most the given block's, its polynomials counted as the forms that its
+-- tree uses. Atoms and nodes for every block; the table, and with it the bytes, for a block within the limits.
 use mathlib.Core.Path.{_≡_, refl, ap, ap₂}
 use mathlib.Core.List.{List, [], _∷_, map}
 use mathlib.Core.List.{List·Memᴰ as Member}
@@ -11,18 +11,19 @@ use Rattle.rules.specs.Polynomial.{Polynomial}
 use Rattle.rules.specs.Formula.{alone, nodes, atoms}
 use Rattle.rules.specs.Block.{Block, blockLength}
 use Rattle.rules.specs.Limits.{BlockWithin}
-use Rattle.rules.specs.Answer.{lookedUp, formulaOf, used, numbered, blockOf, simplified, newBlock}
+use Rattle.rules.specs.Answer.{lookedUp, formulaOf, used, numbered, blockOf, formsUsed, simplified, newBlock}
 use Rattle.sign_laws.specs.Lists.{Every, every-none}
 use Rattle.block_laws.specs.Sizes.{termCount, no-longer}
 use Rattle.normal_laws.specs.Shape.{normalForm, normalForm-length}
 use Rattle.length_laws.specs.Weight.{weight, weight-nodes, weight-atoms, weight-each-of}
 use Rattle.length_laws.specs.Shorter.{simplify-lighter}
 use Rattle.length_laws.specs.Alternation.{TreeAlternates, tree-alone}
-use Rattle.length_laws.specs.Formed.{Formed}
+use Rattle.length_laws.specs.Formed.{Given, Formed}
 use Rattle.length_laws.specs.LevelKeeps.{simplify-keeps}
-use Rattle.length_laws.specs.Pigeonhole.{Distinct, none-distinct, total, pigeonhole}
+use Rattle.length_laws.specs.Pigeonhole.{every-member, Distinct, none-distinct, total, pigeonhole}
 use Rattle.length_laws.specs.Table.{used-distinct, used-every}
-use Rattle.length_laws.specs.Blocks.{formsOf, own-form, tree-given}
+use Rattle.length_laws.specs.Blocks.{formsOf, tree-given}
+use Rattle.length_laws.specs.FormsUsed.{forms-once, forms-own, forms-among, tree-uses}
 
 -- ---- Atoms and nodes.
 
@@ -58,18 +59,31 @@ new-nodes given =
 
 -- ---- The table.
 
--- The simplified formula of a block within the limits: atoms in normal forms of the table, AND and OR alternating.
-pub simplified-formed : (given : Block) → BlockWithin given → TreeAlternates (Formed (formsOf (given .table))) 5 (simplified given)
-unfolding simplified formulaOf
-simplified-formed given h = simplify-keeps (own-form (given .table)) (given .variables) (tree-given (given .table) (given .tree) (h .tree))
+-- The formula of a block within the limits: atoms in polynomials of the table, AND and OR alternating.
+formula-given : (given : Block) → BlockWithin given → TreeAlternates (Given (formsOf (given .table))) 5 (formulaOf given)
+unfolding formulaOf
+formula-given given h = tree-given (given .table) (given .tree) (h .tree)
+
+-- The forms that its tree uses are their own normal forms,
+pub used-own : (given : Block) → BlockWithin given → (p : Polynomial) → Member p (formsUsed (formulaOf given)) → normalForm p ≡ p
+used-own given h p m = every-member (forms-own (formula-given given h)) m
+
+-- and they are normal forms of the table's polynomials.
+pub used-of-table : (given : Block) → BlockWithin given → Every (λ (p : Polynomial). Member p (formsOf (given .table))) (formsUsed (formulaOf given))
+used-of-table given h = forms-among (formula-given given h)
+
+-- The simplified formula: atoms in forms that the block's tree uses, AND and OR alternating.
+pub simplified-formed : (given : Block) → BlockWithin given → TreeAlternates (Formed (formsUsed (formulaOf given))) 5 (simplified given)
+unfolding simplified
+simplified-formed given h = simplify-keeps (used-own given h) (given .variables) (tree-uses (formula-given given h))
 
 -- The new table repeats nothing.
 pub new-distinct : (given : Block) → Distinct (newBlock given .table)
 unfolding newBlock blockOf
 new-distinct given = used-distinct (alone (simplified given)) none-distinct
 
--- And holds only normal forms of the given table's polynomials.
-pub new-forms : (given : Block) → BlockWithin given → Every (λ (p : Polynomial). Member p (formsOf (given .table))) (newBlock given .table)
+-- And holds only forms that the given tree uses.
+pub new-forms : (given : Block) → BlockWithin given → Every (λ (p : Polynomial). Member p (formsUsed (formulaOf given))) (newBlock given .table)
 unfolding newBlock blockOf
 new-forms given h = tree-alone (simplified-formed given h) (λ join k. used-every (λ a formed. formed .form) k every-none)
 
@@ -78,21 +92,35 @@ unfolding total
 total-mapped w f h [] = refl
 total-mapped w f h (p ∷ ps) = ap₂ (λ (j k : ℕ). j + k) (h p) (total-mapped w f h ps)
 
--- By any weight that goes by the number of terms, the new table weighs no more than the given one.
-pub table-never-heavier : (w : ℕ → ℕ) (given : Block) → BlockWithin given
-    → total (λ (p : Polynomial). w (length p)) (newBlock given .table) ≤ total (λ (p : Polynomial). w (length p)) (given .table)
-table-never-heavier w given h =
+-- By any weight the new table weighs no more than the forms that the given tree uses,
+pub table-never-heavier : (w : Polynomial → ℕ) (given : Block) → BlockWithin given → total w (newBlock given .table) ≤ total w (formsUsed (formulaOf given))
+table-never-heavier w given h = pigeonhole w (new-distinct given) (new-forms given h)
+
+-- and by one that goes by the number of terms these weigh no more than the given table.
+pub used-never-heavier : (w : ℕ → ℕ) (given : Block) → BlockWithin given
+    → total (λ (p : Polynomial). w (length p)) (formsUsed (formulaOf given)) ≤ total (λ (p : Polynomial). w (length p)) (given .table)
+used-never-heavier w given h =
     let byTerms : Polynomial → ℕ = λ (p : Polynomial). w (length p) in
-    omega (arith, pigeonhole byTerms (new-distinct given) (new-forms given h), total-mapped byTerms normalForm (λ p. ap w (normalForm-length p)) (given .table))
+    omega (
+      arith,
+      pigeonhole byTerms (forms-once (formulaOf given)) (used-of-table given h),
+      total-mapped byTerms normalForm (λ p. ap w (normalForm-length p)) (given .table),
+    )
 
 total-count : (l : List Polynomial) → total (λ (p : Polynomial). 1) l ≡ length l
 unfolding total
 total-count [] = refl
 total-count (p ∷ ps) = omega (arith, total-count ps)
 
--- The new block has no more polynomials.
-pub polynomials-never-more : (given : Block) → BlockWithin given → length (newBlock given .table) ≤ length (given .table)
-polynomials-never-more given h = omega (arith, table-never-heavier (λ terms. 1) given h, total-count (newBlock given .table), total-count (given .table))
+-- The new block has no more polynomials than the given tree uses forms,
+pub polynomials-never-more : (given : Block) → BlockWithin given → length (newBlock given .table) ≤ length (formsUsed (formulaOf given))
+polynomials-never-more given h =
+    omega (arith, table-never-heavier (λ p. 1) given h, total-count (newBlock given .table), total-count (formsUsed (formulaOf given)))
+
+-- which are no more than the given table has.
+pub used-never-more : (given : Block) → BlockWithin given → length (formsUsed (formulaOf given)) ≤ length (given .table)
+used-never-more given h =
+    omega (arith, used-never-heavier (λ terms. 1) given h, total-count (formsUsed (formulaOf given)), total-count (given .table))
 
 -- ---- Bytes.
 
@@ -108,20 +136,22 @@ total-terms (p ∷ ps) = ap (λ (k : ℕ). length p + k) (total-terms ps)
 
 -- The new block has no more terms.
 pub terms-never-more : (given : Block) → BlockWithin given → termCount (newBlock given .table) ≤ termCount (given .table)
-terms-never-more given h = omega (arith, table-never-heavier (λ terms. terms) given h, total-terms (newBlock given .table), total-terms (given .table))
+terms-never-more given h =
+    omega (arith, table-never-heavier length given h, used-never-heavier (λ terms. terms) given h, total-terms (newBlock given .table), total-terms (given .table))
 
 -- The new block has no more bytes.
 pub bytes-never-more : (given : Block) → BlockWithin given → blockLength (newBlock given) ≤ blockLength given
 bytes-never-more given h =
-    no-longer (newBlock given) given (new-variables given) (polynomials-never-more given h) (terms-never-more given h) (new-nodes given) (new-atoms given)
+    no-longer (newBlock given) given (new-variables given) (omega (arith, polynomials-never-more given h, used-never-more given h)) (terms-never-more given h)
+    (new-nodes given) (new-atoms given)
 
 -- ---- The law.
 
--- The four counts of one block are at most those of another.
+-- The atoms, nodes, polynomials and bytes of one block are at most another's, whose polynomials are the forms that its tree uses.
 pub record NoLonger (new given : Block) : Type 0 where
   pub atoms : atoms (alone (new .tree)) ≤ atoms (alone (given .tree))
   pub nodes : nodes (alone (new .tree)) ≤ nodes (alone (given .tree))
-  pub polynomials : length (new .table) ≤ length (given .table)
+  pub polynomials : length (new .table) ≤ length (formsUsed (formulaOf given))
   pub bytes : blockLength new ≤ blockLength given
 
 -- The new block is in no count longer than the given one.

@@ -1,5 +1,5 @@
 -- Law new-within: the new block of a block within the limits is within the limits, so it can be written, and read again.
--- Its polynomials are normal forms of the given table, its tree is the simplified formula with the polynomials' numbers.
+-- Its polynomials are normal forms of the given table's, its tree is the simplified formula with the polynomials' numbers.
 use mathlib.Core.Path.{_≡_, sym, subst}
 use mathlib.Core.List.{List, []}
 use mathlib.Core.List.{List·Memᴰ as Member, List·Memᴰ·head as here, List·Memᴰ·tail as later}
@@ -11,13 +11,14 @@ use Rattle.rules.specs.Formula.{alone}
 use Rattle.rules.specs.Block.{Block}
 use Rattle.rules.specs.Limits.{PolynomialWithin, TableWithin, no-polynomials, polynomials, PartsWithin, BlockWithin}
 use Rattle.rules.specs.Answer.{used, numbered, blockOf, simplified, newBlock}
-use Rattle.sign_laws.specs.Lists.{Every, every-none, every}
+use Rattle.sign_laws.specs.Lists.{Every, every-none, every, every-wider}
 use Rattle.ending_laws.specs.Nestings.{alone-each}
 use Rattle.normal_laws.specs.Shape.{normalForm-within}
 use Rattle.length_laws.specs.Alternation.{Join, AND, OR, other, tree-alone}
+use Rattle.length_laws.specs.Pigeonhole.{every-member}
 use Rattle.length_laws.specs.Table.{used-all}
 use Rattle.length_laws.specs.Blocks.{formsOf, kindOf, parts-numbered}
-use Rattle.length_laws.specs.NeverLonger.{simplified-formed, new-forms, polynomials-never-more, new-nodes}
+use Rattle.length_laws.specs.NeverLonger.{simplified-formed, used-of-table, used-never-more, new-forms, polynomials-never-more, new-nodes}
 
 -- ---- The table.
 
@@ -50,8 +51,8 @@ unfolding newBlock blockOf
 new-within given h = record {
   some-variables = h .some-variables;
   variables = h .variables;
-  polynomials = omega (arith, polynomials-never-more given h, h .polynomials);
+  polynomials = omega (arith, polynomials-never-more given h, used-never-more given h, h .polynomials);
   nodes = omega (arith, new-nodes given, h .nodes);
-  table = table-within (h .table) (new-forms given h);
+  table = table-within (h .table) (every-wider (λ p m. every-member (used-of-table given h) m) (new-forms given h));
   tree = tree-within given h;
 }

@@ -1,6 +1,6 @@
--- Lists without repeats, and the pigeonhole law with weights:
+-- Members of lists, lists without repeats, and the pigeonhole law with weights:
 -- what has no repeats and stands among other things weighs no more than these.
-use mathlib.Core.Path.{_≡_, sym, ap, _∙_}
+use mathlib.Core.Path.{_≡_, sym, ap, _∙_, subst}
 use mathlib.Core.List.{List, [], _∷_, _++_}
 use mathlib.Core.List.{List·Memᴰ as Member, List·Memᴰ·head as here, List·Memᴰ·tail as later}
 use mathlib.Core.List.{List·Memᴰ·append-cases as append-cases, List·Memᴰ·eq-of-singleton as only-member}
@@ -13,6 +13,11 @@ use Rattle.sign_laws.specs.Lists.{Every, every-none, every}
 pub data Distinct {A : Type 0} : List A → Type 0 where
   none-distinct : Distinct []
   distinct : {a : A} {l : List A} → (Member a l → ⊥) → Distinct l → Distinct (a ∷ l)
+
+-- What every element has, a member has.
+pub every-member : {A : Type 0} {P : A → Type 0} {l : List A} {a : A} → Every P l → Member a l → P a
+every-member {P = P} (every h hs) (here e) = subst P (sym e) h
+every-member (every h hs) (later m) = every-member hs m
 
 -- The sum of the weights of a list's members.
 unfoldable pub total : {A : Type 0} → (A → ℕ) → List A → ℕ

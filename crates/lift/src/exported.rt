@@ -75,7 +75,8 @@ pub extern "C" fn placardpan_simplified(input: &[u8], output: &mut [u8]) -> usiz
     length_in(simplify(input, output))
 }
 
-// `simplify` with the counts, each through a number of the caller's.
+// `simplify` with the counts, each through a number of the caller's: atoms in and out; polynomials in, the different non-constant normal forms that
+// the given tree uses; polynomials out, those of the new table.
 #[no_mangle]
 pub extern "C" fn placardpan_counted(
     input: &[u8],

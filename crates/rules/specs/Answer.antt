@@ -2,10 +2,12 @@
 -- bytes and the four counts; and what the lent output holds then.
 use mathlib.Core.Bool.{Bool, true, false, _||_}
 use mathlib.Core.List.{List, [], _∷_, _++_}
+use mathlib.Core.Option.{Option, none, some}
 use Prim.Native.Nat.{ℕ, suc}
 use lib.Dec.{leb}
+use lib.IntN.{ℤ}
 use lib.ListN.{length, getD, drop}
-use Rattle.rules.specs.Polynomial.{Polynomial, Atom, same}
+use Rattle.rules.specs.Polynomial.{Polynomial, Atom, normal, constant, same}
 use Rattle.rules.specs.Formula.{end, atom, and, or, Node, leaf, allOf, anyOf, isEnd, eachAtomOf, atoms, alone}
 use Rattle.rules.specs.Level.{Formula, simplify}
 use Rattle.rules.specs.Block.{NumberedAtom, Block, Reading, refused, read, readBlock, writeBlock}
@@ -59,7 +61,21 @@ verdictOf (leaf a) = formula
 verdictOf (allOf kids) = ifEnd (isEnd kids) always
 verdictOf (anyOf kids) = ifEnd (isEnd kids) unsatisfiable
 
--- "atoms in, atoms out, polynomials in, polynomials out (table sizes)"
+-- 02, #103: "the number of different non-constant normal forms that the input's tree uses". A constant is none,
+unfoldable pub unlessConstant : Option ℤ → Polynomial → List Polynomial → List Polynomial
+unlessConstant none p forms = p ∷ forms
+unlessConstant (some c) p forms = forms
+
+unfoldable pub withoutConstants : List Polynomial → List Polynomial
+withoutConstants [] = []
+withoutConstants (p ∷ forms) = unlessConstant (constant p) p (withoutConstants forms)
+
+-- and each normal form of a polynomial that some atom names, whatever the atom's set, is one.
+unfoldable pub formsUsed : Node Atom → List Polynomial
+formsUsed tree = withoutConstants (used [] (alone (eachAtomOf normal tree)))
+
+-- "atoms in, atoms out, polynomials in, polynomials out": polynomials in are the forms that the given tree uses, polynomials out the new table's,
+-- which are those that the new tree uses (the law `new-table-used` in crate laws).
 pub record Counts : Type 0 where
   pub atoms-in : ℕ
   pub atoms-out : ℕ
@@ -70,7 +86,7 @@ unfoldable pub countsOf : Block → Block → Counts
 countsOf given new = record {
   atoms-in = atoms (alone (given .tree));
   atoms-out = atoms (alone (new .tree));
-  polynomials-in = length (given .table);
+  polynomials-in = length (formsUsed (formulaOf given));
   polynomials-out = length (new .table);
 }
 
@@ -116,5 +132,5 @@ answer room bytes = unlessShort (leb (length bytes) room) (answerTo (readBlock b
 
 -- To unfold this is to unfold every definition of this file.
 unfoldable pub open-answer : Unit {0}
-unfolding lookedUp formulaOf knows addedUnless used hereOr numberIn numbered blockOf ifEnd verdictOf countsOf written filledPart isRefusal simplified newBlock answerTo unlessShort answer
+unfolding lookedUp formulaOf knows addedUnless used hereOr numberIn numbered blockOf ifEnd verdictOf unlessConstant withoutConstants formsUsed countsOf written filledPart isRefusal simplified newBlock answerTo unlessShort answer
 open-answer = tt

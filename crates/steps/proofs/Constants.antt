@@ -12,8 +12,8 @@ use lib.ListN.{getD}
 use Rattle.rules.specs.Signs.{Sign, negative, nought, positive, SignSet, only, has, bit, inside, signOf, open-signs}
 use Rattle.rules.specs.Polynomial.{Atom, normal, onlyIf, constant}
 use Rattle.rules.specs.Level.{Tidied, broken, mergeInto, mergeConstant, mergeNormal}
-use Rattle.terms.specs.View.{termsFrom}
 use Rattle.table.specs.Table.{Table, formAt, Forms}
+use Rattle.table.specs.Constants.{many-terms, no-terms, one-term}
 use Rattle.steps.specs.declared.tidying.Truth.{Truth}
 use Rattle.steps.specs.declared.tidying.Truth.the-variants.{Open, True, False}
 use Rattle.tape.specs.Token.{slot, atomOf}
@@ -37,25 +37,6 @@ inside-only positive a = one (eqb (a / 1 % 2) 1)
     one : (b : Bool) → eqb (0 * 4 + 0 * 2 + bit b) 1 ≡ b
     one true = refl
     one false = refl
-
--- ---- the constant of a run of terms
-
-many-terms : (cs : List ℤ) (ms : List ℕ) (i k : ℕ) → 1 < k → constant (termsFrom cs ms i k) ≡ none
-unfolding termsFrom constant
-many-terms cs ms i zero h = absurd (omega arith)
-many-terms cs ms i (suc zero) h = absurd (omega arith)
-many-terms cs ms i (suc (suc k)) h = refl
-
-no-terms : (cs : List ℤ) (ms : List ℕ) (i k : ℕ) → k ≡ 0 → constant (termsFrom cs ms i k) ≡ some (pos 0)
-unfolding termsFrom constant
-no-terms cs ms i zero h = refl
-no-terms cs ms i (suc k) h = absurd (omega arith)
-
-one-term : (cs : List ℤ) (ms : List ℕ) (i k : ℕ) → k ≡ 1 → constant (termsFrom cs ms i k) ≡ onlyIf (eqb (getD ms i 0) 0) (getD cs i (pos 0))
-unfolding termsFrom constant
-one-term cs ms i zero h = absurd (omega arith)
-one-term cs ms i (suc zero) h = refl
-one-term cs ms i (suc (suc k)) h = absurd (omega arith)
 
 -- ---- what it makes of the atom
 

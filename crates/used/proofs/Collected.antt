@@ -83,7 +83,7 @@ module _ {table : Table} (forms : Forms table) {token : List ℕ} {count : ℕ} 
   new = map (formAt table) (orderOf (take count token))
 
   -- The used forms are those in the slots of the order.
-  table-is : used [] (alone (eachAtomOf (inSlot table) tree)) ≡ new
+  pub table-is : used [] (alone (eachAtomOf (inSlot table) tree)) ≡ new
   table-is = rw (alone-each (inSlot table) tree, h .stored) (used-forms forms (alone tree) (h .slots))
 
   abbrev block : Block

@@ -4,3 +4,4 @@ pub mod Ordering
 pub mod Copying
 pub mod Numbering
 pub mod Collected
+pub mod Counted

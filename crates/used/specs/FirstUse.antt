@@ -3,6 +3,7 @@
 use mathlib.Core.Path.{_≡_}
 use mathlib.Core.Bool.{Bool, true, false, _||_}
 use mathlib.Core.List.{List, [], _∷_, _++_, map}
+use mathlib.Core.Option.{Option, none, some}
 use Prim.Native.Nat.{ℕ, suc, _+_, _*_, _/_, _%_, _<_, _≤_}
 use lib.Dec.{eqb, ltb}
 use lib.IntN.{ℤ}
@@ -97,6 +98,11 @@ pub record Copied (table : List Polynomial) (coefficient coefficient′ : List �
   pub coefficients : coefficient′ ≡ slots (λ t. t .coefficient) 0 table coefficient
   pub monomials : monomial′ ≡ slots (λ t. t .monomial) 0 table monomial
   pub counts : terms′ ≡ sets terms 0 (map length table)
+
+-- Whether there is a constant.
+unfoldable pub isSome : Option ℤ → Bool
+isSome none = false
+isSome (some c) = true
 
 -- A token with the new number of its slot; an AND's or an OR's stays.
 unfoldable pub atomOr : Bool → ℕ → ℕ → ℕ

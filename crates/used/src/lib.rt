@@ -1,17 +1,19 @@
 // What the new block holds, 01 "A level": it "keeps n and lists the used normal forms by first use in the tree".
 // The simplified tree is a tape of tokens whose atoms name slots of the working table; the new block's atoms name forms by their place in its list.
 ghost use mathlib.Core.Path.{_≡_};
-ghost use mathlib.Core.List.{map};
-ghost use Prim.Native.Nat.{ℕ, _+_, _<_, _≤_};
+ghost use mathlib.Core.List.{List, [], map};
+ghost use Prim.Native.Nat.{ℕ, _+_, _*_, _<_, _≤_};
+ghost use lib.IntN.{ℤ};
 ghost use lib.ListN.{length, take, drop, replicate};
 ghost use lib.Seq.{sets};
+ghost use Rattle.rules.specs.Polynomial.{constant};
 ghost use Rattle.rules.specs.Formula.{Node, alone, eachAtomOf, atoms as atomsOf};
 ghost use Rattle.rules.specs.Block.{NumberedAtom};
-ghost use Rattle.rules.specs.Answer.{blockOf};
-ghost use Rattle.table.specs.Table.{Forms};
+ghost use Rattle.rules.specs.Answer.{used, withoutConstants, blockOf};
+ghost use Rattle.table.specs.Table.{formAt, Forms};
 ghost use Rattle.block.specs.Held.{kindOf, heldBy, BlockRoom, heldOver};
 ghost use Rattle.used.specs.Tape.{lent, inSlot, formsIn, Holds, HoldsSome};
-ghost use Rattle.used.specs.FirstUse.{orderOf, TapeFits, FormsFit, UsedFit, RoomFor, Ordered, Copied, renumbered};
+ghost use Rattle.used.specs.FirstUse.{orderOf, TapeFits, FormsFit, UsedFit, RoomFor, Ordered, Copied, isSome, renumbered};
 
 // A token below this is an atom's: its slot times eight and its set. Any other is that of an AND or an OR.
 const JOIN: u32 = 16777216;
@@ -57,7 +59,55 @@ fn order_slots(token: &[u32], count: usize, order: &mut [u8], number: &mut [u8])
     used
 }
 
-// ---- the forms
+// ---- the forms that a tape uses
+
+// Whether the form in a slot is a constant.
+fn is_constant(monomial: &[u64], terms: &[u8], slot: usize) -> bool
+    requires { ⌜ (16 * slot < length (now monomial)) × (slot < length (now terms)) ⌝ }
+    ensures { λ r. ⌜ ((n : ℕ) (cs : List ℤ) → r ≡ isSome (constant (formAt (lent n cs (now (monomial .entry)) (now (terms .entry))) slot))) ⌝ }
+{
+    let count = terms[slot];
+    if 1 < count {
+        return false;
+    }
+    if count == 0 {
+        return true;
+    }
+    monomial[16 * slot] == 0
+}
+
+// How many of the listed slots hold a form that is no constant.
+fn count_forms(monomial: &[u64], terms: &[u8], order: &[u8], used: usize) -> usize
+    requires { ⌜ (1024 ≤ length (now monomial)) × (64 ≤ length (now terms)) × UsedFit (now order) used ⌝ }
+    ensures { λ r. ⌜ ((n : ℕ) (cs : List ℤ)
+        → r ≡ length (withoutConstants (formsIn (lent n cs (now (monomial .entry)) (now (terms .entry))) (now (order .entry)) used))) ⌝ }
+{
+    let mut forms = 0;
+    let mut i = 0;
+    while i < used {
+        let slot = order[i] as usize;
+        i += 1;
+        if !is_constant(monomial, terms, slot) {
+            forms += 1;
+        }
+    }
+    forms
+}
+
+// 02, #103: the number of different forms that a tape uses, constants left out. The forms are those of the working table, so that none is made again.
+pub fn forms_used(monomial: &[u64], terms: &[u8], token: &[u32], count: usize) -> usize
+    requires { ⌜ (1024 ≤ length (now monomial)) × (64 ≤ length (now terms)) × HoldsSome (now token) count ⌝ }
+    ensures { λ r. ⌜ ((n : ℕ) (cs : List ℤ) (tree : Node NumberedAtom) → Forms (lent n cs (now (monomial .entry)) (now (terms .entry)))
+        → Holds (now (token .entry)) count tree
+        → r ≡ length (withoutConstants (used [] (alone (eachAtomOf (inSlot (lent n cs (now (monomial .entry)) (now (terms .entry)))) tree))))) ⌝ }
+{
+    let mut order = [0u8; 64];
+    let mut number = [64u8; 64];
+    let used = order_slots(token, count, &mut order, &mut number);
+    count_forms(monomial, terms, &order, used)
+}
+
+// ---- the forms of the new block
 
 // Copies so many coefficients, from the place `from` of one slice to the place `to` of the other.
 fn copy_coefficients(source: &[i32], target: &mut [i32], from: usize, to: usize, count: usize)

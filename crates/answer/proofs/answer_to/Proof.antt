@@ -38,7 +38,7 @@ abbrev working : tie.After-normal-tokens → tie.After-work
 working c = c .before .before .before .before .before .before .before .before .before
 
 abbrev normalising : tie.After-simplified → tie.After-normal-tokens
-normalising c = c .before .before .before .before .before .before .before .before .before
+normalising c = c .before .before .before .before .before .before .before .before .before .before .before .before .before
 
 abbrev simplifying : tie.After-plain-tokens → tie.After-simplified
 simplifying c = c .before .before .before .before
@@ -126,11 +126,17 @@ normal-tokens-requires c κs = let here = c .before .before .before .before .bef
 atoms-requires : tie.Need-atoms-requires
 atoms-requires c κs = let here = c .before .before .before in asks-atoms (prepared here (start (working here) .pre .accepted))
 
+forms-used-requires : tie.Need-forms-used-requires
+forms-used-requires c κs =
+    let here = c .before .before .before .before .before .before .before in
+    let forms = working here .work .ensures .forms in
+    (omega (arith, forms .monomials), omega (arith, forms .counts), asks-atoms (prepared here (start (working here) .pre .accepted)))
+
 -- ---- the simplified tape
 
 simplified-requires : tie.Need-simplified-requires
 simplified-requires c κs =
-    let here = c .before .before .before .before .before .before .before .before in
+    let here = c .before .before .before .before .before .before .before .before .before .before .before .before in
     let ready = prepared here (start (working here) .pre .accepted) in
     (working here .work .ensures .forms, (eachAtomOf tokenOf (ready .tree), asks-tree ready))
 
@@ -194,18 +200,21 @@ returns c bytes accepted =
     let here = c .before .before .before .before .before .before .before .before .before .before .before .before .before .before .before .before in
     let counting = here .before .before .before .before .before .before .before .before .before .atoms2 in
     let simplified = simplified-at here in
-    let counted = simplified .before .before .before .before .before .atoms in
+    let counted = simplified .before .before .before .before .before .before .before .before .before .atoms in
+    let uses = simplified .before .before .before .before .before .forms-used in
     let ready = prepared (normal-at here) accepted in
+    let worked = working (normal-at here) in
     let written = writing .ensures _ (new-writable here accepted) in
     answers (first here .args .output .now) accepted ready (simplified .simplified .result) (simpler simplified accepted) (new here) (new-is here accepted)
-    (writing .last .1 .1 .1 .1 .1 .1 .1 .1 .0) (counted .result) (counting .result) (writing .result) (telling .result) (written .0) (written .1)
-    (counted .ensures (ready .tree) (ready .holds)) (counting .ensures (tree simplified accepted) (holds (plaining here) accepted)) (telling .ensures)
+    (writing .last .1 .1 .1 .1 .1 .1 .1 .1 .0) (counted .result) (counting .result) (uses .result) (writing .result) (telling .result)
+    (written .0) (written .1) (counted .ensures (ready .tree) (ready .holds)) (counting .ensures (tree simplified accepted) (holds (plaining here) accepted))
+    (uses .ensures (first here .args .variables) (table worked .coefficient) (ready .tree) (worked .work .ensures .forms) (ready .holds)) (telling .ensures)
 
 pub answer-to-spec : {M : Type 1} → statement M
 answer-to-spec =
     tie.close
     (tie.spec (λ c. search needs) (λ c. search needs) (λ c. search needs) (λ c. search needs) (λ c. search needs) work-requires
-    (λ c. search needs) (λ c. search needs) normal-tokens-requires atoms-requires
+    (λ c. search needs) (λ c. search needs) normal-tokens-requires atoms-requires (λ c. search needs) (λ c. search needs) forms-used-requires
     (λ c. search needs) (λ c. search needs) (λ c. search needs) simplified-requires (λ c. search needs) plain-tokens-requires (λ c. search needs) atoms-requires-2
     lends-coefficients lends-monomials lends-counts (λ c. search needs) collect-requires (λ c κs. search needs) write-requires
     same-coefficients same-monomials same-counts same-tokens (λ c. search needs) returns)
