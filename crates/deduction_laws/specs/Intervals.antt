@@ -10,7 +10,7 @@ use lib.IntN.{ℤ, pos, negsuc, negℤ, _*ℤ_, negℤ-negℤ}
 use lib.Signed.{leZ, nonNeg}
 use borrow.Author.Tests.{not-false}
 use Rattle.whole.specs.Solver.{#, con, _:+_, _:-_, _:*_, neg, solve}
-use Rattle.rules.specs.Signs.{Kind, ∅, >0, =0, ≥0, <0, ≠0, ≤0, any, named, open-signs}
+use Rattle.rules.specs.Signs.{full, Kind, ∅, >0, =0, ≥0, <0, ≠0, ≤0, any, named, open-signs}
 use Rattle.rules.specs.Deduce.{Fraction, denominator, End, free, at, Interval, higher, cutNotNegative, cutNotPositive, cutL, cutU, Row, everyT, intervalL, intervalU}
 use Rattle.sign_laws.specs.Booleans.{neither}
 use Rattle.sign_laws.specs.Whole.{_∈_, ∈-product, ∈-negation, ∈-intersect, ∈-full, by-equal, wider, without-factor}
@@ -95,7 +95,7 @@ cut-both a b r t = let first = cut-not-positive a b r t in let second = cut-not-
   λ (h, i). second .1 (wider h refl, first .1 (wider h refl, i)),
 )
 
-uncut : (a b : ℤ) (r : Interval) (t : Fraction) → Inside r t ↔ ((combined t a b ∈ 7) × Inside r t)
+uncut : (a b : ℤ) (r : Interval) (t : Fraction) → Inside r t ↔ ((combined t a b ∈ full) × Inside r t)
 uncut a b r t = (λ i. (∈-full (combined t a b), i), λ (h, i). i)
 
 -- The cut by a row.

@@ -53,7 +53,8 @@ module _ (room : ℕ) (bytes : List ℕ) where
 
 module _ {bytes before after text text-after : List ℕ} {n : ℕ} (r : Reports bytes before after text text-after n) where
   -- Where there is room for them all of the lines are told,
-  pub reports-whole : length (report (book.answer (length before) bytes)) ≤ length text → take n text-after ≡ report (book.answer (length before) bytes)
+  pub reports-whole : length (report (book.answer (length before) bytes)) ≤ length text
+      → take n text-after ≡ report (book.answer (length before) bytes)
   unfolding told toldLength
   reports-whole fits =
       let lines = report (book.answer (length before) bytes) in

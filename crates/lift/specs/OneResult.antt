@@ -1,5 +1,5 @@
--- 01, "How tight the statements are": "any two results allowed for one input are proved equal". For each public function one record of what a call of it
--- leaves, and the law that its contract allows only one for what was lent.
+-- 01, "How tight the statements are": "any two results allowed for one input are proved equal". For each public function one record of what a call
+-- of it leaves, and the law that its contract allows only one for what was lent.
 use mathlib.Core.Path.{_≡_, sym, _∙_}
 use mathlib.Core.List.{List}
 use Prim.Native.Nat.{ℕ}
@@ -49,8 +49,8 @@ pub record LeftByReport : Type 0 where
   pub text : List ℕ
 
 pub one-report : (bytes before text : List ℕ) (left other : LeftByReport)
-    → Reports bytes before (left .output) text (left .text) (left .returned) → Reports bytes before (other .output) text (other .text) (other .returned)
-    → left ≡ other
+    → Reports bytes before (left .output) text (left .text) (left .returned)
+    → Reports bytes before (other .output) text (other .text) (other .returned) → left ≡ other
 one-report bytes before text left other a b =
     let returned = both (a .lines .returns) (b .lines .returns) in
     let output = both (a .output) (b .output) in

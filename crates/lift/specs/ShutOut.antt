@@ -1,5 +1,5 @@
--- 01, "How tight the statements are": "These must be shut out". What the entry's contract says at a block of document 01 shuts out each of these programs,
--- whatever else it does. (One real round, the others idle: `rules/Cases: known-results`, case N.)
+-- 01, "How tight the statements are": "These must be shut out". What the entry's contract says at a block of document 01 shuts out each of these
+-- programs, whatever else it does. (One real round, the others idle: `rules/Cases: known-results`, case N.)
 use mathlib.Core.Path.{_≡_, refl, sym, ap, _∙_, subst}
 use mathlib.Core.Bool.{true≢false}
 use mathlib.Core.List.{List, [], _∷_, _++_}
@@ -71,8 +71,8 @@ unfolding SameLifts open-signs open-polynomial open-formula open-bits open-block
 not-always bytes counts same = true≢false (sym (same (pos 0 ∷ []) refl .1 refl))
 
 -- Always "ALWAYS": demand 3 alone does not allow it here.
-pub no-always : {before after : List ℕ} {returned : Answer} → Answers caseE before after returned → SameLifts (readBlock caseE) (answer (length before) caseE)
-    → {size : ℕ} {counts : Counts} → returned ≡ Answered Always size counts → ⊥
+pub no-always : {before after : List ℕ} {returned : Answer} → Answers caseE before after returned
+    → SameLifts (readBlock caseE) (answer (length before) caseE) → {size : ℕ} {counts : Counts} → returned ≡ Answered Always size counts → ⊥
 unfolding verdictIn
 no-always {before} answers same {size} {counts} is =
     let a = answer (length before) caseE in

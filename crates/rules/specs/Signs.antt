@@ -52,14 +52,14 @@ pub data Kind : Type 0 where
   ∅ >0 =0 ≥0 <0 ≠0 ≤0 any : Kind
 
 unfoldable pub named : Kind → SignSet
-named ∅ = 0
+named ∅ = empty
 named >0 = 1
 named =0 = 2
 named ≥0 = 3
 named <0 = 4
 named ≠0 = 5
 named ≤0 = 6
-named any = 7
+named any = full
 
 unfoldable pub kind : SignSet → Kind
 kind s = getD (∅ ∷ >0 ∷ =0 ∷ ≥0 ∷ <0 ∷ ≠0 ∷ ≤0 ∷ any ∷ []) s any
@@ -68,11 +68,11 @@ kind s = getD (∅ ∷ >0 ∷ =0 ∷ ≥0 ∷ <0 ∷ ≠0 ∷ ≤0 ∷ any ∷ [
 unfoldable pub sumOfSigns : Sign → Sign → SignSet
 sumOfSigns negative negative = 4
 sumOfSigns negative nought = 4
-sumOfSigns negative positive = 7
+sumOfSigns negative positive = full
 sumOfSigns nought negative = 4
 sumOfSigns nought nought = 2
 sumOfSigns nought positive = 1
-sumOfSigns positive negative = 7
+sumOfSigns positive negative = full
 sumOfSigns positive nought = 1
 sumOfSigns positive positive = 1
 

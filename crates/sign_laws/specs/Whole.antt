@@ -5,7 +5,7 @@ use mathlib.Core.Bool.{true}
 use Prim.Native.Nat.{ℕ, zero, suc, _+_, _*_, _<_}
 use native.Mathlib.Omega.{arith}
 use lib.IntN.{ℤ, pos, negsuc, negℤ, _+ℤ_, _*ℤ_, +ℤ-idl, +ℤ-idr, zero-*ℤ, *ℤ-zero}
-use Rattle.rules.specs.Signs.{Sign, negative, nought, positive, signOf, SignSet, full, only, has, sumOfSigns, sum, productOfSigns, product, square}
+use Rattle.rules.specs.Signs.{Sign, negative, nought, positive, signOf, SignSet, empty, full, only, has, sumOfSigns, sum, productOfSigns, product, square}
 use Rattle.rules.specs.Signs.{mirrorOfSign, mirror, intersect, inside}
 use Rattle.sign_laws.specs.Sets.{_In_, in-full, in-empty, in-only, only-one, in-intersect, in-inside, in-mirror, in-all, in-square}
 
@@ -130,7 +130,7 @@ pub without-factor : {x y : ℤ} {a : SignSet} → y ∈ 1 → x *ℤ y ∈ a �
 without-factor {x} p h = by-same-sign (sym (sign-times x p)) h
 
 -- Two sets with nothing in common: `clash h k refl`.
-pub clash : {X : Type 0} {x : ℤ} {a b : SignSet} → x ∈ a → x ∈ b → intersect a b ≡ 0 → X
+pub clash : {X : Type 0} {x : ℤ} {a b : SignSet} → x ∈ a → x ∈ b → intersect a b ≡ empty → X
 clash {x = x} h k e = in-empty (subst (λ (c : SignSet). signOf x In c) e (in-intersect (h .sign) (k .sign)))
 
 -- A set inside another: `wider h refl`.

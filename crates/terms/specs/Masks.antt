@@ -8,7 +8,7 @@ use lib.Bits.{bitAnd, bitOr}
 use lib.Count.{ones}
 use lib.Dec.{eqb}
 use lib.ListN.{length}
-use Rattle.rules.specs.Signs.{negative, nought, positive, SignSet, has, bit}
+use Rattle.rules.specs.Signs.{negative, nought, positive, SignSet, empty, full, has, bit}
 use Rattle.rules.specs.Polynomial.{Board}
 use Rattle.terms.specs.declared.masks.Masks.{Masks}
 
@@ -47,9 +47,9 @@ meetsOdd x y = eqb (ones (bitAnd x y) % 2) 1
 -- "Anything with the empty set gives the empty set." Else a factor with zero alone gives {zero}. Else the product has zero if a factor has it,
 -- and beside it both signs if a factor has both, or the one that goes by the number of negative factors.
 abbrev pub productOf : Bool → Bool → Bool → Bool → Bool → SignSet
-productOf true alone zero both minus = 0
+productOf true alone zero both minus = empty
 productOf false true zero both minus = 2
-productOf false false true true minus = 7
+productOf false false true true minus = full
 productOf false false true false true = 6
 productOf false false true false false = 3
 productOf false false false true minus = 5
