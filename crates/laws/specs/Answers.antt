@@ -47,7 +47,7 @@ module _ (bytes : List ℕ) {given : Block} {stream : Stream} (accepted : readBl
       let shorter = never-longer given (accepted-within bytes accepted) in
       (shorter .atoms, shorter .polynomials, omega (arith, length-block (newBlock given), shorter .bytes, block-accepted bytes accepted .long))
 
-  -- The answer's table is all used, each form once, none a constant: polynomials out are the forms that the new tree uses, as polynomials in are those
+  -- The answer's table is all used, each form once, no constant: polynomials out are the forms that the new tree uses, as polynomials in are those
   -- that the given tree uses.
   pub new-table-used : TableUsed (newBlock given)
   new-table-used = table.new-table-used given (accepted-within bytes accepted)

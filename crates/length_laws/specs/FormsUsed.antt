@@ -1,5 +1,5 @@
--- 02, #103: the forms that a tree uses. Each is there once, none is a constant, each is its own normal form; the normal form of each atom is there, unless
--- it is a constant; and those of a block's tree are among the normal forms of its table.
+-- 02, #103: the forms that a tree uses. Each is there once, none is a constant, each is its own normal form; the normal form of each atom is there,
+-- unless it is a constant; and those of a block's tree are among the normal forms of its table.
 use mathlib.Core.Path.{_≡_, refl, sym, ap, _∙_, subst}
 use mathlib.Core.Bool.{Bool, true, false, _||_, false≢true}
 use mathlib.Core.List.{List, [], _∷_}

@@ -18,7 +18,7 @@ use Rattle.length_laws.specs.Pigeonhole.{every-member, Distinct}
 use Rattle.length_laws.specs.FormsUsed.{without-none, forms-not-constant, used-same}
 use Rattle.length_laws.specs.NeverLonger.{simplified-formed, used-own, new-distinct, new-forms}
 
--- All of a block's table is used, by its tree and in the order of first use; each polynomial is there once, none is a constant, each is in normal form.
+-- All of a block's table is used, by its tree and in the order of first use; each polynomial stands there once, no constant, each in normal form.
 pub record TableUsed (block : Block) : Type 0 where
   pub all : formsUsed (formulaOf block) ≡ block .table
   pub once : Distinct (block .table)

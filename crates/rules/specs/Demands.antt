@@ -41,7 +41,7 @@ SameWholeLifts (read given stream) (answered verdict bytes counts) =
     × (verdict ≡ always → holdsAt readings (formulaOf given) ≡ true)
     × (verdict ≡ unsatisfiable → holdsAt readings (formulaOf given) ≡ false)
 
--- The counts are those of the two blocks (`countsOf` in Answer): polynomials in are the forms that the given tree uses. The bytes are the whole block's.
+-- The counts are those of the two blocks (`countsOf` in Answer), polynomials in the forms that the given tree uses; the bytes are the whole block's.
 unfoldable pub NeverLonger : List ℕ → Answer → Type 0
 NeverLonger given (refusal number) = Unit {0}
 NeverLonger given (answered verdict bytes counts) =
