@@ -62,7 +62,7 @@ abbrev pub hasAt : Fraction → Interval → Bool
 hasAt t r = not (r .void) && endAtMost (r .low) (at t) && endAtMost (at t) (r .high)
 
 -- A number is 0, or it is not.
-is-zero : (z : ℤ) → (isZero z ≡ true) ↔ (z ∈ 2)
+pub is-zero : (z : ℤ) → (isZero z ≡ true) ↔ (z ∈ 2)
 unfolding isZero open-signs
 is-zero (pos zero) = (λ e. by-sign nought refl refl, λ h. refl)
 is-zero (pos (suc n)) = (λ e. absurd (false≢true e), λ h. clash h (by-sign {a = 1} positive refl refl) refl)
@@ -98,7 +98,7 @@ zero-row : (c d : ℤ) → pos 0 *ℤ d +ℤ c *ℤ pos 0 ≡ pos 0
 zero-row c d = solve (c ∷ d ∷ []) (con (pos 0) :* # 1 :+ # 0 :* con (pos 0)) (con (pos 0)) tt
 
 -- If they are, a + tb is 0 everywhere.
-zero-everywhere : (t : Fraction) (a b : ℤ) → isZero a && isZero b ≡ true → combined t a b ∈ 2
+pub zero-everywhere : (t : Fraction) (a b : ℤ) → isZero a && isZero b ≡ true → combined t a b ∈ 2
 unfolding isZero open-signs
 zero-everywhere t (pos zero) (pos zero) e = by-equal (zero-row (t .numerator) (denominator t)) (by-sign nought refl refl)
 zero-everywhere t (pos zero) (pos (suc n)) e = absurd (false≢true e)
