@@ -1,4 +1,4 @@
--- What the code does for each sign set, by its number: the cuts of L and U, strictness, and the sets that ask for a + tb = 0.
+-- What the code does for each sign set, by its number: the cuts of L and U, and the sets that ask for a + tb = 0.
 -- The code matches on the number; the book goes by the kind of that number.
 use mathlib.Core.Path.{_≡_, refl}
 use mathlib.Core.Bool.{true, false, false≢true}
@@ -15,18 +15,6 @@ use Rattle.rules.specs.Deduce.{Interval, cutNotNegative, cutNotPositive, cutL, 
 use Rattle.deduction_laws.specs.FractionSets.{L, U, asked}
 use Rattle.interval.specs.Kinds.{by-kind}
 use Rattle.deduce.specs.Last.{asksZero}
-
--- ---- strict
-
-pub strict-one : (k : ℕ) → OneOf (1 ∷ 4 ∷ []) k → isStrict (kind k) ≡ true
-unfolding kind isStrict
-strict-one k (inl e) = rw e
-strict-one k (inr e) = rw e
-
-pub strict-none : (k : ℕ) → (OneOf (1 ∷ 4 ∷ []) k → ⊥) → isStrict (kind k) ≡ false
-unfolding isStrict
-strict-none = by-kind (λ k s. (OneOf (1 ∷ 4 ∷ []) k → ⊥) → isStrict s ≡ false)
-    (λ f. refl) (λ f. absurd (f (inl refl))) (λ f. refl) (λ f. refl) (λ f. absurd (f (inr refl))) (λ f. refl) (λ f. refl) (λ k f. refl)
 
 -- ---- the cuts of L and U
 
@@ -96,16 +84,16 @@ asked-zero = by-kind
     (λ f g h. absurd (g (inl refl))) (λ f g h. refl) (λ f g h. absurd (g (inr refl))) (λ k f g h. refl)
 
 -- where a + tb = 0 is asked for
-pub asks-zero : (k : Kind) → asksZero k ≡ true → (asked L k ≡ =0) × (asked U k ≡ =0)
-unfolding asksZero
+pub asks-zero : (k : Kind) → asksZero k ≡ true → (asked L k ≡ =0) × ((asked U k ≡ =0) × (isStrict k ≡ false))
+unfolding asksZero isStrict
 asks-zero ∅ e = absurd (false≢true e)
 asks-zero >0 e = absurd (false≢true e)
 asks-zero =0 e = absurd (false≢true e)
 asks-zero ≥0 e = absurd (false≢true e)
 asks-zero <0 e = absurd (false≢true e)
-asks-zero ≠0 e = (refl, refl)
+asks-zero ≠0 e = (refl, (refl, refl))
 asks-zero ≤0 e = absurd (false≢true e)
-asks-zero any e = (refl, refl)
+asks-zero any e = (refl, (refl, refl))
 
 -- U asks for the mirrored set
 pub asked-mirrored : (k : Kind) → mirror (named (asked L k)) ≡ named (asked U k)
