@@ -5,10 +5,14 @@ ghost use Prim.Native.Nat.{_<_, _≤_, _/_, _%_};
 ghost use lib.ListN.{length};
 ghost use Rattle.rules.specs.Formula.{Node};
 ghost use Rattle.rules.specs.Block.{NumberedAtom};
+ghost use Rattle.rules.specs.Evaluate.{evaluate as evaluateBook, evaluationNumber};
+ghost use Rattle.evaluate.specs.Entry.{evaluationOf, verdictOf, numberIn};
 ghost use Rattle.evaluate.specs.Tree.{joined as joinedOf, storedAt, TableRoom, AtomIs, SomeNode, HeldAt, NodeIs};
 use arithmetic::both;
 use arithmetic::sign_in;
 use arithmetic::value;
+use block::Contents;
+use block::read_into;
 
 // A token below this is an atom's: its polynomial's number times eight and its set. Any other is that of an AND or an OR.
 const JOIN: u32 = 16777216;
@@ -97,4 +101,75 @@ fn node(
         holds = joined(all, holds, child.holds);
     }
     Seen { next, fits, holds }
+}
+
+// "answers permit or deny", or a refusal: the reader's 2 to 15, 16 for another number of readings, 17 for an overflow.
+pub enum Evaluation {
+    Refused(u8),
+    Deny,
+    Permit,
+}
+
+fn verdict(fits: bool, holds: bool) -> Evaluation
+    ensures { λ r. ⌜ r ≡ verdictOf fits holds ⌝ }
+{
+    if fits {
+        return if holds {
+            Evaluation::Permit
+        } else {
+            Evaluation::Deny
+        };
+    }
+    Evaluation::Refused(17)
+}
+
+// Reads a block and runs it on the readings. Every input is answered or refused.
+pub fn evaluate(input: &[u8], readings: &[i32]) -> Evaluation
+    ensures { λ r. ⌜ r ≡ evaluationOf (evaluateBook (now (input .entry)) (now (readings .entry))) ⌝ }
+{
+    let mut coefficient = [0i32; 1024];
+    let mut monomial = [0u64; 1024];
+    let mut terms = [0u8; 64];
+    let mut token = [0u32; 255];
+    let contents = read_into(
+        input,
+        &mut coefficient,
+        &mut monomial,
+        &mut terms,
+        &mut token,
+    );
+    match contents {
+        Contents::Refused(number) => Evaluation::Refused(number),
+        Contents::Numbers {
+            variables,
+            polynomials: _,
+            root,
+            tokens: _,
+        } => {
+            if readings.len() != variables {
+                return Evaluation::Refused(16);
+            }
+            let seen = node(&coefficient, &monomial, &terms, &token, readings, 0, root);
+            verdict(seen.fits, seen.holds)
+        }
+    }
+}
+
+// One number for each outcome: below 256 the refusal, 256 deny, 257 permit.
+fn number_in(evaluation: Evaluation) -> u32
+    ensures { λ r. ⌜ r ≡ numberIn evaluation ⌝ }
+{
+    match evaluation {
+        Evaluation::Refused(number) => number as u32,
+        Evaluation::Deny => 256,
+        Evaluation::Permit => 257,
+    }
+}
+
+// The entry for C, declared in `include/placardpan.h`.
+#[no_mangle]
+pub extern "C" fn placardpan_evaluate(input: &[u8], readings: &[i32]) -> u32
+    ensures { λ r. ⌜ r ≡ evaluationNumber (evaluateBook (now (input .entry)) (now (readings .entry))) ⌝ }
+{
+    number_in(evaluate(input, readings))
 }
