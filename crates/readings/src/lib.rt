@@ -27,8 +27,8 @@ pub fn begin() -> Line {
     }
 }
 
-// The number that stands for a sign and a magnitude.
-fn signed(negative: bool, magnitude: u64) -> i32
+// The number of a sign and a magnitude.
+pub fn signed(negative: bool, magnitude: u64) -> i32
     requires { ⌜ magnitude < 2147483648 ⌝ }
 {
     if negative {
@@ -141,6 +141,17 @@ pub fn taken(line: Line, byte: u8, readings: &mut [i32]) -> Line {
         return ended(line, readings);
     }
     spoilt(line)
+}
+
+// The bytes of a word, one after the other, and a space behind it.
+pub fn word_taken(line: Line, word: &[u8], numbers: &mut [i32]) -> Line {
+    let mut next = line;
+    let mut i = 0;
+    while i < word.len() {
+        next = taken(next, word[i], numbers);
+        i += 1;
+    }
+    taken(next, b' ', numbers)
 }
 
 // The line is over: how many readings it has, 17 if it is not readings alone or has more than 16.

@@ -1,28 +1,22 @@
+-- `readings::signed` is safe: a magnitude below 2^31 and its negation fit.
 use borrow.Author.Needs.{needs}
+use Prim.Native.Nat.{ℕ, zero, suc, _<_}
+use native.Mathlib.Omega.{arith}
+use lib.IntN.{pos, negℤ, _-ℤ_, +ℤ-idl}
+use mir.Syntax.{w32}
+use mir.Val.{SFits, toZ}
+use mir.ValLaws.{toZ-ofZ}
 use Rattle.readings.proofs.signed.Statement.{statement}
 use Rattle.readings.proofs.signed.Tie as tie
-use Rattle.readings.proofs.signed.Reads as reads
-use Rattle.readings.proofs.signed.Lts as lts
 
--- src/lib.rt:35:21
-cast-result : tie.Need-cast-result
-cast-result c = search needs
+negated-fits : (m : ℕ) → m < 2147483648 → SFits w32 (negℤ (pos m))
+negated-fits zero h = record { sfits = omega arith }
+negated-fits (suc m) h = record { sfits = omega arith }
 
--- src/lib.rt:35:16
 sub-result : tie.Need-sub-result
-sub-result c = ?
-
--- src/lib.rt:35:9
-returns : tie.Need-returns
-returns c = search needs
-
--- src/lib.rt:37:5
-cast-result-2 : tie.Need-cast-result-2
-cast-result-2 c = search needs
-
--- src/lib.rt:31:1
-returns-2 : tie.Need-returns-2
-returns-2 c = search needs
+sub-result c =
+    let s = c .before in
+    rw (toZ-ofZ w32 (pos (s .args .magnitude)) (record { sfits = s .pre })) (rw (+ℤ-idl (negℤ (pos (s .args .magnitude)))) (negated-fits (s .args .magnitude) (s .pre)))
 
 pub signed-spec : {M : Type 1} → statement M
-signed-spec = tie.close (tie.spec cast-result sub-result returns cast-result-2 returns-2)
+signed-spec = tie.close (tie.spec (λ c. search needs) sub-result (λ c. search needs) (λ c. search needs) (λ c. search needs))
