@@ -1,5 +1,6 @@
 // Request #102 in plain C beside the proved library: the same order of products and sums and the same checks, over plain.c's reader.
-// plain_evaluate BLOCK reads lines of readings on standard input, holds the two to each other on each, and prints how many blocks a second each evaluates.
+// plain_evaluate BLOCK reads lines of readings on standard input, holds the two to each other on each, and prints how many blocks a second each evaluates,
+// and how many it reads (run on no readings, which is refusal 16 behind the reader).
 #define main plain_main
 #include "plain.c"
 #undef main
@@ -79,14 +80,14 @@ static int32_t lines[LINES][16];
 static size_t counts[LINES];
 
 // Blocks a second, the best of five runs.
-static double rate(Evaluator evaluator, size_t length, int number) {
+static double rate(Evaluator evaluator, size_t length, int number, bool alone) {
     double best = 0;
     for (int run = 0; run < 5; run++) {
         long done = 0;
         double start = seconds(), took;
         do {
             for (int k = 0; k < number; k++) {
-                if (evaluator(input, length, lines[k], counts[k]) == 1) return 0;
+                if (evaluator(input, length, lines[k], alone ? 0 : counts[k]) == 1) return 0;
             }
             done += number;
             took = seconds() - start;
@@ -117,7 +118,7 @@ int main(int count, char **words) {
         }
         number++;
     }
-    double proved = rate(placardpan_evaluate, length, number), plain = rate(evaluate, length, number);
-    printf("%.0f %.0f %.2f\n", proved, plain, plain / proved);
+    printf("%.0f %.0f ", rate(placardpan_evaluate, length, number, false), rate(evaluate, length, number, false));
+    printf("%.0f %.0f\n", rate(placardpan_evaluate, length, number, true), rate(evaluate, length, number, true));
     return 0;
 }

@@ -113,8 +113,14 @@ module _ (given : Block) (readings : List ℤ) (many : length readings ≡ given
   unfolding evaluateBy
   alike fits limits b c e f = sym (some-if _ (holdsAt readings (formulaOf (newBlock given))) c f .1) ∙ same-truth ∙ some-if _ (holdsAt readings (formulaOf given)) b e .1
 
+  -- Where the original answers, all steps of its tree's polynomials fit.
+  pub fits-each : (b : Bool) → evaluateBy fits64 readings (formulaOf given) ≡ some b → (p : Polynomial) → Member p (polynomialsOf (alone (formulaOf given)))
+      → allFit fits64 (steps readings p) ≡ true
+  unfolding evaluateBy
+  fits-each b e p m = each-fits readings fits64 (alone (formulaOf given)) (some-if _ (holdsAt readings (formulaOf given)) b e .0) p m
+
   -- Where the original answers, and the normal forms of its tree's polynomials fit some limits, the short one answers by these limits, and alike.
-  short-answers : (limits : ℤ → Bool) (b : Bool) → BlockWithin given → evaluateBy fits64 readings (formulaOf given) ≡ some b
+  pub short-answers : (limits : ℤ → Bool) (b : Bool) → BlockWithin given → evaluateBy fits64 readings (formulaOf given) ≡ some b
       → ((p : Polynomial) → Member p (polynomialsOf (alone (formulaOf given))) → allFit fits64 (steps readings p) ≡ true → allFit limits (steps readings (normalForm p)) ≡ true)
       → evaluateBy limits readings (formulaOf (newBlock given)) ≡ some b
   unfolding evaluateBy someIf

@@ -108,10 +108,21 @@ unfolding within
 within-more m (pos a) e = le-leb a (suc m) (omega (arith, leb-true a m e))
 within-more m (negsuc a) e = e
 
+within-mirrored : (m : ℕ) (z : ℤ) → within m (suc m) (negℤ z) ≡ true → within m (suc m) z ≡ true
+unfolding within
+within-mirrored m (pos zero) e = le-leb 0 (suc m) (omega arith)
+within-mirrored m (pos (suc a)) e = le-leb (suc a) (suc m) (omega (arith, leb-true a m (and-first (leb a m) true e)))
+within-mirrored m (negsuc a) e = and-intro (le-leb a m (omega (arith, leb-true (suc a) (suc m) e))) refl
+
+twice-negated : (p : Polynomial) → eachCoefficient negℤ (eachCoefficient negℤ p) ≡ p
+unfolding eachCoefficient
+twice-negated [] = refl
+twice-negated (t ∷ ts) = ap₂ (λ (c : ℤ) (l : Polynomial). record { coefficient = c; monomial = t .monomial } ∷ l) (negℤ-negℤ (t .coefficient)) (twice-negated ts)
+
 -- ---- The normal form.
 
 module _ (m : ℕ) (readings : List ℤ) where
-  divided-fits : (low high : ℕ) (p : Polynomial) → allFit (within low high) (steps readings p) ≡ true → allFit (within low high) (steps readings (divided p)) ≡ true
+  pub divided-fits : (low high : ℕ) (p : Polynomial) → allFit (within low high) (steps readings p) ≡ true → allFit (within low high) (steps readings (divided p)) ≡ true
   unfolding divided
   divided-fits low high p e = allFit-map (within low high) (within low high) (λ z. z *ℤ pos (content p)) (within-divided low high (content p) (content-above-zero p))
       (steps readings (divided p))
@@ -122,11 +133,14 @@ module _ (m : ℕ) (readings : List ℤ) where
   unfolding eachCoefficient
   negated-fits p e = allFit-map (within m m) (within m (suc m)) negℤ (within-negated m) (steps readings (eachCoefficient negℤ p))
       (subst (λ (l : List ℤ). allFit (within m m) l ≡ true)
-      (ap (steps readings) (sym (twice p)) ∙ steps-changed negℤ negation readings (eachCoefficient negℤ p)) e)
-    where
-      twice : (p : Polynomial) → eachCoefficient negℤ (eachCoefficient negℤ p) ≡ p
-      twice [] = refl
-      twice (t ∷ ts) = ap₂ (λ (c : ℤ) (l : Polynomial). record { coefficient = c; monomial = t .monomial } ∷ l) (negℤ-negℤ (t .coefficient)) (twice ts)
+      (ap (steps readings) (sym (twice-negated p)) ∙ steps-changed negℤ negation readings (eachCoefficient negℤ p)) e)
+
+  -- The numbers from -(m + 1) to m + 1 stay among themselves.
+  pub negated-within : (p : Polynomial) → allFit (within m (suc m)) (steps readings p) ≡ true → allFit (within m (suc m)) (steps readings (eachCoefficient negℤ p)) ≡ true
+  unfolding eachCoefficient
+  negated-within p e = allFit-map (within m (suc m)) (within m (suc m)) negℤ (within-mirrored m) (steps readings (eachCoefficient negℤ p))
+      (subst (λ (l : List ℤ). allFit (within m (suc m)) l ≡ true)
+      (ap (steps readings) (sym (twice-negated p)) ∙ steps-changed negℤ negation readings (eachCoefficient negℤ p)) e)
 
   allFit-more : (zs : List ℤ) → allFit (within m m) zs ≡ true → allFit (within m (suc m)) zs ≡ true
   unfolding allFit
