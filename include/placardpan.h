@@ -1,5 +1,6 @@
 /* Placardpan for C: a lift condition block is read, simplified and written again, or refused by a number.
- * The functions are those of liblift.a; docs/LINKING.md says how to link it and what a caller holds to.
+ * The functions are those of liblift.a, but for placardpan_evaluate, which is libevaluate.a's; docs/LINKING.md says how to link them and what a caller
+ * holds to.
  *
  * A lent slice is a pointer and a length in bytes. In every call
  *   - the pointers are not null, also where the length is 0, and the bytes from each on are the caller's, as many as the length says;
@@ -88,6 +89,18 @@ size_t placardpan_report(const uint8_t *input, size_t input_length, uint8_t *out
 
 /* A text in which the lines for an input of this length fit. */
 #define PLACARDPAN_TEXT(input_length) (3 * (size_t)(input_length) + 32)
+
+/* Runs a block on readings (request #102): one number for each outcome, below 256 the refusal's, else one of these. The reader's refusals 2 to 15 come
+ * first, then 16 if there are not as many readings as the block has variables, then 17. Nothing is written. A call takes some 46 KB of stack; give its thread
+ * 64 KiB or more. */
+enum {
+    PLACARDPAN_NUMBER_OF_READINGS = 16, /* the number of readings is not n */
+    PLACARDPAN_OVERFLOW = 17,           /* a product or running sum leaves 64 signed bits */
+    PLACARDPAN_DENY = 256,
+    PLACARDPAN_PERMIT = 257
+};
+
+uint32_t placardpan_evaluate(const uint8_t *input, size_t input_length, const int32_t *readings, size_t count);
 
 #ifdef __cplusplus
 }

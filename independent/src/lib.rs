@@ -57,3 +57,6 @@ pub mod search;
 
 // A formula as other solvers read it
 pub mod smt;
+
+// Request #102: a block run on readings
+pub mod evaluate;

@@ -7,12 +7,12 @@ use std::process::ExitCode;
 use independent::answer::{answer, read_report, report, MOST_READ};
 use independent::cases::{cases, later_cases};
 use independent::count::work_of;
-use independent::{bench, block, book, check, corpus, edge, engine, search, smt, uses};
+use independent::{bench, block, book, check, corpus, edge, engine, evaluate, search, smt, uses};
 
 const USAGE: &str =
-    "usage: independent [many | read | describe | deductions | lists | count | repeat | smt | bench NAME |\n\
+    "usage: independent [many | read | describe | deductions | lists | evaluations | live FILE | count | repeat | smt | bench NAME |\n\
                     corpus KIND SEED COUNT | book SEED COUNT | check SEED COUNT]\n\
-     KIND is valid, damaged, trees, uses, edge, long, cases, later, deductions, points, lists or candidates\n";
+     KIND is valid, damaged, trees, uses, edge, long, cases, later, deductions, points, lists, evaluations or candidates\n";
 
 fn main() -> ExitCode {
     let arguments: Vec<String> = std::env::args().skip(1).collect();
@@ -24,6 +24,8 @@ fn main() -> ExitCode {
         ["describe"] => each_block(|index, block| format!("{index} {}", read_report(block))),
         ["deductions"] => each_block(|_, block| engine::deduction_line(block)),
         ["lists"] => each_block(|_, block| engine::list_line(block)),
+        ["live", file] => live(file),
+        ["evaluations"] => each_block(|_, frame| evaluate::frame_line(frame)),
         ["count"] => each_block(|_, block| count_line(block)),
         ["bench", name] => write_bench(name),
         ["repeat"] => repeat(),
@@ -104,12 +106,28 @@ fn write_corpus(kind: &str, seed: u64, count: usize) -> io::Result<ExitCode> {
         "deductions" => engine::deductions(seed, count),
         "lists" => engine::lists(seed, count),
         "candidates" => (seed..seed + count as u64).map(|k| block::write(&search::candidate(k))).collect(),
+        "evaluations" => evaluate::corpus(seed, count),
         "cases" => cases().iter().map(|case| block::write(&case.formula)).collect(),
         "later" => later_cases().iter().map(|case| block::write(&case.formula)).collect(),
         "points" => engine::single_points(),
         _ => return usage(),
     };
     io::stdout().lock().write_all(&corpus::stream(&blocks))?;
+    Ok(ExitCode::SUCCESS)
+}
+
+/// The block in a file run on each line of readings, a line of answer each. A last line without its end counts if it has a byte.
+fn live(file: &str) -> io::Result<ExitCode> {
+    let mut input = String::new();
+    io::stdin().lock().read_to_string(&mut input)?;
+    let mut block = vec![];
+    std::fs::File::open(file)?.take(MOST_READ as u64).read_to_end(&mut block)?;
+    let mut output = io::BufWriter::new(io::stdout().lock());
+    for line in input.strip_suffix('\n').unwrap_or(&input).split('\n').filter(|_| !input.is_empty()) {
+        let readings = evaluate::readings_of(line);
+        output.write_all(evaluate::line(evaluate::evaluate(&block, readings.as_deref())).as_bytes())?;
+    }
+    output.flush()?;
     Ok(ExitCode::SUCCESS)
 }
 

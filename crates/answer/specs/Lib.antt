@@ -2,6 +2,5 @@ pub mod Normal
 pub mod Tapes
 pub mod Travel
 pub mod Answered
-pub mod Writing
 pub mod Entry
 pub mod Way

@@ -35,7 +35,7 @@ use Rattle.answer.specs.Normal.{normalised, normalTree, normal-holds, no
 use Rattle.answer.specs.Tapes.{tokenOf, plain, plainTokens, tokens-in-slots, held-as-tokens, result, result-is, result-holds, result-kind}
 use Rattle.answer.specs.Travel.{slots-simplified, slots-used, new-writable, new-room}
 use Rattle.answer.specs.Answered.{verdictFrom, verdictOf, countsOf, answerOf, answer-accepted, answer-written, new-verdict, atoms-same}
-use Rattle.answer.specs.Writing.{writable}
+use Rattle.array_laws.specs.Writing.{writable}
 use Rattle.answer.specs.Entry.{Accepted, Answers}
 
 -- ---- the tape that is simplified

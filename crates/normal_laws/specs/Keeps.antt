@@ -25,7 +25,7 @@ negation-times x y = solve (x ∷ y ∷ []) (neg (# 0) :* # 1) (neg (# 0 :* # 1)
 term-times : (q v r g : ℤ) → (q *ℤ v +ℤ r) *ℤ g ≡ q *ℤ g *ℤ v +ℤ r *ℤ g
 term-times q v r g = solve (q ∷ v ∷ r ∷ g ∷ []) ((# 0 :* # 1 :+ # 2) :* # 3) (# 0 :* # 3 :* # 1 :+ # 2 :* # 3) tt
 
-quotient-back : (c : ℤ) (g : ℕ) → g ∣ natAbs c → quotZ c (pos g) *ℤ pos g ≡ c
+pub quotient-back : (c : ℤ) (g : ℕ) → g ∣ natAbs c → quotZ c (pos g) *ℤ pos g ≡ c
 quotient-back (pos a) g h = ap pos (div-mul-cancel g h)
 quotient-back (negsuc a) g h = negation-times (pos (suc a / g)) (pos g) ∙ ap (λ (n : ℕ). negℤ (pos n)) (div-mul-cancel g h)
 

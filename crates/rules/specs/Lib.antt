@@ -13,3 +13,5 @@ pub mod Meaning
 pub mod Demands
 pub mod Cases
 pub mod Tenths
+pub mod Evaluate
+pub mod Edges

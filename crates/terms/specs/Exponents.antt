@@ -25,7 +25,7 @@ power-of-four-bits (suc k) = sixteen k ∙ ap (λ (n : ℕ). 16 * n) (power-of-f
     power-of-sixteen : (k : ℕ) → 16 ^ suc k ≡ 16 * 16 ^ k
     power-of-sixteen k = omega (arith, pow-step 16 k)
 
-exponent-shifted : (m followers : ℕ) → m / 2 ^ (4 * followers) % 16 ≡ exponent m followers
+pub exponent-shifted : (m followers : ℕ) → m / 2 ^ (4 * followers) % 16 ≡ exponent m followers
 unfolding exponent
 exponent-shifted m followers = ap (λ (k : ℕ). m / k % 16) (power-of-four-bits followers)
 

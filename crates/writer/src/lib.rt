@@ -20,14 +20,14 @@ struct Spot {
 }
 
 // A coefficient's minus bit.
-fn minus_of(coefficient: i32) -> u64
+pub fn minus_of(coefficient: i32) -> u64
     ensures { λ r. ⌜ r ≡ minusBit coefficient ⌝ }
 {
     if coefficient < 0 { 1 } else { 0 }
 }
 
 // A coefficient's magnitude.
-fn magnitude_of(coefficient: i32) -> u64
+pub fn magnitude_of(coefficient: i32) -> u64
     ensures { λ r. ⌜ r ≡ natAbs coefficient ⌝ }
 {
     let long = coefficient as i64;
