@@ -30,7 +30,7 @@ pub fn value(polynomial: &Polynomial, point: &[i128]) -> Option<i128> {
 
 /// "its value multiplied by the denominator to the power of its total degree", if every step fits.
 pub fn value_over(polynomial: &Polynomial, numerators: &[i128], denominator: i128) -> Option<i128> {
-    let total = polynomial.terms.iter().map(degree).max()?;
+    let total = polynomial.terms.iter().map(degree).max().unwrap_or(0);
     let mut sum: i128 = 0;
     for term in &polynomial.terms {
         let mut product = term.coefficient;
