@@ -90,7 +90,7 @@ def blocks():
         rest = rest[2 + length :]
     yield "cases A to N", cases
     yield "load chart", [open("examples/load_chart.block", "rb").read()]
-    for name in ["chain", "linear", "mixed", "deep", "slowest", "back", "zigzag", "removed", "worst"]:
+    for name in ["chain", "linear", "mixed", "deep", "slowest", "back", "zigzag", "scattered", "removed", "worst"]:
         yield name, [output([INDEPENDENT, "bench", name])]
 
 

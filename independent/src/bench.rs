@@ -21,10 +21,14 @@ pub fn block(name: &str) -> Option<Vec<u8>> {
         "deep" => deep(),
         "back" => back(down()),
         "zigzag" => back(zigzag()),
+        "scattered" => back(SCATTERED.to_vec()),
         "removed" => removed(),
         "worst" => worst(),
         "slowest" => candidate(SLOWEST),
-        _ => list(name.strip_prefix("list-")?)?,
+        _ => match name.strip_prefix("order-") {
+            Some(variables) => back(order(variables)?),
+            None => list(name.strip_prefix("list-")?)?,
+        },
     };
     Some(write(&formula))
 }
@@ -165,6 +169,17 @@ fn down() -> Vec<usize> {
 /// The same with every other one from the end: x_2, x_16, x_3, x_15, .. x_9. Turns in the order of the variables, up or down, then go on by few links.
 fn zigzag() -> Vec<usize> {
     (1..VARIABLES).map(|k| if k % 2 == 1 { k / 2 + 1 } else { VARIABLES - k / 2 }).collect()
+}
+
+/// The order that makes *back* the slowest known for the program; bench/orders looks for a slower one. It has x_1 too, which learns last.
+const SCATTERED: [usize; VARIABLES] = [0, 14, 15, 7, 4, 9, 12, 2, 1, 6, 11, 5, 3, 10, 13, 8];
+
+/// `0-14-..`: any order of different variables, counted from 0, two at least.
+fn order(variables: &str) -> Option<Vec<usize>> {
+    let order: Vec<usize> = variables.split('-').map(|word| word.parse().ok()).collect::<Option<_>>()?;
+    let different: BTreeSet<usize> = order.iter().copied().collect();
+    (different.len() == order.len() && order.len() > 1 && order.iter().all(|&i| i < VARIABLES))
+        .then_some(order)
 }
 
 /// Even powers with x_1 in each, so many that two polynomials share some of theirs: the slowest to go through.

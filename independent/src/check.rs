@@ -5,7 +5,7 @@ use crate::answer::{answer, Answer, Verdict};
 use crate::block::{read, write, Formula, Refusal};
 use crate::corpus::random_formula;
 use crate::level::{in_normal_form, tidied};
-use crate::meaning::formula_holds;
+use crate::meaning::{formula_holds, Choice};
 use crate::random::Random;
 use crate::rounds::run_rounds;
 use crate::tree::{Atom, Node};
@@ -14,6 +14,7 @@ use crate::tree::{Atom, Node};
 pub struct Summary {
     pub formulas: usize,
     pub points: usize,
+    pub fractions: usize,
     pub held: usize,
     pub formula: usize,
     pub always: usize,
@@ -26,10 +27,11 @@ pub struct Summary {
 impl Summary {
     pub fn line(&self) -> String {
         format!(
-            "{} formulas at {} points, of which {} lifts: {} FORMULA ({} of them shorter), {} ALWAYS, \
+            "{} formulas at {} points ({} of them fractions), of which {} lifts: {} FORMULA ({} of them shorter), {} ALWAYS, \
              {} UNSATISFIABLE, at most {} rounds, {} wrong",
             self.formulas,
             self.points,
+            self.fractions,
             self.held,
             self.formula,
             self.shorter,
@@ -89,13 +91,16 @@ pub fn check_formula(
         summary.shorter += 1;
     }
     summary.wrong.extend(wrong_form(formula, &block, &answer));
-    for number in 0..POINTS {
-        let point = random_point(random, formula.variables, number);
-        let Some(original) = formula_holds(formula, &point) else { continue };
+    for number in 0..WHOLE_POINTS + FRACTIONS {
+        let numerators = random_point(random, formula.variables, number);
+        let denominator = if number < WHOLE_POINTS { 1 } else { random.pick(&[2, 3, 7, 10, 10, 100]) };
+        let choice = Choice { numerators, denominator };
+        let Some(original) = formula_holds(formula, &choice) else { continue };
         summary.points += 1;
+        summary.fractions += usize::from(denominator > 1);
         summary.held += usize::from(original);
-        if formula_holds(&answer.simplified, &point) != Some(original) {
-            summary.wrong.push(format!("the answer differs at {point:?}"));
+        if formula_holds(&answer.simplified, &choice) != Some(original) {
+            summary.wrong.push(format!("the answer differs at {:?} over {denominator}", choice.numerators));
             break;
         }
     }
@@ -190,7 +195,8 @@ fn check_rounds(formula: &Formula, summary: &mut Summary) {
     }
 }
 
-const POINTS: usize = 60;
+const WHOLE_POINTS: usize = 60;
+const FRACTIONS: usize = 36;
 
 /// A point: zeros and ones first, so that no power is too large; then small, middle and large values, of
 /// which `meaning` leaves out those that do not fit.

@@ -485,6 +485,24 @@ fn end_refusals(list: &mut Vec<Edge>) {
     push(list, Refused(15), "32,768 bytes", longer_by(plain(), &vec![0; 32_756]));
 }
 
+// -------------------------------------------------------------------------------------- long inputs
+
+/// "It reads at most 32,768 bytes of a block": an AND with no children and zeros, as long as a stream allows, and around the number that is read.
+/// The head gives the true length, and once the 32,768 bytes that are taken of 32,769.
+pub fn long() -> Vec<Vec<u8>> {
+    let of_length = |length| {
+        let mut bytes = Body::new().and(0).under(1, 0, 1);
+        bytes.resize(length, 0);
+        bytes
+    };
+    let mut list: Vec<Vec<u8>> = [32_767, 32_768, 32_769, 40_000, 65_535]
+        .into_iter()
+        .map(|length| with_length(of_length(length), length))
+        .collect();
+    list.push(with_length(of_length(32_769), 32_768));
+    list
+}
+
 // -------------------------------------------------------------------------------------- families
 
 /// The largest coefficients in each deduction: cross products near 2^62, fractions that differ by little.

@@ -12,7 +12,7 @@ use independent::{bench, block, book, check, corpus, edge, engine, search, smt};
 const USAGE: &str =
     "usage: independent [many | read | describe | deductions | lists | count | repeat | smt | bench NAME |\n\
                     corpus KIND SEED COUNT | book SEED COUNT | check SEED COUNT]\n\
-     KIND is valid, damaged, trees, edge, cases, deductions, lists or candidates\n";
+     KIND is valid, damaged, trees, edge, long, cases, deductions, lists or candidates\n";
 
 fn main() -> ExitCode {
     let arguments: Vec<String> = std::env::args().skip(1).collect();
@@ -96,6 +96,7 @@ fn write_corpus(kind: &str, seed: u64, count: usize) -> io::Result<ExitCode> {
         "damaged" => corpus::damaged(seed, count),
         "trees" => corpus::trees(seed, count),
         "edge" => edge::blocks().into_iter().map(|edge| edge.bytes).collect(),
+        "long" => edge::long(),
         "deductions" => engine::deductions(seed, count),
         "lists" => engine::lists(seed, count),
         "candidates" => (seed..seed + count as u64).map(|k| block::write(&search::candidate(k))).collect(),

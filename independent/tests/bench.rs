@@ -16,6 +16,8 @@ fn the_blocks_have_their_shapes() {
         ("deep", 224, 255, 6),
         ("back", 190, 254, 2),
         ("zigzag", 190, 254, 2),
+        ("scattered", 190, 254, 2),
+        ("order-3-1-2", 190, 254, 2),
         ("removed", 244, 255, 6),
         ("worst", 234, 255, 6),
         ("list-8-4", 8, 9, 1),
@@ -28,7 +30,11 @@ fn the_blocks_have_their_shapes() {
         assert_eq!(bench::block(name).as_ref(), Some(&block), "{name}");
     }
     assert!(read(&bench::block("slowest").expect("slowest")).is_ok());
-    assert!(bench::block("list-65-4").is_none() && bench::block("other").is_none());
+    for none in ["list-65-4", "other", "order-", "order-3", "order-3-3", "order-3-16", "order-3-x"] {
+        assert!(bench::block(none).is_none(), "{none}");
+    }
+    let order = "order-0-14-15-7-4-9-12-2-1-6-11-5-3-10-13-8";
+    assert_eq!(bench::block(order), bench::block("scattered"));
 }
 
 /// Case A: one round changes nothing, 4 deductions of variables and 2 of atoms. In step 5 a round over 2x - 1 < 0 alone makes 2 deductions, and

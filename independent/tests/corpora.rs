@@ -128,7 +128,8 @@ fn note_sets(node: &Node<usize>, seen: &mut BTreeSet<String>) {
 fn answers_hold_where_the_originals_hold() {
     let summary = check(48, 20_000);
     assert!(summary.wrong.is_empty(), "{:#?}", summary.wrong);
-    assert!(summary.points > 50 * summary.formulas, "{}", summary.line());
+    assert!(summary.points > 70 * summary.formulas, "{}", summary.line());
+    assert!(summary.fractions > 20 * summary.formulas, "{}", summary.line());
     assert!(summary.held > summary.points / 4, "{}", summary.line());
     assert!(summary.held < summary.points * 3 / 4, "{}", summary.line());
     assert!(summary.formula > summary.formulas / 2, "{}", summary.line());

@@ -7,7 +7,7 @@ use std::process::{Command, Stdio};
 use independent::answer::report;
 use independent::block::write;
 use independent::cases::cases;
-use independent::corpus;
+use independent::{corpus, edge};
 
 fn run(arguments: &[&str], input: &[u8]) -> Vec<u8> {
     let mut child = Command::new(env!("CARGO_BIN_EXE_independent"))
@@ -53,6 +53,18 @@ fn the_rest_is_not_read() {
     assert_eq!(lines(&[], &long), "REFUSED 15\n");
     corpus::put_length(&mut long, 40_000);
     assert_eq!(lines(&[], &long), "REFUSED 4\n");
+}
+
+/// The same of a block in a stream: the program and the stream tell the same of each.
+#[test]
+fn the_rest_is_not_taken_of_a_stream() {
+    let long = edge::long();
+    let lengths: Vec<usize> = long.iter().map(Vec::len).collect();
+    assert_eq!(lengths, [32_767, 32_768, 32_769, 40_000, 65_535, 32_769]);
+    let told = lines(&["many"], &run(&["corpus", "long", "0", "0"], &[]));
+    assert_eq!(told, "REFUSED 15\nREFUSED 15\nREFUSED 4\nREFUSED 4\nREFUSED 4\nREFUSED 15\n");
+    assert_eq!(told, lines(&["read"], &corpus::stream(&long)));
+    assert_eq!(told, long.iter().map(|block| lines(&[], block)).collect::<String>());
 }
 
 #[test]

@@ -1,14 +1,16 @@
 -- The theorems of the block format. What is within the limits, written, reads back; what is accepted is within the limits and is the one
 -- block of what it holds; no block begins another.
-use mathlib.Core.Bool.{Bool, false}
+use mathlib.Core.Bool.{Bool, false, cond}
 use mathlib.Core.List.{List, _++_, append-assoc}
 use mathlib.Core.Path.{_≡_, sym, ap, _∙_}
 use Prim.Native.Nat.{ℕ, _+_, _-_, _*_, _≤_, _<_}
 use native.Mathlib.Decide.{decLt}
 use native.Mathlib.Nat.{add-zero}
 use native.Mathlib.Omega.{arith}
+use lib.Dec.{ltb}
 use lib.ListN.{length, take, drop, replicate, length-append, length-drop}
 use lib.Seq.{take-append-le}
+use borrow.Author.Tests.{lt-ltb, le-ltb}
 use Rattle.rules.specs.Formula.{Node, leaf, allOf, anyOf, before, alone, nodes}
 use Rattle.rules.specs.Bits.{unpack, bytesFor}
 use Rattle.rules.specs.Block.{NumberedAtom, Block, Stream, refused, read, headField, readBlock, writeBody, blockLength, writeHead, writeBlock}
@@ -167,9 +169,9 @@ cut-behind-head front more accepted some five =
 
 -- A proper prefix of an accepted block is refused: by 2 if it is shorter than the head, else by 4.
 pub no-proper-prefix : (front more : List ℕ) {block : Block} {s : Stream} → readBlock (front ++ more) ≡ read block s → 0 < length more
-    → (number : ℕ) × (readBlock front ≡ refused number)
+    → readBlock front ≡ refused (cond (ltb (length front) 5) 2 4)
 no-proper-prefix front more accepted some = by-length (decLt (length front) 5)
   where
-    by-length : Dec (length front < 5) → (number : ℕ) × (readBlock front ≡ refused number)
-    by-length (yes short) = (2, short-refused front short)
-    by-length (no long) = (4, cut-behind-head front more accepted some (omega arith))
+    by-length : Dec (length front < 5) → readBlock front ≡ refused (cond (ltb (length front) 5) 2 4)
+    by-length (yes short) = rw (lt-ltb (length front) 5 short) (short-refused front short)
+    by-length (no long) = let five : 5 ≤ length front = omega arith in rw (le-ltb (length front) 5 five) (cut-behind-head front more accepted some five)

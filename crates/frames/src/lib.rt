@@ -1,4 +1,4 @@
-// A stream of blocks on standard input, each after its length in 2 bytes, most significant first.
+// A stream of blocks on standard input, each after its length in 2 bytes, most significant first. Of a block at most 32,768 bytes are taken.
 // What standard input gives is no promise of ours: the programs over this library hand each block to a proved function.
 ghost use mathlib.Core.Path.{_≡_};
 ghost use Prim.Native.Nat.{_≤_};
@@ -14,7 +14,7 @@ pub enum Kind {
 
 pub struct Frame {
     pub kind: Kind,
-    // how many bytes the block has; 0 if there is none
+    // how many bytes are taken of the block; 0 if there is none
     pub length: usize,
 }
 
@@ -33,9 +33,19 @@ fn wide(byte: u8) -> usize
     byte as usize
 }
 
+// "It reads at most 32,768 bytes of a block": how many of so many.
+fn taken(length: usize) -> usize
+    ensures { λ r. ⌜ (r ≤ length) × (r ≤ 32768) ⌝ }
+{
+    if length < 32768 {
+        return length;
+    }
+    32768
+}
+
 // Reads the next frame into the start of `block`. A block that `block` has no room for counts as cut off.
 pub fn next(block: &mut [u8]) -> Frame
-    ensures { λ r. ⌜ r .length ≤ length (now (block .exit)) ⌝ }
+    ensures { λ r. ⌜ (r .length ≤ length (now (block .exit))) × (r .length ≤ 32768) ⌝ }
 {
     let mut head = [0u8; 2];
     let got = io::read_full(STDIN_FILENO, &mut head);
@@ -55,6 +65,6 @@ pub fn next(block: &mut [u8]) -> Frame
     }
     Frame {
         kind: Kind::Block,
-        length: length,
+        length: taken(length),
     }
 }

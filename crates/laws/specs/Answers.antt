@@ -8,18 +8,19 @@ use Prim.Native.Nat.{ℕ}
 use native.Mathlib.Omega.{arith}
 use lib.Dec.{leb}
 use lib.ListN.{length}
-use Rattle.rules.specs.Formula.{atoms}
+use Rattle.rules.specs.Polynomial.{Atom}
+use Rattle.rules.specs.Formula.{Node, atoms}
 use Rattle.rules.specs.Block.{Block, Stream, Reading, refused, read, readBlock, writeBlock}
-use Rattle.rules.specs.Answer.{Answer, refusal, formulaOf, simplified, newBlock, countsOf, answerTo, unlessShort, answer}
-use Rattle.rules.specs.Meaning.{holdsAt}
-use Rattle.rules.specs.Demands.{readHolds, SameLifts, NeverLonger}
+use Rattle.rules.specs.Answer.{Answer, refusal, answered, formulaOf, simplified, newBlock, countsOf, answerTo, unlessShort, answer}
+use Rattle.rules.specs.Meaning.{holdsAt, Choice, wholeNumbers, holdsOver}
+use Rattle.rules.specs.Demands.{readHolds, SameLifts, SameWholeLifts, NeverLonger}
 use Rattle.block_laws.specs.Blocks.{reads-back, block-accepted, accepted-within}
 use Rattle.block_laws.specs.Sizes.{length-block}
 use Rattle.level_laws.specs.Rules.{verdict-always, verdict-unsatisfiable}
 use Rattle.level_laws.specs.Written.{newBlock-keeps}
 use Rattle.length_laws.specs.NeverLonger.{never-longer}
 use Rattle.length_laws.specs.NewWithin.{new-within}
-use Rattle.laws.specs.Readings.{respected}
+use Rattle.laws.specs.Fractions.{respected-over, whole-holds}
 
 -- ---- An accepted block.
 
@@ -28,13 +29,13 @@ module _ (bytes : List ℕ) {given : Block} {stream : Stream} (accepted : readBl
   pub answer-reads-back : (left : Stream) × (readBlock (writeBlock (newBlock given)) ≡ read (newBlock given) left)
   answer-reads-back = reads-back (newBlock given) (new-within given (accepted-within bytes accepted))
 
-  -- At every choice of whole numbers the answer, read back, holds exactly when the block does; ALWAYS and UNSATISFIABLE are right there.
+  -- At every choice of fractions the answer, read back, holds exactly when the block does; ALWAYS and UNSATISFIABLE are right there.
   pub same-lifts-of : SameLifts (read given stream) (answerTo (read given stream))
-  unfolding SameLifts answerTo readHolds holdsAt simplified
-  same-lifts-of readings many = (
-    ap (readHolds readings) (answer-reads-back .1) ∙ ap some (newBlock-keeps given (respected readings many)),
-    verdict-always (respected readings many) (formulaOf given),
-    verdict-unsatisfiable (respected readings many) (formulaOf given),
+  unfolding SameLifts answerTo readHolds holdsOver simplified
+  same-lifts-of choice = (
+    ap (readHolds (holdsOver choice)) (answer-reads-back .1) ∙ ap some (newBlock-keeps given (respected-over choice)),
+    verdict-always (respected-over choice) (formulaOf given),
+    verdict-unsatisfiable (respected-over choice) (formulaOf given),
   )
 
   -- No more atoms, polynomials or bytes.
@@ -63,8 +64,8 @@ unfolding answer
 by-answer P room bytes on-refusal on-accepted =
     by-room P (leb (length bytes) room) (answerTo (readBlock bytes)) (on-refusal 1) (by-reading P (readBlock bytes) on-refusal on-accepted)
 
--- Demand 3: for each choice of whole numbers the answer holds exactly when the original holds; UNSATISFIABLE only if nothing satisfies the original,
--- ALWAYS only if all does.
+-- Demand 3: for each choice of fractions with a common denominator the answer holds exactly when the original holds; UNSATISFIABLE only if nothing
+-- satisfies the original, ALWAYS only if all does.
 pub same-lifts : (room : ℕ) (bytes : List ℕ) → SameLifts (readBlock bytes) (answer room bytes)
 unfolding SameLifts
 same-lifts room bytes = by-answer (SameLifts (readBlock bytes)) room bytes (refused-same (readBlock bytes))
@@ -72,6 +73,27 @@ same-lifts room bytes = by-answer (SameLifts (readBlock bytes)) room bytes (refu
   where
     refused-same : (reading : Reading Block) (number : ℕ) → SameLifts reading (refusal number)
     refused-same reading number = tt
+
+-- Whole numbers are a case of this: what is promised at every choice of fractions is promised at every choice of whole numbers.
+pub at-whole-numbers : (given : Reading Block) (a : Answer) → SameLifts given a → SameWholeLifts given a
+unfolding SameLifts SameWholeLifts readHolds
+at-whole-numbers given (refusal number) same = tt
+at-whole-numbers (refused number) (answered verdict bytes counts) same = same
+at-whole-numbers (read given stream) (answered verdict bytes counts) same = λ readings many.
+    let whole : (tree : Node Atom) → holdsOver (wholeNumbers readings many) tree ≡ holdsAt readings tree = whole-holds readings many in
+    let at-one = same (wholeNumbers readings many) in (
+      sym (read-alike (readBlock bytes) whole) ∙ at-one .0 ∙ ap some (whole (formulaOf given)),
+      λ e. sym (whole (formulaOf given)) ∙ at-one .1 e,
+      λ e. sym (whole (formulaOf given)) ∙ at-one .2 e,
+    )
+  where
+    read-alike : {truth other : Node Atom → Bool} (reading : Reading Block) → ((tree : Node Atom) → truth tree ≡ other tree)
+        → readHolds truth reading ≡ readHolds other reading
+    read-alike (refused number) same = refl
+    read-alike (read block stream) same = ap some (same (formulaOf block))
+
+pub same-whole-lifts : (room : ℕ) (bytes : List ℕ) → SameWholeLifts (readBlock bytes) (answer room bytes)
+same-whole-lifts room bytes = at-whole-numbers (readBlock bytes) (answer room bytes) (same-lifts room bytes)
 
 -- Demand 3: the answer never has more atoms, more polynomials or more bytes than the block it came from.
 pub never-longer-answer : (room : ℕ) (bytes : List ℕ) → NeverLonger bytes (answer room bytes)

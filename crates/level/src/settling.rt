@@ -119,7 +119,7 @@ fn settle(
     let mut stage = Stage {
         atoms: n,
         ors: m,
-        over: false,
+        over: false, // no turn is taken yet
     };
     while !stage.over {
         stage = turn(

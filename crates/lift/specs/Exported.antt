@@ -9,7 +9,7 @@ use lib.Dec.{ltb, lit≤}
 use lib.ListN.{length}
 use borrow.Author.Tests.{lt-ltb, le-ltb}
 use Rattle.rules.specs.Answer as book
-use Rattle.rules.specs.Answer.{filledPart, isRefusal, answer}
+use Rattle.rules.specs.Answer.{written, filledPart, isRefusal, answer}
 use Rattle.answer.specs.declared.Verdict.{Verdict}
 use Rattle.answer.specs.declared.Verdict.the-variants.{Formula, Always, Unsatisfiable}
 use Rattle.answer.specs.declared.Counts.{Counts}
@@ -35,6 +35,21 @@ exported (book.answered verdict bytes counts) = verdictNumber verdict * 65536 + 
 unfoldable pub counted : book.Answer → book.Counts
 counted (book.refusal number) = record { atoms-in = 0; atoms-out = 0; polynomials-in = 0; polynomials-out = 0 }
 counted (book.answered verdict bytes counts) = counts
+
+-- ---- what the functions for C say: the number that is returned, the output's bytes and the counts, from the bytes and the output before
+
+abbrev pub ExportsAnswer : List ℕ → List ℕ → List ℕ → ℕ → Type 0
+ExportsAnswer bytes before after r = let given = answer (length before) bytes in (r ≡ exported given) × (after ≡ written given before)
+
+abbrev pub ExportsLength : List ℕ → List ℕ → List ℕ → ℕ → Type 0
+ExportsLength bytes before after r = let given = answer (length before) bytes in (r ≡ length (filledPart given)) × (after ≡ written given before)
+
+abbrev pub ExportsCounts : List ℕ → List ℕ → List ℕ → ℕ → ℕ → ℕ → ℕ → ℕ → Type 0
+ExportsCounts bytes before after r atoms-in atoms-out polynomials-in polynomials-out =
+    let given = answer (length before) bytes in
+    (r ≡ exported given) × (after ≡ written given before)
+    × (atoms-in ≡ counted given .atoms-in) × (atoms-out ≡ counted given .atoms-out)
+    × (polynomials-in ≡ counted given .polynomials-in) × (polynomials-out ≡ counted given .polynomials-out)
 
 -- ---- the same over what the first entry returns
 

@@ -4,3 +4,5 @@ pub mod Bounds
 pub mod Part
 pub mod Exported
 pub mod Lines
+pub mod OneResult
+pub mod ShutOut

@@ -2,7 +2,7 @@
 -- text's bytes are determined by the input and by what was lent.
 use mathlib.Core.Path.{_≡_, sym, ap, _∙_, subst}
 use mathlib.Core.List.{List, _++_}
-use Prim.Native.Nat.{ℕ, _<_, _≤_}
+use Prim.Native.Nat.{ℕ, _+_, _*_, _<_, _≤_}
 use native.Mathlib.Omega.{arith}
 use lib.ListN.{length, take, drop, length-append}
 use lib.Seq.{take-append-seam, length-take-le}
@@ -10,6 +10,8 @@ use borrow.Author.Tests.{le-leb}
 use Rattle.rules.specs.Answer as book
 use Rattle.rules.specs.Answer.{written, filledPart}
 use Rattle.rules.specs.Report.{report}
+use Rattle.rules.specs.Demands.{NeverLonger}
+use Rattle.laws.specs.Answers.{never-longer-answer}
 use Rattle.lines.specs.Parts.{refusal-long, line-long, lines-long}
 use Rattle.answer.specs.declared.Verdict.{Verdict}
 use Rattle.answer.specs.declared.Counts.{Counts}
@@ -35,20 +37,37 @@ lines-most : (a : book.Answer) → Bounded a → length (report a) ≤ 38082
 lines-most (book.refusal number) bounded = omega (arith, refusal-long number)
 lines-most (book.answered verdict bytes counts) (by-block head longest) = omega (arith, lines-long verdict bytes counts, line-long verdict counts)
 
--- A text of 38,082 bytes has room for the lines of every answer,
-pub lines-fit : (room : ℕ) (bytes : List ℕ) → length (report (book.answer room bytes)) ≤ 38082
-lines-fit room bytes = lines-most (book.answer room bytes) (answer-bounded room bytes)
+lines-within : (bytes : List ℕ) (a : book.Answer) → NeverLonger bytes a → length (report a) ≤ 3 * length bytes + 32
+unfolding NeverLonger
+lines-within bytes (book.refusal number) short = omega (arith, refusal-long number)
+lines-within bytes (book.answered verdict new counts) short = omega (arith, short .2, lines-long verdict new counts, line-long verdict counts)
 
--- so that all of them are told there.
-pub reports-all : {bytes before after text text-after : List ℕ} {n : ℕ} → Reports bytes before after text text-after n → 38082 ≤ length text
-    → take n text-after ≡ report (book.answer (length before) bytes)
-unfolding told toldLength
-reports-all {bytes} {before} {after} {text} {text-after} {n} r room =
-    let lines = report (book.answer (length before) bytes) in
-    let fits : length lines ≤ length text = omega (arith, lines-fit (length before) bytes) in
-    let all : n ≡ length lines = rw (le-leb (length lines) (length text) fits) at (r .lines .returns) in
-    let whole : text-after ≡ lines ++ drop (length lines) text = rw (le-leb (length lines) (length text) fits) at (r .lines .text) in
-    rw (all, whole) (take-append-seam lines (drop (length lines) text))
+module _ (room : ℕ) (bytes : List ℕ) where
+  -- A text of 38,082 bytes has room for the lines of every answer;
+  pub lines-fit : length (report (book.answer room bytes)) ≤ 38082
+  lines-fit = lines-most (book.answer room bytes) (answer-bounded room bytes)
+
+  -- so has one of three bytes for each byte of the input and 32 more, PLACARDPAN_TEXT in include/placardpan.h: the new block is never longer.
+  pub lines-fit-input : length (report (book.answer room bytes)) ≤ 3 * length bytes + 32
+  lines-fit-input = lines-within bytes (book.answer room bytes) (never-longer-answer room bytes)
+
+module _ {bytes before after text text-after : List ℕ} {n : ℕ} (r : Reports bytes before after text text-after n) where
+  -- Where there is room for them all of the lines are told,
+  pub reports-whole : length (report (book.answer (length before) bytes)) ≤ length text → take n text-after ≡ report (book.answer (length before) bytes)
+  unfolding told toldLength
+  reports-whole fits =
+      let lines = report (book.answer (length before) bytes) in
+      let all : n ≡ length lines = rw (le-leb (length lines) (length text) fits) at (r .lines .returns) in
+      let whole : text-after ≡ lines ++ drop (length lines) text = rw (le-leb (length lines) (length text) fits) at (r .lines .text) in
+      rw (all, whole) (take-append-seam lines (drop (length lines) text))
+
+  -- so in a text of 38,082 bytes,
+  pub reports-all : 38082 ≤ length text → take n text-after ≡ report (book.answer (length before) bytes)
+  reports-all room = reports-whole (omega (arith, lines-fit (length before) bytes))
+
+  -- and in one of PLACARDPAN_TEXT.
+  pub reports-all-input : 3 * length bytes + 32 ≤ length text → take n text-after ≡ report (book.answer (length before) bytes)
+  reports-all-input room = reports-whole (omega (arith, lines-fit-input (length before) bytes))
 
 -- ---- the answer by cases
 
@@ -57,7 +76,8 @@ unfolding answerOf
 is-refusal (book.refusal number) e = cc
 is-refusal (book.answered verdict bytes counts) e = absurd (let z : _≡_ {A = ℕ} 0 1 = cc in omega arith)
 
-is-answer : (a : book.Answer) {verdict : Verdict} {size : ℕ} {counts : Counts} → answerOf a ≡ Answered verdict size counts
+-- What is returned as an answer is the book's answer, with the filled part for its bytes.
+pub is-answer : (a : book.Answer) {verdict : Verdict} {size : ℕ} {counts : Counts} → answerOf a ≡ Answered verdict size counts
     → a ≡ book.answered (verdictIn verdict) (filledPart a) (countsIn counts)
 unfolding answerOf filledPart
 is-answer (book.refusal number) e = absurd (let z : _≡_ {A = ℕ} 0 1 = cc in omega arith)

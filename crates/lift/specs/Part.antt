@@ -15,6 +15,11 @@ use Rattle.answer.specs.Answered.{answerOf, lengthIn}
 use Rattle.lift.specs.Bounds.{Bounded, by-block, answer-bounded}
 use Rattle.answer.specs.Entry.{Answers}
 
+-- What the second entry says of the part that it gives back: its bytes, that it begins where the output does, and when it is empty.
+abbrev pub Fills : List ℕ → List ℕ → ℕ × ℕ → List ℕ → ℕ × ℕ → Type 0
+Fills bytes before start part at =
+    let given = answer (length before) bytes in (part ≡ filledPart given) × (at ≡ start) × (eqb (length part) 0 ≡ isRefusal given)
+
 empty-if-bounded : (a : book.Answer) → Bounded a → eqb (length (filledPart a)) 0 ≡ isRefusal a
 unfolding filledPart isRefusal
 empty-if-bounded (book.refusal number) bounded = refl

@@ -2,10 +2,8 @@
 // `specs/Exported.antt` has the number for each case of the book's answer.
 ghost use mathlib.Core.Path.{_≡_};
 ghost use Prim.Native.Nat.{_<_};
-ghost use lib.ListN.{length};
-ghost use Rattle.rules.specs.Answer.{written, filledPart, answer};
 ghost use Rattle.answer.specs.Answered.{lengthIn};
-ghost use Rattle.lift.specs.Exported.{exported, counted, packedOf, numberIn, countsOrZero};
+ghost use Rattle.lift.specs.Exported.{packedOf, numberIn, countsOrZero, ExportsAnswer, ExportsLength, ExportsCounts};
 ghost use Rattle.lift.specs.Lines.{Reports};
 use crate::Answer;
 use crate::Counts;
@@ -63,8 +61,7 @@ fn counts_or_zero(answer: Answer) -> Counts
 // `simplify`: below 256 the refusal's number, else the verdict and the length.
 #[no_mangle]
 pub extern "C" fn placardpan_simplify(input: &[u8], output: &mut [u8]) -> u32
-    ensures { λ r. let given = answer (length (now (output .entry))) (now (input .entry)) in
-        ⌜ (r ≡ exported given) × (now (output .exit) ≡ written given (now (output .entry))) ⌝ }
+    ensures { λ r. ⌜ ExportsAnswer (now (input .entry)) (now (output .entry)) (now (output .exit)) r ⌝ }
 {
     let given = simplify(input, output);
     number_in(given)
@@ -73,8 +70,7 @@ pub extern "C" fn placardpan_simplify(input: &[u8], output: &mut [u8]) -> u32
 // `simplified`: the filled part is the output's start, and this its length, 0 exactly on refusal.
 #[no_mangle]
 pub extern "C" fn placardpan_simplified(input: &[u8], output: &mut [u8]) -> usize
-    ensures { λ r. let given = answer (length (now (output .entry))) (now (input .entry)) in
-        ⌜ (r ≡ length (filledPart given)) × (now (output .exit) ≡ written given (now (output .entry))) ⌝ }
+    ensures { λ r. ⌜ ExportsLength (now (input .entry)) (now (output .entry)) (now (output .exit)) r ⌝ }
 {
     length_in(simplify(input, output))
 }
@@ -89,10 +85,8 @@ pub extern "C" fn placardpan_counted(
     polynomials_in: &mut usize,
     polynomials_out: &mut usize,
 ) -> u32
-    ensures { λ r. let given = answer (length (now (output .entry))) (now (input .entry)) in
-        ⌜ (r ≡ exported given) × (now (output .exit) ≡ written given (now (output .entry)))
-        × (now («atoms_in» .exit) ≡ counted given .atoms-in) × (now («atoms_out» .exit) ≡ counted given .atoms-out)
-        × (now («polynomials_in» .exit) ≡ counted given .polynomials-in) × (now («polynomials_out» .exit) ≡ counted given .polynomials-out) ⌝ }
+    ensures { λ r. ⌜ ExportsCounts (now (input .entry)) (now (output .entry)) (now (output .exit)) r
+        (now («atoms_in» .exit)) (now («atoms_out» .exit)) (now («polynomials_in» .exit)) (now («polynomials_out» .exit)) ⌝ }
 {
     let given = simplify(input, output);
     let counts = counts_or_zero(given);

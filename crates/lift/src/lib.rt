@@ -1,14 +1,14 @@
 // The public entries: a lift condition block is read, simplified and written again; `report` tells the program's lines of it.
 // 01, "Refusal numbers": a refusal leaves before anything is written.
 ghost use mathlib.Core.Path.{_≡_};
-ghost use lib.Dec.{eqb};
 ghost use lib.ListN.{length};
 ghost use denote.Ref.{ptr};
 ghost use Rattle.rules.specs.Block.{readBlock};
-ghost use Rattle.rules.specs.Answer.{filledPart, isRefusal, answer};
+ghost use Rattle.rules.specs.Answer.{answer};
 ghost use Rattle.rules.specs.Demands.{SameLifts, NeverLonger};
 ghost use Rattle.answer.specs.Answered.{lengthIn};
 ghost use Rattle.answer.specs.Entry.{Answers};
+ghost use Rattle.lift.specs.Part.{Fills};
 ghost use Rattle.lift.specs.Lines.{Reports};
 
 mod exported; // the entries for C
@@ -79,8 +79,7 @@ fn length_in(answer: Answer) -> usize
 
 // The second entry: "gives back the filled part of the lent output itself, empty exactly on refusal".
 pub fn simplified<'a>(input: &[u8], output: &'a mut [u8]) -> &'a mut [u8]
-    ensures { λ r. let given = answer (length (now (output .entry))) (now (input .entry)) in
-        ⌜ (now r ≡ filledPart given) × (ptr r ≡ ptr (output .entry)) × (eqb (length (now r)) 0 ≡ isRefusal given) ⌝ }
+    ensures { λ r. ⌜ Fills (now (input .entry)) (now (output .entry)) (ptr (output .entry)) (now r) (ptr r) ⌝ }
 {
     let filled = length_in(simplify(input, output));
     &mut output[..filled]

@@ -8,6 +8,7 @@ use crate::settle::rounds;
 use crate::start::start;
 use ahead::no_order;
 use round::State;
+use signs::SignSet;
 use table::Atoms;
 use terms::Board;
 
@@ -60,7 +61,7 @@ pub fn run(
 {
     let nothing = Board {
         variables,
-        sets: [0; 16],
+        sets: [SignSet::EMPTY.0; 16],
     };
     let begin = narrowed(
         coefficient,

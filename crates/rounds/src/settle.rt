@@ -13,6 +13,7 @@ use crate::Counted;
 use round::State;
 use round::list::many;
 use round::round::round;
+use signs::SignSet;
 use terms::few;
 
 // Whether one of the first n sets is empty.
@@ -24,7 +25,7 @@ fn any_empty(sets: &[u8], n: usize) -> bool
     while i < n {
         let set = sets[i];
         i += 1;
-        if set == 0 {
+        if set == SignSet::EMPTY.0 {
             return true;
         }
     }

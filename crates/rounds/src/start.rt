@@ -58,7 +58,7 @@ pub fn start(
     let end = many(list.count);
     let mut board = Board {
         variables,
-        sets: [7; 16],
+        sets: [SignSet::FULL.0; 16],
     };
     let mut atoms = Atoms {
         count: 0,

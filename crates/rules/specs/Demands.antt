@@ -1,5 +1,6 @@
--- Demand 3, as definitions: "for each accepted block and each choice of whole numbers for its variables, the answer holds exactly when the original
--- holds", and "the answer never has more atoms, more polynomials or more bytes than the block it came from". The laws are in crate laws.
+-- Demand 3, as definitions: "for each choice of numerators and one common denominator above 0" (request #101, of which whole numbers are a case) the
+-- answer holds exactly when the original holds, and "the answer never has more atoms, more polynomials or more bytes than the block it came from".
+-- The laws are in crate laws.
 use mathlib.Core.Path.{_≡_}
 use mathlib.Core.Bool.{Bool, true, false}
 use mathlib.Core.List.{List}
@@ -9,21 +10,34 @@ use lib.IntN.{ℤ}
 use lib.ListN.{length}
 use Rattle.rules.specs.Block.{Block, Reading, refused, read, readBlock}
 use Rattle.rules.specs.Answer.{Answer, refusal, answered, formula, always, unsatisfiable, formulaOf}
-use Rattle.rules.specs.Meaning.{holdsAt}
+use Rattle.rules.specs.Polynomial.{Atom}
+use Rattle.rules.specs.Formula.{Node}
+use Rattle.rules.specs.Meaning.{Choice, holdsAt, holdsOver}
 
--- Whether what was read holds at the readings; none if it was refused.
-unfoldable pub readHolds : List ℤ → Reading Block → Option Bool
-readHolds readings (refused number) = none
-readHolds readings (read block stream) = some (holdsAt readings (formulaOf block))
+-- Whether what was read holds, by some way to tell of a formula whether it does; none if it was refused.
+unfoldable pub readHolds : (Node Atom → Bool) → Reading Block → Option Bool
+readHolds truth (refused number) = none
+readHolds truth (read block stream) = some (truth (formulaOf block))
 
--- The answer's bytes read back as a block that holds exactly when the given block holds; "UNSATISFIABLE" is answered only if no choice satisfies the
--- original, "ALWAYS" only if all do. A refusal answers nothing; bytes that are refused are never answered otherwise.
+-- "Old and new formula agree there too": at each choice of fractions the answer's bytes read back as a block that holds exactly when the given block
+-- holds; "UNSATISFIABLE" is answered only if no choice satisfies the original, "ALWAYS" only if all do. A refusal answers nothing; bytes that are
+-- refused are never answered otherwise.
 unfoldable pub SameLifts : Reading Block → Answer → Type 0
 SameLifts given (refusal number) = Unit {0}
 SameLifts (refused number) (answered verdict bytes counts) = ⊥
 SameLifts (read given stream) (answered verdict bytes counts) =
+    (choice : Choice (given .variables)) →
+    (readHolds (holdsOver choice) (readBlock bytes) ≡ some (holdsOver choice (formulaOf given)))
+    × (verdict ≡ always → holdsOver choice (formulaOf given) ≡ true)
+    × (verdict ≡ unsatisfiable → holdsOver choice (formulaOf given) ≡ false)
+
+-- "The whole-number statement becomes the case of denominator 1": the same at each choice of whole numbers.
+unfoldable pub SameWholeLifts : Reading Block → Answer → Type 0
+SameWholeLifts given (refusal number) = Unit {0}
+SameWholeLifts (refused number) (answered verdict bytes counts) = ⊥
+SameWholeLifts (read given stream) (answered verdict bytes counts) =
     (readings : List ℤ) → length readings ≡ given .variables →
-    (readHolds readings (readBlock bytes) ≡ some (holdsAt readings (formulaOf given)))
+    (readHolds (holdsAt readings) (readBlock bytes) ≡ some (holdsAt readings (formulaOf given)))
     × (verdict ≡ always → holdsAt readings (formulaOf given) ≡ true)
     × (verdict ≡ unsatisfiable → holdsAt readings (formulaOf given) ≡ false)
 

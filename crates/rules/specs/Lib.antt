@@ -12,3 +12,4 @@ pub mod Report
 pub mod Meaning
 pub mod Demands
 pub mod Cases
+pub mod Tenths

@@ -1,2 +1,2 @@
 pub mod Remainder
-pub mod Tabulated
+pub mod Values

@@ -7,7 +7,8 @@ use Rattle.read_vectors.proofs.one.Tie as tie
 
 slice-aggregate-read : tie.Need-slice-aggregate-read
 slice-aggregate-read c =
-    sym (length-take-le (c .before .before .before .before .before .next .result .length) (c .before .before .before .before .before .next .last .0) (c .before .before .before .before .before .next .ensures))
+    let read = c .before .before .before .before .before .next in
+    sym (length-take-le (read .result .length) (read .last .0) (read .ensures .0))
 
 pub one-spec : {M : Type 1} → statement M
 one-spec =

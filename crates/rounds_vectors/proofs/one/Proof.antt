@@ -8,7 +8,7 @@ use Rattle.rounds_vectors.proofs.one.Tie as tie
 slice-aggregate-tell : tie.Need-slice-aggregate-tell
 slice-aggregate-tell c =
     let read = c .before .before .before .before .before .next in
-    sym (length-take-le (read .result .length) (read .last .0) (read .ensures))
+    sym (length-take-le (read .result .length) (read .last .0) (read .ensures .0))
 
 pub one-spec : {M : Type 1} → statement M
 one-spec =

@@ -1,19 +1,21 @@
--- `SignSet::product` meets its contract: the digits of the table are the rule's, by one computed test.
+-- `SignSet::product` meets its contract: the formulas have the rule's 64 values.
 use borrow.Author.Needs.{needs}
 use mathlib.Core.Path.{refl, _∙_}
-use Prim.Native.Nat.{ℕ}
 use Rattle.rules.specs.Signs.{product, open-signs}
-use Rattle.signs.specs.Digits.{digits, digitOf}
-use Rattle.signs.proofs.Remainder.{product-remainder}
-use Rattle.signs.proofs.Tabulated.{of-two}
+use Rattle.signs.specs.ThreeBits.{threeBits, setWith}
+use Rattle.signs.proofs.Remainder.{bits-of, product-remainder}
+use Rattle.signs.proofs.Values.{at-two}
 use Rattle.signs.proofs.SignSet.product.Statement.{statement}
 use Rattle.signs.proofs.SignSet.product.Tie as tie
 
 returns : tie.Need-returns
-unfolding open-signs
+unfolding open-signs threeBits setWith
 returns c =
-    let a = c .before .before .before .before .args in
-    c .digit .ensures ∙ rw (c .before .before .products .ensures) (of-two (λ (x y : ℕ). digitOf (digits (product x)) y) product refl product-remainder (a .self .0) (a .other .0))
+    let m = c .before .before .before .before .before .before .before .before .before .before .before .before .before in
+    let a = m .before .before .args .self .0 in
+    let b = m .before .before .args .other .0 in
+    c .set-of .ensures ∙
+    at-two product product-remainder a b (λ x y e d So so. rw (bits-of a x (m .before .bits .ensures) e, bits-of b y (m .bits2 .ensures) d) at so) refl
 
 pub product-spec : {M : Type 1} → statement M
-product-spec = tie.close (tie.spec (λ c κs. search needs) (λ c κs. search needs) returns)
+product-spec = tie.close (tie.spec (λ c κs. search needs) (λ c κs. search needs) (λ c κs. search needs) returns)
