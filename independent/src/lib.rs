@@ -54,3 +54,6 @@ pub mod search;
 
 // A formula as other solvers read it
 pub mod smt;
+
+// Loading that a power cut cannot hurt
+pub mod loading;

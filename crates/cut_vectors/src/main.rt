@@ -1,8 +1,6 @@
 // Cuts of loads, through the real check at the start: a stream of frames, an area and then a block for each load.
 // For each write, and each of the 256 values in its place, it is told whether the old block starts, the new one, none, or another; then the same
 // after loads that were begun again on a torn image and cut a second time.
-ghost use Prim.Native.Nat.{_≤_};
-ghost use lib.ListN.{length};
 use libc::STDOUT_FILENO;
 use loading::Loaded;
 use loading::first_write;
@@ -111,35 +109,60 @@ fn cuts(tally: Tally, image: &mut [u8], block: &[u8], old: &[u8], steps: usize) 
     counted
 }
 
+// The bytes of one list into another of the same length.
+fn copy(from: &[u8], to: &mut [u8]) {
+    let mut i = 0;
+    while i < to.len() {
+        put(to, i, byte_at(from, i));
+        i += 1;
+    }
+}
+
+fn byte_at(from: &[u8], i: usize) -> u8 {
+    if i < from.len() {
+        return from[i];
+    }
+    0
+}
+
+fn put(to: &mut [u8], i: usize, byte: u8) {
+    if i < to.len() {
+        to[i] = byte;
+    }
+}
+
 // A load begun again on the image that a cut in write k left, with four values of its byte, and cut a second time.
-fn again_in(tally: Tally, image: [u8; 4096], n: usize, block: &[u8], old: &[u8], k: usize) -> Tally
-    requires { ⌜ n ≤ 4096 ⌝ }
-{
-    let at = place(block.len(), k) % 4096;
+fn again_in(
+    tally: Tally,
+    image: &[u8],
+    torn: &mut [u8],
+    block: &[u8],
+    old: &[u8],
+    k: usize,
+) -> Tally {
+    let at = place(block.len(), k);
     let mut counted = tally;
     let mut v: usize = 0;
     while v < 256 {
-        let mut torn = image;
-        torn[at] = (v % 256) as u8;
-        counted = cuts(counted, &mut torn[..n], block, old, 84);
+        copy(image, torn);
+        put(torn, at, (v % 256) as u8);
+        counted = cuts(counted, torn, block, old, 84);
         v += 85;
     }
     counted
 }
 
-fn again(tally: Tally, area: [u8; 4096], n: usize, block: &[u8], old: &[u8]) -> Tally
-    requires { ⌜ n ≤ 4096 ⌝ }
-{
+// The same for a first cut in each write of a load of this block.
+fn again(tally: Tally, image: &mut [u8], torn: &mut [u8], block: &[u8], old: &[u8]) -> Tally {
     let size = block.len();
-    let mut image = area;
     let mut counted = tally;
-    let mut k = first_write(&image[..n]);
+    let mut k = first_write(image);
     while k < size {
-        counted = again_in(counted, image, n, block, old, k);
-        step(&mut image[..n], block, k);
+        counted = again_in(counted, image, torn, block, old, k);
+        step(image, block, k);
         k += 1;
     }
-    again_in(counted, image, n, block, old, size)
+    again_in(counted, image, torn, block, old, size)
 }
 
 fn print_count(word: &[u8], n: u64) {
@@ -156,35 +179,45 @@ fn print(tally: Tally) {
 }
 
 // One load: the area, with the block in it that starts, and the block that is loaded. A line for one cut, a line for two.
-fn one(area: [u8; 4096], n: usize, block: &[u8])
-    requires { ⌜ n ≤ 4096 ⌝ }
-{
-    let mut image = area;
-    let begun = area;
-    let old = loading::started(&area[..n]);
-    print(cuts(nothing(), &mut image[..n], block, old, 0));
-    print(again(nothing(), begun, n, block, old));
+fn one(area: &[u8], image: &mut [u8], torn: &mut [u8], block: &[u8]) {
+    let old = loading::started(area);
+    copy(area, image);
+    print(cuts(nothing(), image, block, old, 0));
+    copy(area, image);
+    print(again(nothing(), image, torn, block, old));
 }
 
 // The next load of the stream; whether there may be more.
-fn load() -> bool {
-    let mut area = [0u8; 4096];
-    let mut block = [0u8; 4096];
-    let frame = frames::next(&mut area);
-    let given = frames::next(&mut block);
-    let n = frame.length;
-    let m = given.length;
-    if n == 0 || m == 0 {
+fn load(space: &mut [u8], given: &mut [u8], image: &mut [u8], torn: &mut [u8]) -> bool {
+    let area = frames::next(space);
+    let n = area.length;
+    let block = frames::next(given);
+    let m = block.length;
+    if m == 0 {
         return false;
     }
-    one(area, n, &block[..m]);
+    if image.len() < n {
+        return false;
+    }
+    if torn.len() < n {
+        return false;
+    }
+    one(&space[..n], &mut image[..n], &mut torn[..n], &given[..m]);
     true
 }
 
-// A proved loop has to end: the turns are counted down from a number that no run uses up.
+// A proved loop has to end, and nothing says that standard input does: the turns are counted down from a number that no run uses up.
 fn main() {
+    let mut areas = io::large_buffer();
+    let space: &mut [u8] = &mut areas;
+    let mut blocks = io::large_buffer();
+    let given: &mut [u8] = &mut blocks;
+    let mut images = io::large_buffer();
+    let image: &mut [u8] = &mut images;
+    let mut torn_images = io::large_buffer();
+    let torn: &mut [u8] = &mut torn_images;
     let mut turns = u64::MAX;
-    while turns > 0 && load() {
+    while turns > 0 && load(space, given, image, torn) {
         turns -= 1;
     }
 }

@@ -1,57 +1,41 @@
+-- `load` hands on the area and the block that were read, and as many bytes of the two images as the area has; each lies within its buffer.
 use borrow.Author.Needs.{needs}
+use mathlib.Core.Path.{sym}
+use Prim.Native.Nat.{_≤_}
+use lib.ListN.{length}
+use lib.Seq.{length-take-le}
+use native.Mathlib.Omega.{arith}
 use Rattle.cut_vectors.proofs.load.Statement.{statement}
 use Rattle.cut_vectors.proofs.load.Tie as tie
-use Rattle.cut_vectors.proofs.load.Reads as reads
-use Rattle.cut_vectors.proofs.load.Lts as lts
-use Rattle.cut_vectors.proofs.one.Reads as one-reads
-use Rattle.frames.proofs.next.Reads as next-reads
 
--- src/main.rt:173:30
-slice-aggregate-next : tie.Need-slice-aggregate-next
-slice-aggregate-next c = search needs
+area-lent : tie.Need-slice-aggregate-one
+area-lent c =
+    let read = c .before .before .before .before .before .before .before .before .before .before .next in
+    sym (length-take-le (read .result .length) (read .last .0) (read .ensures .0))
 
--- src/main.rt:173:9
-next-requires : tie.Need-next-requires
-next-requires c κs = search needs
+image-lent : tie.Need-slice-aggregate-one-2
+image-lent c =
+    let n = c .before .before .before .before .before .before .before .before .before .before .before .next .result .length in
+    let image = c .before .before .before .before .before .before .before .before .before .before .before .before .before .before .before .before .before .args .image .now in
+    let room : n ≤ length image = omega arith in
+    sym (length-take-le n image room)
 
--- src/main.rt:174:30
-slice-aggregate-next-2 : tie.Need-slice-aggregate-next-2
-slice-aggregate-next-2 c = search needs
+torn-lent : tie.Need-slice-aggregate-one-3
+torn-lent c =
+    let n = c .before .before .before .before .before .before .before .before .before .before .before .before .next .result .length in
+    let torn = c .before .before .before .before .before .before .before .before .before .before .before .before .before .before .before .before .before .before .args .torn .now in
+    let room : n ≤ length torn = omega arith in
+    sym (length-take-le n torn room)
 
--- src/main.rt:174:9
-next-requires-2 : tie.Need-next-requires-2
-next-requires-2 c κs = search needs
-
--- src/main.rt:178:9
-returns : tie.Need-returns
-returns c = search needs
-
--- src/main.rt:180:18
-array-share-prefix-block : tie.Need-array-share-prefix-block
-array-share-prefix-block c = search needs
-
--- src/main.rt:180:18
-slice-aggregate-one : tie.Need-slice-aggregate-one
-slice-aggregate-one c = ?
-
--- src/main.rt:180:5
-one-requires : tie.Need-one-requires
-one-requires c κs = search needs
-
--- src/main.rt:170:1
-returns-2 : tie.Need-returns-2
-returns-2 c = search needs
+block-lent : tie.Need-slice-aggregate-one-4
+block-lent c =
+    let read = c .before .before .before .before .before .before .before .before .before .next2 in
+    sym (length-take-le (read .result .length) (read .last .0) (read .ensures .0))
 
 pub load-spec : {M : Type 1} → statement M
 load-spec =
     tie.close
-    (tie.spec
-    slice-aggregate-next
-    next-requires
-    slice-aggregate-next-2
-    next-requires-2
-    returns
-    array-share-prefix-block
-    slice-aggregate-one
-    one-requires
-    returns-2)
+    (tie.spec (λ c κs. search needs) (λ c κs. search needs) (λ c. search needs) (λ c. search needs) (λ c. search needs) (λ c. search needs)
+    (λ c. search needs) (λ c. search needs) (λ c. search needs) (λ c. search needs) (λ c. search needs) (λ c. search needs) area-lent (λ c. search needs)
+    image-lent (λ c. search needs) torn-lent (λ c. search needs) block-lent (λ c κs. search needs) (λ c. search needs) (λ c. search needs)
+    (λ c. search needs) (λ c. search needs) (λ c. search needs))
