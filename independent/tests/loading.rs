@@ -61,3 +61,51 @@ fn the_guard_is_refused_whatever_else_stands_there() {
         assert_eq!(&start_line(&area)[..7], "REFUSED");
     }
 }
+
+/// The numbers of a list of the book, `1 ∷ 2 ∷ []`.
+fn numbers(text: &str) -> Vec<u8> {
+    text.split(|c: char| !c.is_ascii_digit())
+        .filter(|word| !word.is_empty())
+        .map(|word| word.parse().unwrap())
+        .collect()
+}
+
+/// What the area starts, as the claims of the book's cases say it.
+fn claimed(area: &[u8]) -> String {
+    match started(area) {
+        Ok(block) => format!("starts {block:?}"),
+        Err(number) => format!("refusal {number}"),
+    }
+}
+
+/// Each claim about a cut in crates/loading_laws/specs/Cases.antt is what this reading says of that cut.
+#[test]
+fn the_cases_that_the_laws_are_tried_on() {
+    let text = std::fs::read_to_string("../crates/loading_laws/specs/Cases.antt").unwrap();
+    let list =
+        |name: &str| numbers(text.split(&format!("\n{name} = ")).nth(1).unwrap().lines().next().unwrap());
+    let mut claims = 0;
+    for line in text.lines().filter(|line| line.contains("(startOf (cutAt case")) {
+        let words: Vec<&str> = line.split("(startOf (cutAt ").nth(1).unwrap().split([' ', ')']).collect();
+        let (block, mut area) = (list(words[0]), list(words[1]));
+        let (k, value): (usize, u8) = (words[2].parse().unwrap(), words[3].parse().unwrap());
+        let left_out = usize::from(area[3] == 255);
+        if k < left_out {
+            continue;
+        }
+        let order = writes(&area, &block);
+        for &(at, byte) in &order[..k - left_out] {
+            area[at] = byte;
+        }
+        area[order[k - left_out].0] = value;
+        let claim = line.split('≡').nth(1).unwrap();
+        let found = claim.trim_start().split(' ').next().unwrap();
+        let wanted = match found {
+            "starts" => format!("starts {:?}", numbers(claim)),
+            _ => format!("refusal {}", numbers(claim)[0]),
+        };
+        assert_eq!(claimed(&area), wanted, "{line}");
+        claims += 1;
+    }
+    assert!(claims > 100);
+}
