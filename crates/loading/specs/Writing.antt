@@ -70,9 +70,11 @@ step-inside block area k at v at-is v-is = rw (at-is, v-is)
 
 pub step-outside : (block area : List ℕ) (k at : ℕ) → at ≡ place (length block) k → length area ≤ at → area ≡ step block area k
 unfolding step
-step-outside block area k at at-is outside = sym (set-out area (place (length block) k) (value block k) (subst (λ (i : ℕ). length area ≤ i) at-is outside))
+step-outside block area k at at-is outside =
+    sym (set-out area (place (length block) k) (value block k) (subst (λ (i : ℕ). length area ≤ i) at-is outside))
 
-pub image-all : (block area image : List ℕ) (k : ℕ) → image ≡ imageAfter block area k → k ≡ length block → image ≡ imageAfter block area (length block)
+pub image-all : (block area image : List ℕ) (k : ℕ) → image ≡ imageAfter block area k → k ≡ length block
+    → image ≡ imageAfter block area (length block)
 image-all block area image k is all = is ∙ ap (imageAfter block area) all
 
 pub image-next : (block area image : List ℕ) (k : ℕ) → image ≡ imageAfter block area k → step block image k ≡ imageAfter block area (k + 1)
@@ -102,7 +104,8 @@ refusal-found block number (refused other) is same = is ∙ ap refused (sym (ap 
 refusal-found block number (read holds stream) is same = absurd (true≢false (sym (ap isStarts same)))
 
 -- a length that was found is that of a block.
-length-found : (block : List ℕ) (size : ℕ) (reading : Reading Block) → readBlock block ≡ reading → Starts size ≡ found (startFrom block reading) → Read block size
+length-found : (block : List ℕ) (size : ℕ) (reading : Reading Block) → readBlock block ≡ reading → Starts size ≡ found (startFrom block reading)
+    → Read block size
 unfolding found startFrom isStarts
 length-found block size (refused other) is same = absurd (true≢false (ap isStarts same))
 length-found block size (read holds stream) is same = record { holds = holds; stream = stream; accepted = is; size-is = ap lengthIn same }
@@ -133,4 +136,5 @@ module _ (block area : List ℕ) where
       let known = length-found block size (readBlock block) refl same in
       let enough : length block ≤ length area = subst (λ (n : ℕ). n ≤ length area) (known .size-is) room in
       let answer : loadAnswer block area ≡ starts block = rw (known .accepted, le-leb (length block) (length area) enough) in
-      (ap Starts (known .size-is) ∙ sym (ap found answer), ap (imageAfter block area) (add-one (length block)) ∙ sym (ap (λ (start : Start). areaAfter start area) answer))
+      (ap Starts (known .size-is) ∙ sym (ap found answer), ap (imageAfter block area) (add-one (length block))
+      ∙ sym (ap (λ (start : Start). areaAfter start area) answer))

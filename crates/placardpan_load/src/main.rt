@@ -1,5 +1,5 @@
-// `placardpan_load AREA [sync]`: loads the block on standard input into the file AREA that stands for the memory, one byte after the other in the order
-// that a power cut cannot hurt: LOADED and the length, or REFUSED and the number. With `sync` each write is waited for. Thin over `loading`.
+// `placardpan_load AREA [sync]`: loads the block on standard input into the file AREA that stands for the memory, one byte after the other in the
+// order that a power cut cannot hurt: LOADED and the length, or REFUSED and the number. With `sync` each write is waited for. Thin over `loading`.
 use areas::open;
 use areas::print_answer;
 use areas::put_all;

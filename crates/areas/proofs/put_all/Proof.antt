@@ -14,4 +14,5 @@ abbrev μ-loop : tie.MeasureT-loop
 pub put-all-spec : {M : Type 1} → statement M
 put-all-spec =
     tie.close
-    (tie.spec Inv-loop μ-loop (λ c. tt) (λ c κs. search needs) (λ c. tt) (λ c. omega arith) (λ c. omega arith) (λ c. tt) (λ c κs. search needs) (λ c. tt))
+    (tie.spec Inv-loop μ-loop (λ c. tt) (λ c κs. search needs) (λ c. tt) (λ c. omega arith) (λ c. omega arith) (λ c. tt) (λ c κs. search needs)
+    (λ c. tt))

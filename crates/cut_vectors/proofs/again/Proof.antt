@@ -27,5 +27,6 @@ same-length-2 c = c .before .before .again-in2 .kept .1 .1 .0 ∙ c .before .bef
 pub again-spec : {M : Type 1} → statement M
 again-spec =
     tie.close
-    (tie.spec Inv-loop μ-loop (λ c κs. search needs) (λ c. (refl, refl)) (λ c κs. search needs) (λ c κs. search needs) (λ c. omega arith) (λ c. omega arith)
+    (tie.spec Inv-loop μ-loop (λ c κs. search needs) (λ c. (refl, refl)) (λ c κs. search needs) (λ c κs. search needs) (λ c. omega arith)
+    (λ c. omega arith)
     loop-again (λ c κs. search needs) same-length same-length-2 (λ c. tt))

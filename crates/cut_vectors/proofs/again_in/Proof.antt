@@ -25,5 +25,6 @@ same-length c = c .before .loop .inv
 pub again-in-spec : {M : Type 1} → statement M
 again-in-spec =
     tie.close
-    (tie.spec Inv-loop μ-loop (λ c κs. search needs) (λ c. refl) (λ c κs. search needs) (λ c. omega arith) (λ c κs. search needs) (λ c κs. search needs)
+    (tie.spec Inv-loop μ-loop (λ c κs. search needs) (λ c. refl) (λ c κs. search needs) (λ c. omega arith) (λ c κs. search needs)
+    (λ c κs. search needs)
     (λ c. omega arith) (λ c. omega arith) loop-again same-length (λ c. tt))

@@ -25,5 +25,6 @@ same-length c = let l = c .before .loop in length-set (l .image) (c .before .bef
 pub cut-in-spec : {M : Type 1} → statement M
 cut-in-spec =
     tie.close
-    (tie.spec Inv-loop μ-loop (λ c κs. search needs) (λ c. tt) (λ c. search needs) (λ c. (omega arith, refl)) (λ c. search needs) (λ c. omega arith) (λ c κs. search needs)
+    (tie.spec Inv-loop μ-loop (λ c κs. search needs) (λ c. tt) (λ c. search needs) (λ c. (omega arith, refl)) (λ c. search needs) (λ c. omega arith)
+    (λ c κs. search needs)
     (λ c. omega arith) (λ c. omega arith) (λ c. omega arith) loop-again (λ c. omega arith) same-length (λ c. tt))

@@ -53,9 +53,11 @@ returns c =
     let looping = walking .before .before .before in
     let a = looping .before .before .before .before .before .args in
     walking .step2 .ensures ∙ image-next (a .block .now) (a .area .now) (looping .loop .area) (length (a .block .now))
-    (image-all (a .block .now) (a .area .now) (looping .loop .area) (looping .loop .k) (looping .loop .inv .0) (omega (arith, looping .loop .inv .1, walking .before .before .loop-test)))
+    (image-all (a .block .now) (a .area .now) (looping .loop .area) (looping .loop .k) (looping .loop .inv .0)
+    (omega (arith, looping .loop .inv .1, walking .before .before .loop-test)))
 
 pub write-all-spec : {M : Type 1} → statement M
 write-all-spec =
     tie.close
-    (tie.spec Inv-loop μ-loop (λ c κs. search needs) loop-holds (λ c κs. search needs) add-k loop-less loop-again (λ c κs. search needs) same-length returns)
+    (tie.spec Inv-loop μ-loop (λ c κs. search needs) loop-holds (λ c κs. search needs) add-k loop-less loop-again
+    (λ c κs. search needs) same-length returns)
