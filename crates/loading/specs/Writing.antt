@@ -135,6 +135,8 @@ module _ (block area : List ℕ) where
   whole-load size same room =
       let known = length-found block size (readBlock block) refl same in
       let enough : length block ≤ length area = subst (λ (n : ℕ). n ≤ length area) (known .size-is) room in
-      let answer : loadAnswer block area ≡ starts block = rw (known .accepted, le-leb (length block) (length area) enough) in
-      (ap Starts (known .size-is) ∙ sym (ap found answer), ap (imageAfter block area) (add-one (length block))
-      ∙ sym (ap (λ (start : Start). areaAfter start area) answer))
+      let answer : loadAnswer block area ≡ starts block = rw (known .accepted, le-leb (length block) (length area) enough) in (
+        ap Starts (known .size-is) ∙ sym (ap found answer),
+        ap (imageAfter block area) (add-one (length block))
+            ∙ sym (ap (λ (start : Start). areaAfter start area) answer),
+      )

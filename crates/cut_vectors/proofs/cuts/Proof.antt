@@ -16,12 +16,12 @@ abbrev μ-loop : tie.MeasureT-loop
 loop-again : tie.Need-loop-again Inv-loop μ-loop
 loop-again c =
     c .before .before .step .kept .0 ∙ c .before .before .before .before .before .before .cut-in .kept .1 .0
-        ∙ c .before .before .before .before .before .before .before .before .before .loop .inv
+    ∙ c .before .before .before .before .before .before .before .before .before .loop .inv
 
 same-length : tie.Need-same-length Inv-loop μ-loop
 same-length c =
     c .before .before .step2 .kept .0 ∙ c .before .before .before .before .before .before .cut-in2 .kept .1 .0
-        ∙ c .before .before .before .before .before .before .before .before .before .loop .inv
+    ∙ c .before .before .before .before .before .before .before .before .before .loop .inv
 
 pub cuts-spec : {M : Type 1} → statement M
 cuts-spec =

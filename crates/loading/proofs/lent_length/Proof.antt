@@ -17,7 +17,7 @@ returns-2 c =
     let first = c .before .before .before .before .before in
     let a = first .before .before .args in
     let said = said-is (a .area .now) (high .result) (low .result) (omega (arith, first .if1 .left)) (high .ensures .0) (low .ensures .0)
-        (high .ensures .1) (low .ensures .1) in
+    (high .ensures .1) (low .ensures .1) in
     lent-all (a .area .now) (λ five. omega (arith, five, said, c .if2 .taken))
 
 returns-3 : tie.Need-returns-3
@@ -27,7 +27,7 @@ returns-3 c =
     let first = c .before .before .before .before .before .before in
     let a = first .before .before .args in
     let said = said-is (a .area .now) (high .result) (low .result) (omega (arith, first .if1 .left)) (high .ensures .0) (low .ensures .0)
-        (high .ensures .1) (low .ensures .1) in
+    (high .ensures .1) (low .ensures .1) in
     lent-all (a .area .now) (λ five. omega (arith, five, said, c .if3 .taken))
 
 returns-4 : tie.Need-returns-4
@@ -37,7 +37,7 @@ returns-4 c =
     let first = c .before .before .before .before .before .before in
     let a = first .before .before .args in
     let said = said-is (a .area .now) (high .result) (low .result) (omega (arith, first .if1 .left)) (high .ensures .0) (low .ensures .0)
-        (high .ensures .1) (low .ensures .1) in
+    (high .ensures .1) (low .ensures .1) in
     lent-said (a .area .now) _ said (omega (arith, c .before .if2 .left)) (omega (arith, c .if3 .left))
 
 mul-said : tie.Need-mul-said

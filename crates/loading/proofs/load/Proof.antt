@@ -43,7 +43,7 @@ returns-3 c =
     let reading = chosen .before .before in
     let a = reading .before .before .before .args in
     let whole = whole-load (a .block .now) (a .area .now) _ (sym (chosen .answer2 .given .1)
-        ∙ reading .accepted .ensures) (omega (arith, tested .if1 .left)) in
+    ∙ reading .accepted .ensures) (omega (arith, tested .if1 .left)) in
     (whole .0, writing .write-all .ensures ∙ whole .1)
 
 pub load-spec : {M : Type 1} → statement M

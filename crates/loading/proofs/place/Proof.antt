@@ -17,13 +17,13 @@ returns-3 : tie.Need-returns-3
 returns-3 c =
     let a = c .before .before .before .args in
     place-before (a .size) (a .k) (λ first. omega (arith, first, c .before .before .if1 .left)) (λ last. omega (arith, last, c .before .if2 .left))
-        (omega (arith, c .if3 .taken))
+    (omega (arith, c .if3 .taken))
 
 returns-4 : tie.Need-returns-4
 returns-4 c =
     let a = c .before .before .before .args in
     place-from (a .size) (a .k) (λ first. omega (arith, first, c .before .before .if1 .left)) (λ last. omega (arith, last, c .before .if2 .left))
-        (omega (arith, c .if3 .left))
+    (omega (arith, c .if3 .left))
 
 pub place-spec : {M : Type 1} → statement M
 place-spec = tie.close (tie.spec returns returns-2 (λ c. search needs) returns-3 returns-4)
