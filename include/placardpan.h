@@ -102,6 +102,26 @@ enum {
 
 uint32_t placardpan_evaluate(const uint8_t *input, size_t input_length, const int32_t *readings, size_t count);
 
+/* ---- Loading that a power cut cannot hurt: the functions of libloading.a; docs/LOADING.md says what is proved of them. */
+
+/* The check at the start: below 256 the number of the refusal, else 65,536 plus the length of the block that starts, which is the area's first bytes.
+ * placardpan_refusal and placardpan_length take it apart. Start nothing that is refused. */
+uint32_t placardpan_start(const uint8_t *area, size_t area_length);
+
+/* The order of the writes of a load of a block of size bytes: they are 0 to size. Write 0 puts 255 into byte 3 and is left out if that stands there
+ * already; the last puts the block's own byte 3. A driver makes the writes from placardpan_first_write on, one after the other, and waits for its
+ * memory after each: write k puts placardpan_value(block, size, k) into byte placardpan_place(size, k). */
+size_t placardpan_first_write(const uint8_t *area, size_t area_length);
+size_t placardpan_place(size_t size, size_t k);
+uint8_t placardpan_value(const uint8_t *block, size_t size, size_t k);
+
+/* Write k: the area is as it was but for that one byte; past the area's end nothing is written. */
+void placardpan_step(uint8_t *area, size_t area_length, const uint8_t *block, size_t size, size_t k);
+
+/* Loads a block into an area that is plain memory: below 256 the number of the block's own refusal, or 1 if the area is shorter than the block, and
+ * the area is unchanged; else 65,536 plus the length, every write was made in order, and the area is the block and then its old bytes. */
+uint32_t placardpan_load(const uint8_t *block, size_t size, uint8_t *area, size_t area_length);
+
 #ifdef __cplusplus
 }
 #endif

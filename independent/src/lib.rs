@@ -60,3 +60,6 @@ pub mod smt;
 
 // Request #102: a block run on readings
 pub mod evaluate;
+
+// Loading that a power cut cannot hurt
+pub mod loading;

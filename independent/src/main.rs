@@ -7,12 +7,12 @@ use std::process::ExitCode;
 use independent::answer::{answer, read_report, report, MOST_READ};
 use independent::cases::{cases, later_cases};
 use independent::count::work_of;
-use independent::{bench, block, book, check, corpus, edge, engine, evaluate, search, smt, uses};
+use independent::{bench, block, book, check, corpus, edge, engine, evaluate, loading, search, smt, uses};
 
 const USAGE: &str =
-    "usage: independent [many | read | describe | deductions | lists | evaluations | live FILE | count | repeat | smt | bench NAME |\n\
+    "usage: independent [many | read | describe | deductions | lists | evaluations | live FILE | loads | load | start | count | repeat | smt | bench NAME |\n\
                     corpus KIND SEED COUNT | book SEED COUNT | check SEED COUNT]\n\
-     KIND is valid, damaged, trees, uses, edge, long, cases, later, deductions, points, lists, evaluations or candidates\n";
+     KIND is valid, damaged, trees, uses, edge, long, cases, later, deductions, points, lists, evaluations, loads or candidates\n";
 
 fn main() -> ExitCode {
     let arguments: Vec<String> = std::env::args().skip(1).collect();
@@ -26,6 +26,9 @@ fn main() -> ExitCode {
         ["lists"] => each_block(|_, block| engine::list_line(block)),
         ["live", file] => live(file),
         ["evaluations"] => each_block(|_, frame| evaluate::frame_line(frame)),
+        ["loads"] => each_load(loading::lines),
+        ["load"] => each_load(loading::load_line),
+        ["start"] => each_block(|_, area| loading::start_line(area)),
         ["count"] => each_block(|_, block| count_line(block)),
         ["bench", name] => write_bench(name),
         ["repeat"] => repeat(),
@@ -92,6 +95,23 @@ fn each_block(lines: fn(usize, &[u8]) -> String) -> io::Result<ExitCode> {
     Ok(ExitCode::SUCCESS)
 }
 
+/// The lines for each load of a stream, two frames each: an area and the block that is loaded into it.
+fn each_load(lines: fn(&[u8], &[u8]) -> String) -> io::Result<ExitCode> {
+    let mut input = vec![];
+    io::stdin().lock().read_to_end(&mut input)?;
+    let mut frames = vec![];
+    let mut rest = &input[..];
+    while let [upper, lower, behind @ ..] = rest {
+        let (frame, next) = behind.split_at(usize::from(*upper) * 256 + usize::from(*lower));
+        frames.push(frame);
+        rest = next;
+    }
+    for load in frames.chunks_exact(2) {
+        io::stdout().write_all(lines(load[0], load[1]).as_bytes())?;
+    }
+    Ok(ExitCode::SUCCESS)
+}
+
 fn write_corpus(kind: &str, seed: u64, count: usize) -> io::Result<ExitCode> {
     let blocks = match kind {
         "valid" => corpus::valid(seed, count),
@@ -105,6 +125,7 @@ fn write_corpus(kind: &str, seed: u64, count: usize) -> io::Result<ExitCode> {
         "long" => edge::long(),
         "deductions" => engine::deductions(seed, count),
         "lists" => engine::lists(seed, count),
+        "loads" => loading::corpus(),
         "candidates" => (seed..seed + count as u64).map(|k| block::write(&search::candidate(k))).collect(),
         "evaluations" => evaluate::corpus(seed, count),
         "cases" => cases().iter().map(|case| block::write(&case.formula)).collect(),

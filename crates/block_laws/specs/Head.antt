@@ -132,7 +132,7 @@ begins bytes five =
 -- ---- The first five bytes.
 
 -- A field that ends within the first bytes is read from them alone.
-field-of-front : (front more : List ℕ) (from k : ℕ) → from + k ≤ 8 * length front → headField (front ++ more) from k ≡ headField front from k
+pub field-of-front : (front more : List ℕ) (from k : ℕ) → from + k ≤ 8 * length front → headField (front ++ more) from k ≡ headField front from k
 unfolding headField
 field-of-front front more from k inside =
     let all : length (unpack front) ≡ 8 * length front = length-unpack front in

@@ -1,0 +1,3 @@
+pub mod Started
+pub mod Writing
+pub mod Exported
