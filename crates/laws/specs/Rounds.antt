@@ -17,9 +17,9 @@ use Rattle.rules.specs.Level.{Formula, dual, atomsOf, orsOf, Entry, fails, join
 use Rattle.rules.specs.Level.{andRule, orRule, gather}
 use Rattle.rules.specs.Count.{runCount, removalCount, CountAgain, sweepCount, outcomeCount, tidyCount, settleCount, settledCount, unlessFails, gatherCount}
 use Rattle.rules.specs.Count.{gatheredCount, ruleCount, mostRounds}
-use Rattle.rules.specs.Block.{Block}
+use Rattle.rules.specs.Block.{Block, Reading, refused, read, readBlock}
 use Rattle.rules.specs.Limits.{BlockWithin}
-use Rattle.rules.specs.Answer.{formulaOf}
+use Rattle.rules.specs.Answer.{formulaOf, roundsOf}
 use Rattle.sign_laws.specs.Booleans.{never-both}
 use Rattle.sign_laws.specs.Lists.{Every, every-none, every, every-append, every-wider}
 use Rattle.level_laws.specs.Same.{same-itself}
@@ -35,6 +35,7 @@ use Rattle.length_laws.specs.RoundsKeep.{OutcomeFormed, contradicts, settles, r
 use Rattle.length_laws.specs.LevelKeeps.{EntryFormed, WalkFormed, it-falls, are-still, have-moved, TidiedFormed, is-broken, is-tidied, sweep-formed, tidy-formed, gather-formed}
 use Rattle.length_laws.specs.LevelKeeps.{enter-result, rule-keeps}
 use Rattle.length_laws.specs.Blocks.{formsOf, own-form, tree-given}
+use Rattle.block_laws.specs.Blocks.{accepted-within}
 
 -- ---- A list without a polynomial twice has at most as many atoms as there are forms.
 
@@ -191,3 +192,12 @@ rounds-at-most given h =
 -- At most 161.
 pub rounds-at-most-161 : (given : Block) → BlockWithin given → mostRounds (given .variables) (formulaOf given) ≤ 161
 rounds-at-most-161 given h = omega (arith, rounds-at-most given h, h .variables, h .polynomials)
+
+-- For every byte string: an accepted block's number is at most 161, and a refusal's is 0.
+pub few-rounds : (bytes : List ℕ) → roundsOf (readBlock bytes) ≤ 161
+unfolding roundsOf
+few-rounds bytes = by-reading (readBlock bytes) refl
+  where
+    by-reading : (reading : Reading Block) → readBlock bytes ≡ reading → roundsOf reading ≤ 161
+    by-reading (refused number) e = zero-le
+    by-reading (read given stream) e = rounds-at-most-161 given (accepted-within bytes e)
