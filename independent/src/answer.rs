@@ -2,6 +2,7 @@
 //! Document 01, "Refusal numbers", "A level" (the new block) and "The program"; document 02, #103.
 
 use crate::block::{read, write, Formula, Refusal};
+use crate::count::with_longest_run;
 use crate::level::simplify;
 use crate::polynomial::Polynomial;
 use crate::tree::Node;
@@ -20,6 +21,8 @@ pub struct Answer {
     pub original: Formula,
     pub simplified: Formula,
     pub bytes: Vec<u8>,
+    /// Request #108: the rounds of the longest run, 0 if there was none.
+    pub rounds: usize,
 }
 
 /// "It reads at most 32,768 bytes of a block on standard input"
@@ -32,9 +35,9 @@ pub fn answer(input: &[u8], output_length: usize) -> Result<Answer, Refusal> {
         return Err(1);
     }
     let original = read(input)?;
-    let (verdict, simplified) = simplify_formula(&original);
+    let ((verdict, simplified), rounds) = with_longest_run(|| simplify_formula(&original));
     let bytes = write(&simplified);
-    Ok(Answer { verdict, original, simplified, bytes })
+    Ok(Answer { verdict, original, simplified, bytes, rounds })
 }
 
 /// The verdict and the new formula.
@@ -101,6 +104,15 @@ pub fn report(input: &[u8]) -> String {
                 pairs.join(" ")
             )
         }
+    }
+}
+
+/// Request #108: the same lines, and one more that has the rounds of the longest run; none on refusal.
+pub fn report_with_rounds(input: &[u8]) -> String {
+    let lines = report(input);
+    match answer(&input[..input.len().min(MOST_READ)], MOST_READ) {
+        Err(_) => lines,
+        Ok(answer) => format!("{lines}ROUNDS {}\n", answer.rounds),
     }
 }
 

@@ -43,19 +43,21 @@ use Rattle.rules.specs.Deduce.{open-deduce}
 use Rattle.rules.specs.Rounds.{open-rounds}
 use Rattle.rules.specs.Formula.{open-formula}
 use Rattle.rules.specs.Level.{open-level}
+use Rattle.rules.specs.Count.{open-count}
 use Rattle.rules.specs.Bits.{open-bits}
-use Rattle.rules.specs.Block.{open-block}
-use Rattle.rules.specs.Answer.{Answer, refusal, answered, formula, always, unsatisfiable, answer, open-answer}
+use Rattle.rules.specs.Block.{readBlock, open-block}
+use Rattle.rules.specs.Answer.{Answer, refusal, answered, formula, always, unsatisfiable, answer, roundsOf, open-answer}
 
 pub record Example : Type 0 where
   pub given : List ℕ
   pub gives : Answer
+  pub takes : ℕ
 ";
 
 fn claim(number: usize, blocks: &[Vec<u8>]) -> String {
     let mut text = format!("\nunfoldable pub examples-{number} : List Example\nexamples-{number} =\n");
     for block in blocks {
-        text += &format!("    record {{ given = {}; gives = {} }} ∷\n", bytes(block), gives(block));
+        text += &format!("    record {{ given = {}; gives = {}; takes = {} }} ∷\n", bytes(block), gives(block), takes(block));
     }
     text += "    []\n\n";
     text += &format!(
@@ -64,8 +66,20 @@ fn claim(number: usize, blocks: &[Vec<u8>]) -> String {
     text += &format!(
         "unfolding open-signs open-polynomial open-deduce open-rounds open-formula open-level open-bits open-block open-answer examples-{number}\n"
     );
-    text += &format!("agrees-{number} = refl\n");
+    text += &format!("agrees-{number} = refl\n\n");
+    text += &format!(
+        "pub counts-{number} : map (λ (e : Example). roundsOf (readBlock (e .given))) examples-{number} ≡ map (λ (e : Example). e .takes) examples-{number}\n"
+    );
+    text += &format!(
+        "unfolding open-signs open-polynomial open-deduce open-rounds open-formula open-level open-count open-bits open-block open-answer examples-{number}\n"
+    );
+    text += &format!("counts-{number} = refl\n");
     text
+}
+
+/// Request #108: the rounds of the longest run, 0 on refusal.
+fn takes(block: &[u8]) -> usize {
+    answer(block, block.len()).map_or(0, |answer| answer.rounds)
 }
 
 fn gives(block: &[u8]) -> String {

@@ -1,4 +1,4 @@
-//! How much work an answer takes: deductions made and rounds begun, over all runs of the rounds.
+//! How much work an answer takes: deductions made and rounds begun, over all runs of the rounds, and the rounds of the longest run.
 //! A deduction counts when L and U are looked at: q's set is none of empty, ≠ and full.
 
 use std::cell::Cell;
@@ -6,6 +6,7 @@ use std::cell::Cell;
 thread_local! {
     static DEDUCTIONS: Cell<u64> = const { Cell::new(0) };
     static ROUNDS: Cell<u64> = const { Cell::new(0) };
+    static LONGEST: Cell<usize> = const { Cell::new(0) };
 }
 
 #[derive(Clone, Copy, Debug, Default, PartialEq, Eq)]
@@ -20,6 +21,19 @@ pub fn a_deduction() {
 
 pub fn a_round() {
     ROUNDS.with(|count| count.set(count.get() + 1));
+}
+
+/// A run of the rounds that has ended, and how many rounds it began.
+pub fn a_run(rounds: usize) {
+    LONGEST.with(|longest| longest.set(longest.get().max(rounds)));
+}
+
+/// Request #108: what a call gives, with "the largest number of rounds that one run of the rounds took, a round
+/// that finds a contradiction or no change being counted, and 0 if there was no run".
+pub fn with_longest_run<T>(call: impl FnOnce() -> T) -> (T, usize) {
+    LONGEST.with(|longest| longest.set(0));
+    let result = call();
+    (result, LONGEST.with(Cell::get))
 }
 
 /// The work done in a call.

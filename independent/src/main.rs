@@ -4,13 +4,13 @@
 use std::io::{self, Read, Write};
 use std::process::ExitCode;
 
-use independent::answer::{answer, read_report, report, MOST_READ};
+use independent::answer::{answer, read_report, report, report_with_rounds, MOST_READ};
 use independent::cases::{cases, later_cases};
 use independent::count::work_of;
 use independent::{bench, block, book, check, corpus, edge, engine, evaluate, loading, search, smt, uses};
 
 const USAGE: &str =
-    "usage: independent [many | read | describe | deductions | lists | evaluations | live FILE | loads | load | start | count | repeat | smt | bench NAME |\n\
+    "usage: independent [rounds | many [rounds] | read | describe | deductions | lists | evaluations | live FILE | loads | load | start | count | repeat | smt | bench NAME |\n\
                     corpus KIND SEED COUNT | book SEED COUNT | check SEED COUNT]\n\
      KIND is valid, damaged, trees, uses, edge, long, cases, later, deductions, points, lists, evaluations, loads or candidates\n";
 
@@ -18,8 +18,10 @@ fn main() -> ExitCode {
     let arguments: Vec<String> = std::env::args().skip(1).collect();
     let words: Vec<&str> = arguments.iter().map(String::as_str).collect();
     let outcome = match words[..] {
-        [] => program(),
+        [] => program(report),
+        ["rounds"] => program(report_with_rounds),
         ["many"] => each_block(|_, block| report(block)),
+        ["many", "rounds"] => each_block(|_, block| report_with_rounds(block)),
         ["read"] => each_block(|_, block| read_report(block)),
         ["describe"] => each_block(|index, block| format!("{index} {}", read_report(block))),
         ["deductions"] => each_block(|_, block| engine::deduction_line(block)),
@@ -63,10 +65,10 @@ fn usage() -> io::Result<ExitCode> {
 
 /// "It reads at most 32,768 bytes of a block on standard input (no accepted block is as long; the rest is
 /// not read)"
-fn program() -> io::Result<ExitCode> {
+fn program(lines: fn(&[u8]) -> String) -> io::Result<ExitCode> {
     let mut input = vec![];
     io::stdin().lock().take(MOST_READ as u64).read_to_end(&mut input)?;
-    io::stdout().write_all(report(&input).as_bytes())?;
+    io::stdout().write_all(lines(&input).as_bytes())?;
     Ok(ExitCode::SUCCESS)
 }
 

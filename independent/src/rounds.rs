@@ -49,6 +49,7 @@ pub fn run_rounds(n: usize, atoms: &[Atom<Polynomial>]) -> AfterRounds {
             }
         }
     }
+    count::a_run(list.rounds);
     // A variable atom's cut set is its variable's.
     for atom in &mut list.atoms {
         if let Some(i) = atom.poly.variable() {

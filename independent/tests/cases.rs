@@ -1,11 +1,13 @@
 //! Cases A to N of document 01 and the later ones of document 02: each formula's result, and case A's exact bytes and printed lines.
 //! The blocks of the cases are read and answered as bytes.
 
-use independent::answer::{answer, report, Verdict};
-use independent::block::{read, write};
+use independent::answer::{answer, report, report_with_rounds, Verdict};
+use independent::block::{read, write, Formula};
 use independent::cases::{cases, later_cases};
 use independent::level::in_normal_form;
+use independent::polynomial::Polynomial;
 use independent::rounds::run_rounds;
+use independent::signs::SignSet;
 use independent::tree::{Atom, Node};
 
 /// "Input ... (case A) prints"
@@ -62,4 +64,40 @@ fn case_n_takes_several_rounds() {
     assert!(after.rounds >= 4, "{} rounds", after.rounds);
     let signs: Vec<u64> = after.board.iter().map(|set| set.to_bits()).collect();
     assert_eq!(signs, [1, 1, 1], "x, y and z are positive");
+}
+
+/// Request #108: the largest number of rounds that one run took, for cases A to N in order. In H the fresh run of
+/// step 5 over x-1 ≥ 0 alone takes 2.
+#[test]
+fn each_case_takes_its_rounds() {
+    let taken: Vec<usize> = cases()
+        .iter()
+        .map(|case| {
+            let block = write(&case.formula);
+            answer(&block, block.len()).unwrap().rounds
+        })
+        .collect();
+    assert_eq!(taken, [1, 1, 2, 1, 1, 1, 2, 2, 1, 1, 1, 2, 4]);
+}
+
+/// "one line more at the end", none on refusal.
+#[test]
+fn the_rounds_stand_on_a_line_of_their_own() {
+    assert_eq!(report_with_rounds(&CASE_A), format!("{CASE_A_LINES}ROUNDS 1\n"));
+    assert_eq!(report_with_rounds(&CASE_A[..4]), "REFUSED 2\n");
+}
+
+/// "0 exactly if there was no run": a root atom with the empty set, and x > 0 AND x < 0.
+#[test]
+fn without_a_run_there_are_no_rounds() {
+    let of = |node| {
+        let table = vec![Polynomial::of_variable(1, 0)];
+        let block = write(&Formula { variables: 1, table, tree: node });
+        answer(&block, block.len()).unwrap().rounds
+    };
+    let x = |bits| Node::Atom(Atom { poly: 0, set: SignSet::from_bits(bits) });
+    assert_eq!(of(x(0)), 0);
+    assert_eq!(of(Node::And(vec![x(1), x(4)])), 0);
+    assert_eq!(of(x(7)), 1, "a run over a list with no atoms has one round");
+    assert_eq!(of(x(1)), 1);
 }

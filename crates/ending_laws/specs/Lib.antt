@@ -4,6 +4,7 @@ pub mod FirstRound
 pub mod Rounds
 pub mod AtOnce
 pub mod Turns
+pub mod Counts
 pub mod Nestings
 pub mod Shapes
 pub mod Gcd

@@ -20,12 +20,12 @@ use Rattle.rules.specs.Answer.{formulaOf, simplified, newBlock}
 use Rattle.rules.specs.Meaning.{holdsAt, wholeNumbers, holdsOver}
 use Rattle.rules.specs.Evaluate.{steps, allFit, partsFit, someIf, evaluateBy, within, fits64}
 use Rattle.sign_laws.specs.Booleans.{and-intro, and-first, and-second}
-use Rattle.normal_laws.specs.Shape.{normalForm}
+use Rattle.normal_laws.specs.Shape.{normalForm, normalForm-twice}
 use Rattle.level_laws.specs.Written.{newBlock-keeps, new-formula}
 use Rattle.length_laws.specs.Alternation.{Join, AND, OR, Alternates, no-parts, an-atom, an-and, an-or, TreeAlternates, one-atom, one-and, one-or, tree-alone}
 use Rattle.length_laws.specs.Formed.{Given, Formed}
 use Rattle.length_laws.specs.LevelKeeps.{simplify-keeps}
-use Rattle.length_laws.specs.Blocks.{formsOf, own-form, tree-given}
+use Rattle.length_laws.specs.Blocks.{formsOf, tree-given}
 use Rattle.laws.specs.Fractions.{respected-over, whole-holds}
 use Rattle.evaluate_laws.specs.Scaled.{normalForm-near, normalForm-fits}
 
@@ -37,13 +37,17 @@ polynomialsOf (atom a rest) = a .polynomial ∷ polynomialsOf rest
 polynomialsOf (and kids rest) = polynomialsOf kids ++ polynomialsOf rest
 polynomialsOf (or kids rest) = polynomialsOf kids ++ polynomialsOf rest
 
+-- A normal form of one of these is its own normal form.
+own-form : (all : List Polynomial) (p : Polynomial) → Member p (formsOf all) → normalForm p ≡ p
+own-form all p m = let (q, k, e) = member-of-map normalForm all m in ap normalForm (sym e) ∙ normalForm-twice q ∙ e
+
 -- The atoms of a tree have normal forms of these.
 given-by : (all : List Polynomial) {forms : List Polynomial} {join : Join} {d : ℕ} {f : Parts Atom} → Alternates (Given forms) join d f
     → ((p : Polynomial) → Member p (polynomialsOf f) → Member p all) → Alternates (Given (formsOf all)) join d f
 unfolding polynomialsOf
 given-by all no-parts k = no-parts
 given-by all (an-atom {a = a} h hs) k =
-    an-atom (record { small = h .small; form = member-mapped normalForm (k (a .polynomial) (here refl)) }) (given-by all hs (λ p m. k p (later m)))
+    an-atom (record { small = h .small; form = λ h. member-mapped normalForm (k (a .polynomial) (here refl)) }) (given-by all hs (λ p m. k p (later m)))
 given-by all (an-and {kids = kids} {rest = rest} h hs) k =
     an-and (given-by all h (λ p m. k p (append-left (polynomialsOf rest) m))) (given-by all hs (λ p m. k p (append-right (polynomialsOf kids) m)))
 given-by all (an-or {kids = kids} {rest = rest} h hs) k =
@@ -51,7 +55,7 @@ given-by all (an-or {kids = kids} {rest = rest} h hs) k =
 
 tree-given-by : {forms : List Polynomial} {tree : Node Atom} → TreeAlternates (Given forms) 5 tree → TreeAlternates (Given (formsOf (polynomialsOf (alone tree)))) 5 tree
 unfolding polynomialsOf open-formula
-tree-given-by (one-atom {a} h) = one-atom (record { small = h .small; form = member-mapped normalForm {l = a .polynomial ∷ []} (here refl) })
+tree-given-by (one-atom {a} h) = one-atom (record { small = h .small; form = λ k. member-mapped normalForm {l = a .polynomial ∷ []} (here refl) })
 tree-given-by (one-and {kids} h) = one-and (given-by (polynomialsOf kids ++ []) h (λ p m. append-left [] m))
 tree-given-by (one-or {kids} h) = one-or (given-by (polynomialsOf kids ++ []) h (λ p m. append-left [] m))
 

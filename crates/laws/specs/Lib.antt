@@ -1,3 +1,4 @@
 pub mod Readings
 pub mod Fractions
+pub mod Rounds
 pub mod Answers

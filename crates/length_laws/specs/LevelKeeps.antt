@@ -31,12 +31,12 @@ pub data Result (forms : List Polynomial) (d : ℕ) : Formula → Type 0 where
   false-result : Result forms d (or end end)
   result : {f : Formula} → Alternates (Formed forms) AND d f → Result forms d f
 
-data EntryFormed (forms : List Polynomial) (d : ℕ) : Entry → Type 0 where
+pub data EntryFormed (forms : List Polynomial) (d : ℕ) : Entry → Type 0 where
   it-fails : EntryFormed forms d fails
   it-joins : {l : List Atom} {ors : List Formula} → Every (Formed forms) l → Every (Child (Formed forms) d) ors → EntryFormed forms d (joins l ors)
   it-stays : {f : Formula} → Child (Formed forms) d f → EntryFormed forms d (stays f)
 
-data WalkFormed (forms : List Polynomial) (d : ℕ) : Walk → Type 0 where
+pub data WalkFormed (forms : List Polynomial) (d : ℕ) : Walk → Type 0 where
   it-falls : WalkFormed forms d falls
   are-still : {ors : List Formula} → Every (Child (Formed forms) d) ors → WalkFormed forms d (still ors)
   have-moved : {l : List Atom} {ors : List Formula} → Every (Formed forms) l → Every (Child (Formed forms) d) ors → WalkFormed forms d (moved l ors)
@@ -45,7 +45,7 @@ data PrunedFormed (forms : List Polynomial) (d : ℕ) : Option Formula → Type 
   dropped : PrunedFormed forms d none
   left : {f : Formula} → Alternates (Formed forms) OR d f → PrunedFormed forms d (some f)
 
-data TidiedFormed (forms : List Polynomial) : Tidied → Type 0 where
+pub data TidiedFormed (forms : List Polynomial) : Tidied → Type 0 where
   is-broken : TidiedFormed forms broken
   is-tidied : {l : List Atom} → Every (Formed forms) l → TidiedFormed forms (tidied l)
 
@@ -80,7 +80,7 @@ module _ {forms : List Polynomial} where
   add-formed (it-stays f) (are-still later) = are-still (every f later)
   add-formed (it-stays f) (have-moved m later) = have-moved m (every f later)
 
-  gather-formed : {d : ℕ} (rule : Formula → Formula) → ((f : Formula) → Child (Given forms) d f → EntryFormed forms d (enter (rule f)))
+  pub gather-formed : {d : ℕ} (rule : Formula → Formula) → ((f : Formula) → Child (Given forms) d f → EntryFormed forms d (enter (rule f)))
       → {ors : List Formula} → Every (Child (Given forms) d) ors → WalkFormed forms d (gather rule ors)
   unfolding gather
   gather-formed rule h every-none = are-still every-none
@@ -113,7 +113,7 @@ module _ {forms : List Polynomial} where
   addPruned-formed dropped walk = walk
   addPruned-formed (left f) walk = add-formed (enter-formed f) walk
 
-  sweep-formed : (n : ℕ) (st : State) {d : ℕ} {ors : List Formula} → Every (Child (Formed forms) d) ors → WalkFormed forms d (sweep n st ors)
+  pub sweep-formed : (n : ℕ) (st : State) {d : ℕ} {ors : List Formula} → Every (Child (Formed forms) d) ors → WalkFormed forms d (sweep n st ors)
   unfolding sweep
   sweep-formed n st every-none = are-still every-none
   sweep-formed n st (every (child h) later) = addPruned-formed (prune-formed n st h) (sweep-formed n st later)
@@ -166,7 +166,7 @@ module _ {forms : List Polynomial} where
   afterMerging-formed is-broken = is-broken
   afterMerging-formed (is-tidied h) = withoutFull-formed h
 
-  tidy-formed : {l : List Atom} → Every (Given forms) l → TidiedFormed forms (tidy l)
+  pub tidy-formed : {l : List Atom} → Every (Given forms) l → TidiedFormed forms (tidy l)
   unfolding tidy
   tidy-formed h = afterMerging-formed (merge-formed every-none h)
 
@@ -234,7 +234,7 @@ module _ {forms : List Polynomial} where
     -- ---- The rules.
 
     -- An OR child that the OR rule made: "false" complemented is true, and joins as nothing.
-    enter-result : {d : ℕ} {f : Formula} → Result forms d f → EntryFormed forms (suc d) (enter (dual f))
+    pub enter-result : {d : ℕ} {f : Formula} → Result forms d f → EntryFormed forms (suc d) (enter (dual f))
     unfolding enter dual open-formula joinsIf atomsOf orsOf
     enter-result false-result = it-joins every-none every-none
     enter-result (result h) = enter-formed (alternates-dual formed-complemented h)

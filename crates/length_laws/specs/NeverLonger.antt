@@ -60,7 +60,7 @@ new-nodes given =
 -- ---- The table.
 
 -- The formula of a block within the limits: atoms in polynomials of the table, AND and OR alternating.
-formula-given : (given : Block) → BlockWithin given → TreeAlternates (Given (formsOf (given .table))) 5 (formulaOf given)
+pub formula-given : (given : Block) → BlockWithin given → TreeAlternates (Given (formsOf (given .table))) 5 (formulaOf given)
 unfolding formulaOf
 formula-given given h = tree-given (given .table) (given .tree) (h .tree)
 

@@ -41,7 +41,7 @@ carriedOne-length (some i) board a cut k more h = ap suc (h cut)
 carriedOne-length none board a [] k more h = ap suc (h [])
 carriedOne-length none board a (c ∷ cut) k more h = ap suc (h cut)
 
-carried-length : (n : ℕ) (board : Board) (l cut : List Atom) → length (carried n board l cut) ≡ length l
+pub carried-length : (n : ℕ) (board : Board) (l cut : List Atom) → length (carried n board l cut) ≡ length l
 unfolding carried
 carried-length n board [] cut = refl
 carried-length n board (a ∷ l) cut =

@@ -1,1 +1,2 @@
 pub mod NormalFirst
+pub mod Counts

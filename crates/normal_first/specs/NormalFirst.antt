@@ -10,7 +10,7 @@ use Rattle.rules.specs.Signs.{SignSet, setOf, mirrorOfSign, complement, mirror}
 use Rattle.rules.specs.Polynomial.{Polynomial, Atom, divided, firstIsNegative, turned, normal, constant}
 use Rattle.rules.specs.Formula.{Parts, end, atom, and, or, Node, leaf, allOf, anyOf, before, eachAtom, eachAtomOf, alone}
 use Rattle.rules.specs.Level.{Formula, complemented, dual, dualNode, atomsOf, orsOf, Walk, falls, still, moved, add, enter, gather, Tidied, mergeNormal, merge}
-use Rattle.rules.specs.Level.{afterMerging, tidy, afterTidy, settle, innerAll, settled-down, afterGather, andRule, asNode, simplify}
+use Rattle.rules.specs.Level.{afterMerging, tidy, afterTidy, settle, innerAll, settled-down, afterGather, andRule, orRule, asNode, simplify}
 use Rattle.rules.specs.Block.{Block}
 use Rattle.rules.specs.Limits.{BlockWithin}
 use Rattle.rules.specs.Answer.{lookedUp, formulaOf, simplified}
@@ -43,7 +43,7 @@ dual-normal (or kids rest) = ap₂ and (dual-normal kids) (dual-normal rest)
 
 -- ---- Step 2 brings normal forms to themselves.
 
-merge-normal : (l new later : List Atom) → merge l (map normal new ++ later) ≡ merge l (new ++ later)
+pub merge-normal : (l new later : List Atom) → merge l (map normal new ++ later) ≡ merge l (new ++ later)
 unfolding merge
 merge-normal l [] later = refl
 merge-normal l (a ∷ new) later =
@@ -66,7 +66,7 @@ gathered-normal n l (moved new ors) = settle-normal n l new ors
 
 -- ---- The AND rule.
 
-atoms-normal : (kids : Formula) → atomsOf (eachAtom normal kids) ≡ map normal (atomsOf kids)
+pub atoms-normal : (kids : Formula) → atomsOf (eachAtom normal kids) ≡ map normal (atomsOf kids)
 unfolding atomsOf eachAtom
 atoms-normal end = refl
 atoms-normal (atom a rest) = ap (λ (l : List Atom). normal a ∷ l) (atoms-normal rest)
@@ -87,17 +87,23 @@ children-normal m rule agree (and kids rest) h later also e =
 children-normal m rule agree (or kids rest) h later also e =
     ap₂ (λ (found : Formula) (walk : Walk). add (enter found) walk) (agree kids (omega arith)) (children-normal m rule agree rest (omega arith) later also e)
 
--- The AND rule gives the same for atoms in normal form.
-pub andRule-normal-first : (n d : ℕ) (kids : Formula) → nesting kids < d → andRule n d (eachAtom normal kids) ≡ andRule n d kids
-unfolding andRule
-andRule-normal-first n zero kids h = absurd (omega arith)
-andRule-normal-first n (suc d) kids h =
+-- The AND rule gives the same for atoms in normal form, to the OR children of an AND and to it.
+pub gather-normal-first : (n d : ℕ) (kids : Formula)
+    → ((lower : Formula) → nesting lower < nesting kids → andRule n d (eachAtom normal lower) ≡ andRule n d lower)
+    → gather (orRule n d) (orsOf (eachAtom normal kids)) ≡ gather (orRule n d) (orsOf kids)
+unfolding orRule
+gather-normal-first n d kids lower =
     let rule : Formula → Formula = λ child. dual (andRule n d (dual child)) in
     let agree : (child : Formula) → nesting child < nesting kids → rule (eachAtom normal child) ≡ rule child
-    = λ child lower. ap dual (ap (andRule n d) (dual-normal child) ∙ andRule-normal-first n d (dual child) (omega (arith, dual-nesting child))) in
-    let children = children-normal (nesting kids) rule agree kids (le-refl (nesting kids)) [] [] refl in
-    ap₂ (afterGather n) (atoms-normal kids) (rw (append-nil (orsOf (eachAtom normal kids)), append-nil (orsOf kids)) at children)
-    ∙ gathered-normal n (atomsOf kids) (gather rule (orsOf kids))
+    = λ child below. ap dual (ap (andRule n d) (dual-normal child) ∙ lower (dual child) (omega (arith, dual-nesting child))) in
+    rw (append-nil (orsOf (eachAtom normal kids)), append-nil (orsOf kids)) at (children-normal (nesting kids) rule agree kids (le-refl (nesting kids)) [] [] refl)
+
+pub andRule-normal-first : (n d : ℕ) (kids : Formula) → nesting kids < d → andRule n d (eachAtom normal kids) ≡ andRule n d kids
+unfolding andRule orRule
+andRule-normal-first n zero kids h = absurd (omega arith)
+andRule-normal-first n (suc d) kids h =
+    ap₂ (afterGather n) (atoms-normal kids) (gather-normal-first n d kids (λ lower below. andRule-normal-first n d lower (omega arith)))
+    ∙ gathered-normal n (atomsOf kids) (gather (orRule n d) (orsOf kids))
 
 -- ---- The whole tree.
 
@@ -117,7 +123,7 @@ each-after f g (atom a rest) = ap (atom (f (g a))) (each-after f g rest)
 each-after f g (and kids rest) = ap₂ and (each-after f g kids) (each-after f g rest)
 each-after f g (or kids rest) = ap₂ or (each-after f g kids) (each-after f g rest)
 
-each-after-of : {A B C : Type 0} (f : B → C) (g : A → B) (tree : Node A) → eachAtomOf f (eachAtomOf g tree) ≡ eachAtomOf (λ a. f (g a)) tree
+pub each-after-of : {A B C : Type 0} (f : B → C) (g : A → B) (tree : Node A) → eachAtomOf f (eachAtomOf g tree) ≡ eachAtomOf (λ a. f (g a)) tree
 unfolding eachAtomOf
 each-after-of f g (leaf a) = refl
 each-after-of f g (allOf kids) = ap allOf (each-after f g kids)

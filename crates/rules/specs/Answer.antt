@@ -10,6 +10,7 @@ use lib.ListN.{length, getD, drop}
 use Rattle.rules.specs.Polynomial.{Polynomial, Atom, normal, constant, same}
 use Rattle.rules.specs.Formula.{end, atom, and, or, Node, leaf, allOf, anyOf, isEnd, eachAtomOf, atoms, alone}
 use Rattle.rules.specs.Level.{Formula, simplify}
+use Rattle.rules.specs.Count.{mostRounds}
 use Rattle.rules.specs.Block.{NumberedAtom, Block, Reading, refused, read, readBlock, writeBlock}
 
 -- The formula that a block holds: each atom with its polynomial instead of the number.
@@ -122,6 +123,11 @@ unfoldable pub answerTo : Reading Block → Answer
 answerTo (refused number) = refusal number
 answerTo (read given stream) = answered (verdictOf (simplified given)) (writeBlock (newBlock given)) (countsOf given (newBlock given))
 
+-- Request #108: "the largest number of rounds that one run of the rounds took"; a refusal has no run.
+unfoldable pub roundsOf : Reading Block → ℕ
+roundsOf (refused number) = 0
+roundsOf (read given stream) = mostRounds (given .variables) (formulaOf given)
+
 -- 1: "lent output shorter than lent input"; it is tried before all others.
 unfoldable pub unlessShort : Bool → Answer → Answer
 unlessShort true answer = answer
@@ -132,5 +138,5 @@ answer room bytes = unlessShort (leb (length bytes) room) (answerTo (readBlock b
 
 -- To unfold this is to unfold every definition of this file.
 unfoldable pub open-answer : Unit {0}
-unfolding lookedUp formulaOf knows addedUnless used hereOr numberIn numbered blockOf ifEnd verdictOf unlessConstant withoutConstants formsUsed countsOf written filledPart isRefusal simplified newBlock answerTo unlessShort answer
+unfolding lookedUp formulaOf knows addedUnless used hereOr numberIn numbered blockOf ifEnd verdictOf unlessConstant withoutConstants formsUsed countsOf written filledPart isRefusal simplified newBlock answerTo roundsOf unlessShort answer
 open-answer = tt

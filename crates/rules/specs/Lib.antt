@@ -4,6 +4,7 @@ pub mod Deduce
 pub mod Rounds
 pub mod Formula
 pub mod Level
+pub mod Count
 pub mod Bits
 pub mod Block
 pub mod Limits

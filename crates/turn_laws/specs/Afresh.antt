@@ -81,18 +81,31 @@ afresh-after t a = record { still = t .still; boards = after-wider (t .still) (a
 
 module _ {n : ℕ} {st su : State} (t : Afresh n st su) where
   -- No set is empty.
-  no-empty : hasEmpty su ≡ false
+  pub no-empty : hasEmpty su ≡ false
   no-empty = never-true (hasEmpty su) (λ e. never-both (state-empty (afresh-wider t) (t .still .low) e) (t .still .filled))
 
-  -- A round in which each variable's turn is idle changes nothing: no atom's set is cut.
+  -- A round cuts no atom's set.
+  pub no-atom-cut : round n su .atoms ≡ su .atoms
+  unfolding round
+  no-atom-cut =
+      let boards = round-wider n (t .still .low) (afresh-wider t) .boards in
+      cutAtoms-stay boards (round-low n st (t .still .low .board) .board) none-there every-none (t .lists) (t .still .low .atoms)
+      (ap (λ (sv : State). sv .atoms) (t .still .still))
+
+  -- And what it leaves is such a state.
+  pub afresh-round : Afresh n st (round n su)
+  afresh-round = record {
+    still = t .still;
+    boards = subst (λ (sv : State). Wider (sv .board) (round n su .board)) (t .still .still) (round-wider n (t .still .low) (afresh-wider t) .boards);
+    lists = rw no-atom-cut (t .lists);
+  }
+
+  -- A round in which each variable's turn is idle changes nothing.
   idle-round : ((i : ℕ) → i < n → Idle n (su .atoms) (su .board) i) → round n su ≡ su
   unfolding round
   idle-round h =
-      let boards = round-wider n (t .still .low) (afresh-wider t) .boards in
       let turned = all-idle n (su .atoms) (su .board) 0 n (λ j b. h j (omega arith)) in
-      let cut = cutAtoms-stay boards (round-low n st (t .still .low .board) .board) none-there every-none (t .lists) (t .still .low .atoms)
-      (ap (λ (sv : State). sv .atoms) (t .still .still)) in
-      ap₂ (λ (b : Board) (l : List Atom). record { board = b; atoms = l }) turned cut
+      ap₂ (λ (b : Board) (l : List Atom). record { board = b; atoms = l }) turned no-atom-cut
 
 -- The settled sets are a floor of the turns.
 pub floor-settled : {n : ℕ} {st su : State} → Afresh n st su → Floor n (su .atoms) (su .board) (st .board)

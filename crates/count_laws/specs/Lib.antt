@@ -1,0 +1,4 @@
+pub mod Fresh
+pub mod Boards
+pub mod Common
+pub mod Sharper
