@@ -41,7 +41,6 @@ static int variables;
 static uint64_t one_variable[VARIABLES]; // the monomial of each variable
 static Form form[FORMS];
 static uint8_t sign[FORMS][TERMS];
-static bool strict[FORMS];               // some monomial's sign is > or <
 
 #define LOW_BITS 0x1111111111111111u
 
@@ -72,12 +71,8 @@ static inline int monomial_sign(const Masks *m, uint64_t monomial, uint64_t occu
 
 // Works out the signs of a form, or only those where a variable of `changed` occurs.
 static void sign_form(const Masks *m, int f, uint64_t changed) {
-    bool some = false;
-    for (int t = 0; t < form[f].terms; t++) {
+    for (int t = 0; t < form[f].terms; t++)
         if (form[f].occurs[t] & changed || !changed) sign[f][t] = monomial_sign(m, form[f].monomial[t], form[f].occurs[t]);
-        some |= sign[f][t] == 1 || sign[f][t] == 4;
-    }
-    strict[f] = some;
 }
 
 static int sign_by_terms(int f) {
@@ -115,12 +110,20 @@ static inline bool at_most(Interval *i, int64_t n, int64_t d) {
     return true;
 }
 
-static inline bool has_inner(const Interval *i) {
-    return (i->low_d == 0 && i->high_d == 0) || i->low * i->high_d < i->high * i->low_d;
+// The monomials with sign > or <: the first, a + tb, and whether another is 0 at another t, or never.
+typedef struct {
+    int64_t a, b;
+    bool apart;
+} Strict;
+
+// Request #104: some t of the interval, which has one, at which one of them is not 0. If it has more than one t, there is.
+static inline bool strict_in(const Strict *s, const Interval *i) {
+    bool several = (i->low_d == 0 && i->high_d == 0) || i->low * i->high_d < i->high * i->low_d;
+    return s->apart || ((s->a || s->b) && (several || s->a * i->low_d + i->low * s->b != 0));
 }
 
 // What the deduction of p from q leaves of p's set. For < and ≤ only the t from 0 up matter in L and those up to 0 in U, for > and ≥ the other way.
-static inline int deduced(int set, int terms, const int32_t *pc, const uint64_t *pm, const uint8_t *ps, bool p_strict, int q, int q_set) {
+static inline int deduced(int set, int terms, const int32_t *pc, const uint64_t *pm, const uint8_t *ps, int q, int q_set) {
     const Interval every = {-1, 0, 1, 0}, up = {0, 1, 1, 0}, down = {-1, 0, 0, 1};
     const int32_t *qc = form[q].coefficient;
     const uint64_t *qm = form[q].monomial;
@@ -130,6 +133,7 @@ static inline int deduced(int set, int terms, const int32_t *pc, const uint64_t 
     bool in_l = set & 6, in_u = set & 3;
     Interval l = q_set == 2 ? every : q_set & 4 ? up : down;
     Interval u = q_set == 2 ? every : q_set & 4 ? down : up;
+    Strict strict = {0, 0, false};
     for (int i = 0, j = 0; i < terms || j < q_terms;) {
         int64_t a = 0, b = 0;
         int s;
@@ -143,6 +147,13 @@ static inline int deduced(int set, int terms, const int32_t *pc, const uint64_t 
             s = qs[j];
             a = pc[i++];
             b = qc[j++];
+        }
+        if ((s == 1 || s == 4) && !strict.apart) {
+            strict.apart = strict.a * b != a * strict.b;
+            if (!strict.a && !strict.b) {
+                strict.a = a;
+                strict.b = b;
+            }
         }
         switch (s) {
         case 2:
@@ -177,9 +188,9 @@ static inline int deduced(int set, int terms, const int32_t *pc, const uint64_t 
         }
         if (!in_l && !in_u) return set;
     }
-    bool some_strict = p_strict || strict[q];
-    if (in_l) set &= (q_set == 4 ? l.high > 0 : q_set == 1 ? l.low < 0 : some_strict && has_inner(&l)) ? 1 : 3;
-    if (in_u) set &= (q_set == 4 ? u.low < 0 : q_set == 1 ? u.high > 0 : some_strict && has_inner(&u)) ? 4 : 6;
+    // strict at a t other than 0 where q is < 0 or > 0, or by a monomial
+    if (in_l) set &= (q_set == 4 && l.high > 0) || (q_set == 1 && l.low < 0) || strict_in(&strict, &l) ? 1 : 3;
+    if (in_u) set &= (q_set == 4 && u.low < 0) || (q_set == 1 && u.high > 0) || strict_in(&strict, &u) ? 4 : 6;
     return set;
 }
 
@@ -205,7 +216,7 @@ static int deduced_variable(const List *list, int i, int set) {
         int f = list->number[q];
         // where the variable's own monomial has no sign and does not occur in q, there is no t
         if (open && !(form[f].linear >> i & 1)) continue;
-        set = deduced(set, 1, &one, &one_variable[i], &s, s == 1 || s == 4, f, list->set[q]);
+        set = deduced(set, 1, &one, &one_variable[i], &s, f, list->set[q]);
     }
     return set;
 }
@@ -214,7 +225,7 @@ static int deduced_form(const List *list, const uint8_t *sets, int f, int set, i
     for (int q = 0; q < list->atoms && !EMPTY(set); q++) {
         if (q == left_out || !speaks(sets[q])) continue;
         COUNTED(deductions);
-        set = deduced(set, form[f].terms, form[f].coefficient, form[f].monomial, sign[f], strict[f], list->number[q], sets[q]);
+        set = deduced(set, form[f].terms, form[f].coefficient, form[f].monomial, sign[f], list->number[q], sets[q]);
     }
     return set;
 }

@@ -2,7 +2,7 @@
 //! The proof checker works out the book's own answer to each block and compares.
 
 use crate::answer::{answer, Verdict};
-use crate::cases::cases;
+use crate::cases::{cases, later_cases};
 use crate::{block, corpus};
 
 /// How many blocks one claim takes: the checker allows a claim only so many steps.
@@ -13,7 +13,8 @@ const LONGEST: usize = 100;
 
 /// The file over the blocks of the known cases, `count` random valid blocks and half as many damaged ones.
 pub fn claims(seed: u64, count: usize) -> String {
-    let mut blocks: Vec<Vec<u8>> = cases().iter().map(|case| block::write(&case.formula)).collect();
+    let known = cases().into_iter().chain(later_cases());
+    let mut blocks: Vec<Vec<u8>> = known.map(|case| block::write(&case.formula)).collect();
     blocks.extend(
         corpus::valid(seed, 8 * count).into_iter().filter(|block| block.len() <= LONGEST).take(count),
     );

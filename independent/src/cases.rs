@@ -1,4 +1,4 @@
-//! Cases A to N of document 01, "Conditions with known results": each formula and its result.
+//! Cases A to N of document 01, "Conditions with known results": each formula and its result; and those of document 02.
 //! "Variables x, y, z in that order"; n is as small as the case allows, as in the printed case A.
 
 use crate::answer::Verdict;
@@ -163,5 +163,26 @@ pub fn cases() -> Vec<Case> {
                 Node::And(vec![is(0, greater_equal), is(1, greater_equal), is(2, greater)]),
             ),
         ),
+    ]
+}
+
+/// Document 02's conditions with known results, the number of the request's line as name.
+pub fn later_cases() -> Vec<Case> {
+    let x_minus_y = polynomial(&[(1, [1, 0]), (-1, [0, 1])]);
+    let x_minus_y_plus_1 = polynomial(&[(1, [1, 0]), (-1, [0, 1]), (1, [0, 0])]);
+    let is = |number, set| Node::atom(number, set);
+    let gives_the_first = |name, tree, set| Case {
+        name,
+        formula: Formula { variables: 2, table: vec![x_minus_y.clone(), x_minus_y_plus_1.clone()], tree },
+        verdict: Verdict::Formula,
+        result: Formula { variables: 2, table: vec![x_minus_y.clone()], tree: is(0, set) },
+    };
+    let (greater_equal, greater) = (SignSet::GREATER_EQUAL, SignSet::GREATER);
+    let (less_equal, less) = (SignSet::LESS_EQUAL, SignSet::LESS);
+    vec![
+        // #104: "x-y ≥ 0 AND x-y+1 > 0 now gives the first alone." And so with OR and all sets complemented, and where x-y = 0 is given.
+        gives_the_first('1', Node::And(vec![is(0, greater_equal), is(1, greater)]), greater_equal),
+        gives_the_first('2', Node::Or(vec![is(0, less), is(1, less_equal)]), less),
+        gives_the_first('3', Node::And(vec![is(0, SignSet::EQUAL), is(1, greater)]), SignSet::EQUAL),
     ]
 }

@@ -1,4 +1,4 @@
-//! What the sign of q says of the sign of p (document 01, "Deducing p from q").
+//! What the sign of q says of the sign of p (document 01, "Deducing p from q", with request #104 of document 02).
 //! L and U are decided by testing fractions t one by one against the conditions.
 
 use crate::count;
@@ -33,6 +33,14 @@ pub fn monomials(p: &Polynomial, q: &Polynomial, board: &[SignSet]) -> Vec<Monom
 /// "*Strict* means that some s is > or <."
 pub fn strict(monomials: &[Monomial]) -> bool {
     monomials.iter().any(|m| m.s == SignSet::GREATER || m.s == SignSet::LESS)
+}
+
+/// "some monomial with set > or < has a+tb other than 0" (document 02, #104)
+pub fn strict_at(monomials: &[Monomial], t: Fraction) -> bool {
+    monomials.iter().any(|m| {
+        let strict = m.s == SignSet::GREATER || m.s == SignSet::LESS;
+        strict && m.a * t.d + t.c * m.b != 0
+    })
 }
 
 /// "Here a t is a pair of whole numbers c and d with d above 0"
@@ -77,7 +85,8 @@ pub fn holds(which: Which, monomials: &[Monomial], t: Fraction) -> bool {
 /// or nowhere. So L is convex, and between neighbours among the -a/b it holds each t or none. Hence L has
 /// a t above 0 (below 0, equal to 0) exactly if one of these fractions is such a t, and likewise for its
 /// interior: a t between two neighbours has these, or nearer ones, as its smaller and larger t; beyond all
-/// fractions it takes a second value on the far side to show one.
+/// fractions it takes a second value on the far side to show one. A monomial's a+tb is 0 at -a/b alone, unless
+/// a and b are both 0, so that between neighbours none is 0 that is not 0 everywhere.
 pub fn fractions_to_test(monomials: &[Monomial]) -> Vec<Fraction> {
     let mut ends = vec![Fraction { c: 0, d: 1 }];
     for m in monomials {
@@ -108,20 +117,27 @@ pub fn fractions_to_test(monomials: &[Monomial]) -> Vec<Fraction> {
     list
 }
 
-/// L or U, as the tested fractions and whether each is in it.
+/// L or U, as the tested fractions, whether each is in it, and whether some monomial is strict at it.
 pub struct Tested {
     tested: Vec<(Fraction, bool)>,
+    strict: Vec<bool>,
 }
 
 impl Tested {
     pub fn new(which: Which, monomials: &[Monomial]) -> Tested {
         let fractions = fractions_to_test(monomials);
-        Tested { tested: fractions.into_iter().map(|t| (t, holds(which, monomials, t))).collect() }
+        let strict = fractions.iter().map(|&t| strict_at(monomials, t)).collect();
+        Tested { tested: fractions.into_iter().map(|t| (t, holds(which, monomials, t))).collect(), strict }
     }
 
     /// It has a t such as wanted. (d is above 0, so t has the sign of c.)
     pub fn has(&self, wanted: fn(i128) -> bool) -> bool {
         self.tested.iter().any(|&(t, held)| held && wanted(t.c))
+    }
+
+    /// It has a t such as wanted at which some monomial is strict.
+    pub fn strict_has(&self, wanted: fn(i128) -> bool) -> bool {
+        self.tested.iter().zip(&self.strict).any(|(&(t, held), &strict)| held && strict && wanted(t.c))
     }
 
     /// "t is in the interior of L (or U) if that set also holds a smaller and a larger t."
@@ -151,30 +167,36 @@ pub fn deduce(p: &Polynomial, q: &Polynomial, q_set: SignSet, board: &[SignSet])
     let l = Tested::new(Which::L, &monomials);
     let u = Tested::new(Which::U, &monomials);
 
+    // Document 02, #104: "New rule wherever strictness is tested: a finding is strict also at an allowed t at which
+    // some monomial with set > or < has a+tb other than 0. The t must still have the sign that the present rule
+    // asks for, where zero is allowed too if the weak finding allows it." It is taken for < and > too, whose
+    // weak finding allows zero.
     let (of_l, of_u) = match q_set {
         // "<: if L has a t > 0, p > 0; else if 0 is in L, p ≥ 0. If U has a t < 0, p < 0; else if 0 is in
         // U, p ≤ 0."
-        SignSet::LESS => {
-            (above(l.has(|t| t > 0), l.has(|t| t == 0)), below(u.has(|t| t < 0), u.has(|t| t == 0)))
-        }
+        SignSet::LESS => (
+            above(l.has(|t| t > 0) || l.strict_has(|t| t >= 0), l.has(|t| t == 0)),
+            below(u.has(|t| t < 0) || u.strict_has(|t| t <= 0), u.has(|t| t == 0)),
+        ),
         // "≤: if strict and L's interior has a t > 0, p > 0; else if L has a t ≥ 0, p ≥ 0. Same for U with
         // t < 0, t ≤ 0, giving < and ≤."
         SignSet::LESS_EQUAL => (
-            above(strict && l.interior_has(|t| t > 0), l.has(|t| t >= 0)),
-            below(strict && u.interior_has(|t| t < 0), u.has(|t| t <= 0)),
+            above(strict && l.interior_has(|t| t > 0) || l.strict_has(|t| t >= 0), l.has(|t| t >= 0)),
+            below(strict && u.interior_has(|t| t < 0) || u.strict_has(|t| t <= 0), u.has(|t| t <= 0)),
         ),
         // "> and ≥: the same two, with the signs of t exchanged."
-        SignSet::GREATER => {
-            (above(l.has(|t| t < 0), l.has(|t| t == 0)), below(u.has(|t| t > 0), u.has(|t| t == 0)))
-        }
+        SignSet::GREATER => (
+            above(l.has(|t| t < 0) || l.strict_has(|t| t <= 0), l.has(|t| t == 0)),
+            below(u.has(|t| t > 0) || u.strict_has(|t| t >= 0), u.has(|t| t == 0)),
+        ),
         SignSet::GREATER_EQUAL => (
-            above(strict && l.interior_has(|t| t < 0), l.has(|t| t <= 0)),
-            below(strict && u.interior_has(|t| t > 0), u.has(|t| t >= 0)),
+            above(strict && l.interior_has(|t| t < 0) || l.strict_has(|t| t <= 0), l.has(|t| t <= 0)),
+            below(strict && u.interior_has(|t| t > 0) || u.strict_has(|t| t >= 0), u.has(|t| t >= 0)),
         ),
         // "=: if strict and L's interior is not empty, p > 0; else if L is not empty, p ≥ 0. Same for U."
         SignSet::EQUAL => (
-            above(strict && l.interior_has(|_| true), l.has(|_| true)),
-            below(strict && u.interior_has(|_| true), u.has(|_| true)),
+            above(strict && l.interior_has(|_| true) || l.strict_has(|_| true), l.has(|_| true)),
+            below(strict && u.interior_has(|_| true) || u.strict_has(|_| true), u.has(|_| true)),
         ),
         _ => panic!("empty, ≠ and full are answered above"),
     };

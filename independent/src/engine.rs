@@ -31,6 +31,59 @@ fn deduction(random: &mut Random) -> Formula {
     Formula { variables, table, tree: Node::And(parts) }
 }
 
+/// Blocks of deductions for request #104: x may have any sign, so that one t is left, -a/b of x; z, with each of four sets, and the constant
+/// vanish there or not, together or apart. Then the same at the limit of the magnitudes, where cross products differ by 1.
+pub fn single_points() -> Vec<Vec<u8>> {
+    let pairs = [(0, 0), (1, 1), (2, 1), (0, 1), (1, 0)];
+    let large = LARGEST_MAGNITUDE;
+    let near = [
+        (large, large - 1),
+        (large - 1, large - 2),
+        (large - 1, large),
+        (large, large),
+        (1, large),
+        (-large, large),
+    ];
+    let mut list = vec![];
+    let mut at_point = |x: (i128, i128), z: (i128, i128), one: (i128, i128), of_z: SignSet| {
+        let of = |coefficients: [i128; 3]| {
+            let exponents = [vec![1, 0], vec![0, 1], vec![0, 0]];
+            let terms = coefficients.into_iter().zip(exponents).filter(|&(coefficient, _)| coefficient != 0);
+            Polynomial {
+                terms: terms.map(|(coefficient, exponents)| Term { coefficient, exponents }).collect(),
+            }
+        };
+        let (p, q) = (of([x.0, z.0, one.0]), of([x.1, z.1, one.1]));
+        for set in
+            [SignSet::GREATER, SignSet::EQUAL, SignSet::GREATER_EQUAL, SignSet::LESS, SignSet::LESS_EQUAL]
+        {
+            let table =
+                vec![p.clone(), q.clone(), Polynomial::of_variable(2, 0), Polynomial::of_variable(2, 1)];
+            let sets = [SignSet::FULL, set, SignSet::FULL, of_z];
+            let parts = sets.into_iter().enumerate().map(|(number, set)| Node::atom(number, set)).collect();
+            if !p.terms.is_empty() {
+                list.push(write(&Formula { variables: 2, table, tree: Node::And(parts) }));
+            }
+        }
+    };
+    for x in [-1, 0, 1] {
+        for z in pairs {
+            for one in pairs {
+                for of_z in [SignSet::GREATER, SignSet::LESS, SignSet::GREATER_EQUAL, SignSet::EQUAL] {
+                    at_point((x, 1), z, one, of_z);
+                }
+            }
+        }
+    }
+    for x in near {
+        for z in near {
+            at_point(x, z, near[0], SignSet::GREATER);
+            at_point(x, z, near[3], SignSet::LESS);
+        }
+    }
+    list
+}
+
 /// What q with its set says of p, as the set's number.
 pub fn deduction_line(block: &[u8]) -> String {
     let Ok(formula) = read(block) else { return "REFUSED\n".to_string() };

@@ -5,14 +5,14 @@ use std::io::{self, Read, Write};
 use std::process::ExitCode;
 
 use independent::answer::{answer, read_report, report, MOST_READ};
-use independent::cases::cases;
+use independent::cases::{cases, later_cases};
 use independent::count::work_of;
 use independent::{bench, block, book, check, corpus, edge, engine, search, smt};
 
 const USAGE: &str =
     "usage: independent [many | read | describe | deductions | lists | count | repeat | smt | bench NAME |\n\
                     corpus KIND SEED COUNT | book SEED COUNT | check SEED COUNT]\n\
-     KIND is valid, damaged, trees, edge, cases, deductions, lists or candidates\n";
+     KIND is valid, damaged, trees, edge, cases, later, deductions, points, lists or candidates\n";
 
 fn main() -> ExitCode {
     let arguments: Vec<String> = std::env::args().skip(1).collect();
@@ -100,6 +100,8 @@ fn write_corpus(kind: &str, seed: u64, count: usize) -> io::Result<ExitCode> {
         "lists" => engine::lists(seed, count),
         "candidates" => (seed..seed + count as u64).map(|k| block::write(&search::candidate(k))).collect(),
         "cases" => cases().iter().map(|case| block::write(&case.formula)).collect(),
+        "later" => later_cases().iter().map(|case| block::write(&case.formula)).collect(),
+        "points" => engine::single_points(),
         _ => return usage(),
     };
     io::stdout().lock().write_all(&corpus::stream(&blocks))?;

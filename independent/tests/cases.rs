@@ -1,9 +1,9 @@
-//! Cases A to N of document 01: each formula's result, and case A's exact bytes and printed lines.
+//! Cases A to N of document 01 and the later ones of document 02: each formula's result, and case A's exact bytes and printed lines.
 //! The blocks of the cases are read and answered as bytes.
 
 use independent::answer::{answer, report, Verdict};
 use independent::block::{read, write};
-use independent::cases::cases;
+use independent::cases::{cases, later_cases};
 use independent::level::in_normal_form;
 use independent::rounds::run_rounds;
 use independent::tree::{Atom, Node};
@@ -26,7 +26,7 @@ fn case_a_has_its_bytes_and_prints_its_lines() {
 
 #[test]
 fn each_case_gives_its_result() {
-    for case in cases() {
+    for case in cases().into_iter().chain(later_cases()) {
         let block = write(&case.formula);
         assert_eq!(read(&block).as_ref(), Ok(&case.formula), "case {}", case.name);
         let answer = answer(&block, block.len()).unwrap();

@@ -1,7 +1,8 @@
 //! L and U by tested fractions against a second computation, by the two ends of an interval.
 //! And each finding against values: where the variables and q have their signs, p has the found one.
 
-use independent::deduce::{deduce, holds, monomials, Fraction, Monomial, Tested, Which};
+use independent::deduce::{deduce, holds, monomials, strict, Fraction, Monomial, Tested, Which};
+use independent::engine::{deduction_line, single_points};
 use independent::meaning::value;
 use independent::polynomial::{Polynomial, Term};
 use independent::random::Random;
@@ -75,6 +76,69 @@ impl Interval {
             _ => true,
         };
         !self.empty && apart
+    }
+}
+
+/// The t of an interval that have a wanted sign: those from 0 up (1), from 0 down (-1) or all (0).
+fn allowed(mut interval: Interval, sign: i128) -> Interval {
+    if sign != 0 {
+        interval.draw(0, sign);
+    }
+    interval
+}
+
+/// Request #104 by intervals: there is a t, there is a strict monomial, and not (it is one t and all of them vanish there).
+fn strict_by_intervals(interval: &Interval, list: &[Monomial]) -> bool {
+    let mut strict = list.iter().filter(|m| m.s.to_bits() == 1 || m.s.to_bits() == 4);
+    let strict_there = match (interval.low, interval.has_interior()) {
+        (Some(t), false) => strict.any(|m| m.a * t.d + t.c * m.b != 0),
+        _ => strict.next().is_some(),
+    };
+    !interval.empty && strict_there
+}
+
+#[test]
+fn strict_findings_are_those_of_the_intervals() {
+    let mut random = Random::new(15);
+    let mut seen = [[0; 2]; 3];
+    for _ in 0..60_000 {
+        let list = random_monomials(&mut random);
+        for which in [Which::L, Which::U] {
+            let tested = Tested::new(which, &list);
+            let answers =
+                [tested.strict_has(|_| true), tested.strict_has(|t| t >= 0), tested.strict_has(|t| t <= 0)];
+            for (number, sign) in [0, 1, -1].into_iter().enumerate() {
+                let interval = allowed(Interval::new(which, &list), sign);
+                assert_eq!(
+                    answers[number],
+                    strict_by_intervals(&interval, &list),
+                    "{sign} of {which:?} over {list:?}"
+                );
+                seen[number][usize::from(answers[number])] += 1;
+            }
+            // "strict and the interior has a t": that is a t at which some monomial is strict
+            if strict(&list) {
+                assert!(answers[0] || !tested.interior_has(|_| true), "{which:?} over {list:?}");
+                assert!(answers[1] || !tested.interior_has(|t| t > 0), "{which:?} over {list:?}");
+                assert!(answers[2] || !tested.interior_has(|t| t < 0), "{which:?} over {list:?}");
+            }
+        }
+    }
+    for (number, counts) in seen.iter().enumerate() {
+        assert!(counts[0] > 500 && counts[1] > 500, "question {number}: {counts:?}");
+    }
+}
+
+/// The corpus of single points: what is found by each set, and that strict and weak findings are both among them.
+#[test]
+fn single_points_are_strict_and_weak() {
+    let mut found = [0; 8];
+    for block in single_points() {
+        let line = deduction_line(&block);
+        found[line.trim().parse::<usize>().unwrap()] += 1;
+    }
+    for set in [1, 3, 4, 6, 7] {
+        assert!(found[set] > 30, "set {set}: {found:?}");
     }
 }
 

@@ -14,7 +14,7 @@ use Rattle.rules.specs.Signs.{SignSet, kind}
 use Rattle.rules.specs.Polynomial.{Board, Polynomial}
 use Rattle.rules.specs.Deduce.{rows, findingOf, anyEmpty, unlessEmpty, deduce}
 use Rattle.terms.specs.View.{numbersFrom, numbers-cons, numbers-nil}
-use Rattle.interval.specs.Kinds.{finding-none}
+use Rattle.deduce.proofs.Nothing.{says-nothing}
 
 -- the sets of a board from place i on, up to n
 module _ (sets : List SignSet) (i n : ℕ) where
@@ -43,10 +43,8 @@ deduce-found board p q s e h = simp (ne-eqb _ _ e, h)
 
 -- with ≠ and the full set, which say nothing
 pub deduce-none : (board : Board) (p q : Polynomial) (s : SignSet) → (s ≡ 5) ⊎ (7 ≤ s) → anyEmpty board ≡ false → 7 ≡ deduce board p (record { polynomial = q; set = s })
-unfolding findingOf
-deduce-none board p q s (inl e) h =
-    finding-none _ _ _ s (λ z. omega arith) (λ z. omega arith) (λ z. omega arith) (λ z. omega arith) (λ z. omega arith) (λ z. omega arith)
-    ∙ deduce-found board p q s (λ z. omega arith) h
-deduce-none board p q s (inr l) h =
-    finding-none _ _ _ s (λ z. omega arith) (λ z. omega arith) (λ z. omega arith) (λ z. omega arith) (λ z. omega arith) (λ z. omega arith)
-    ∙ deduce-found board p q s (λ z. omega arith) h
+deduce-none board p q s k h = says-nothing s (rows board p q) k ∙ deduce-found board p q s (filled s k) h
+  where
+    filled : (s : ℕ) → (s ≡ 5) ⊎ (7 ≤ s) → s ≡ 0 → ⊥
+    filled s (inl e) z = omega arith
+    filled s (inr l) z = omega arith

@@ -1,7 +1,6 @@
 -- The merge, one law for each way that a row is taken off the two runs, and the three results of the walk apart.
 -- A row's kind comes from the sign that is lent at the term's place.
-use mathlib.Core.Path.{_≡_, sym, ap, _∙_}
-use mathlib.Core.Bool.{Bool, _||_, or-false, or-assoc}
+use mathlib.Core.Path.{_≡_, refl, sym, ap, ap₂, _∙_}
 use mathlib.Core.List.{List, [], _∷_}
 use Prim.Native.Nat.{ℕ, _+_, _<_, _≤_}
 use native.Mathlib.Nat.{le-refl}
@@ -9,13 +8,14 @@ use native.Mathlib.Omega.{arith}
 use borrow.Author.Tests.{eq-eqb, ne-eqb, lt-ltb, le-ltb}
 use lib.IntN.{ℤ, pos}
 use lib.ListN.{getD}
-use Rattle.rules.specs.Signs.{SignSet, Kind, kind}
+use Rattle.rules.specs.Signs.{SignSet, Kind, kind, mirror, intersect}
 use Rattle.rules.specs.Polynomial.{Board}
-use Rattle.rules.specs.Deduce.{Interval, cutL, cutU, Row, row, rowsOfQ, ofThree, rowsFrom, rows, everyT, intervalL, intervalU, strict, finding, findingOf}
+use Rattle.rules.specs.Deduce.{Row, row, rowsOfQ, ofThree, rowsFrom, rows, intervalL, intervalU, allowedL, allowedU, findingOf}
+use Rattle.deduction_laws.specs.Vanishing.{vanishRows, in-one-pass}
 use Rattle.terms.specs.View.{terms-cons, terms-nil}
 use Rattle.terms.specs.Signed.{Signed, signed-within}
 use Rattle.deduce.specs.declared.merge.Step.{Step}
-use Rattle.deduce.specs.Merge.{Gathered, nothing, gatherRow, gather, gatherRest, On, Next}
+use Rattle.deduce.specs.Merge.{Gathered, begun, gatherRow, gather, gatherRest, foundFrom, On, Next}
 
 -- what is gathered from the rows of two runs, with the signs that are lent
 module _ {board : Board} (cs : List ℤ) {ms : List ℕ} {ss : List SignSet} {i p j q : ℕ}
@@ -50,34 +50,33 @@ pub of-none : (board : Board) (cs : List ℤ) (ms : List ℕ) (i p j q : ℕ) (g
 unfolding rows rowsOfQ gather
 of-none board cs ms i p j q g h k = rw (terms-nil cs ms i p h, terms-nil cs ms j q k)
 
--- the walk over the runs i₀..p and j₀..q, come to i and j with g gathered: what is left adds up to all of it
-pub record Walked (cs : List ℤ) (ms : List ℕ) (ss : List SignSet) (i₀ p j₀ q : ℕ) (g : Gathered) (i j : ℕ) : Type 0 where
+-- the walk over the runs i₀..p and j₀..q from g₀ on, come to i and j with g gathered: what is left adds up to all of it
+pub record Walked (cs : List ℤ) (ms : List ℕ) (ss : List SignSet) (i₀ p j₀ q : ℕ) (g₀ g : Gathered) (i j : ℕ) : Type 0 where
   pub first : On i₀ i p
   pub second : On j₀ j q
   pub rest : {board : Board} → Signed board ms ss i₀ p → Signed board ms ss j₀ q
-      → gatherRest board cs ms i p j q g ≡ gatherRest board cs ms i₀ p j₀ q nothing
+      → gatherRest board cs ms i p j q g ≡ gatherRest board cs ms i₀ p j₀ q g₀
 
 -- one row further
-pub walk-on : {cs : List ℤ} {ms : List ℕ} {ss : List SignSet} {i₀ p j₀ q i j : ℕ} {g h : Gathered} {r : Step}
-    → Walked cs ms ss i₀ p j₀ q g i j → Next cs ms ss i p j q r → h ≡ gatherRow (kind (r .s)) (r .a) (r .b) g → Walked cs ms ss i₀ p j₀ q h (r .i) (r .j)
+pub walk-on : {cs : List ℤ} {ms : List ℕ} {ss : List SignSet} {i₀ p j₀ q i j : ℕ} {g₀ g h : Gathered} {r : Step}
+    → Walked cs ms ss i₀ p j₀ q g₀ g i j → Next cs ms ss i p j q r → h ≡ gatherRow (kind (r .s)) (r .a) (r .b) g → Walked cs ms ss i₀ p j₀ q g₀ h (r .i) (r .j)
 walk-on {p = p} {q = q} {i = i} {j = j} {g = g} w n e = record {
   first = omega arith;
   second = omega arith;
   rest = λ s t. rw e (sym (n .row (signed-within i p (w .first .on) (le-refl p) s) (signed-within j q (w .second .on) (le-refl q) t) g) ∙ w .rest s t);
 }
 
--- ---- L, U and strict apart
+-- ---- the three results apart
 
-pub gathered : (xs : List Row) (l u : Interval) (st : Bool)
-    → gather (record { l = l; u = u; strict = st }) xs ≡ record { l = intervalL l xs; u = intervalU u xs; strict = st || strict xs }
-unfolding gather gatherRow intervalL intervalU strict
-gathered [] l u st = ap (λ (x : Bool). record { l = l; u = u; strict = x }) (sym (or-false st))
-gathered (x ∷ xs) l u st =
-    let l′ = intervalL (cutL (x .s) (x .a) (x .b) l) xs in
-    let u′ = intervalU (cutU (x .s) (x .a) (x .b) u) xs in
-    gathered xs _ _ _ ∙ ap (λ (y : Bool). record { l = l′; u = u′; strict = y }) (or-assoc st _ (strict xs))
+pub gathered : (xs : List Row) (g : Gathered)
+    → gather g xs ≡ record { l = intervalL (g .l) xs; u = intervalU (g .u) xs; vanishing = vanishRows (g .vanishing) xs }
+unfolding gather gatherRow intervalL intervalU vanishRows
+gathered [] g = refl
+gathered (x ∷ xs) g = gathered xs (gatherRow (x .s) (x .a) (x .b) g)
 
 -- what is gathered gives the book's finding
-pub finding-gathered : (k : Kind) (g : Gathered) (xs : List Row) → g ≡ gather nothing xs → finding k (g .strict) (g .l) (g .u) ≡ findingOf k xs
-unfolding findingOf nothing
-finding-gathered k g xs e = ap (λ (h : Gathered). finding k (h .strict) (h .l) (h .u)) (e ∙ gathered xs everyT everyT _)
+pub finding-gathered : (k : Kind) (xs : List Row) → foundFrom k (gather (begun k) xs) ≡ findingOf k xs
+unfolding findingOf begun
+finding-gathered k xs =
+    ap (foundFrom k) (gathered xs (begun k))
+    ∙ ap₂ (λ s t. intersect s (mirror t)) (in-one-pass k (intervalL (allowedL k) xs) xs) (in-one-pass k (intervalU (allowedU k) xs) xs)

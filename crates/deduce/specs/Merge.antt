@@ -1,37 +1,37 @@
--- The merge of two runs of terms, row by row: L, U and strict in one walk over the book's rows.
+-- The merge of two runs of terms, row by row: L, U and where the strict rows vanish, in one walk over the book's rows.
 -- `Next` says what one step of the merge takes off, `Found` what the whole walk finds.
 use mathlib.Core.Path.{_≡_}
-use mathlib.Core.Bool.{Bool, false, not, _&&_, _||_}
 use mathlib.Core.List.{List, [], _∷_}
 use Prim.Native.Nat.{ℕ, _+_, _<_, _≤_}
 use lib.IntN.{ℤ}
 use lib.ListN.{length}
 use Rattle.rules.specs.Signs.{SignSet, Kind, kind}
 use Rattle.rules.specs.Polynomial.{Board}
-use Rattle.rules.specs.Deduce.{Interval, cutL, cutU, Row, rows, everyT, isStrict, isZero, finding}
+use Rattle.rules.specs.Deduce.{Interval, cutL, cutU, Row, rows, allowedL, allowedU}
+use Rattle.deduction_laws.specs.Vanishing.{Vanishing, everywhere, vanishRow, findingBy}
 use Rattle.terms.specs.View.{termsOf}
 use Rattle.terms.specs.Signed.{Signed}
-use Rattle.interval.specs.Ends.{intervalOf}
+use Rattle.interval.specs.Ends.{intervalOf, vanishingOf}
 use Rattle.deduce.specs.declared.merge.Cuts.{Cuts}
 use Rattle.deduce.specs.declared.merge.Step.{Step}
 use Rattle.deduce.specs.declared.Run.{Run}
 
--- L, U and strict
+-- the allowed t of L and of U, and where the strict rows vanish
 pub record Gathered : Type 0 where
   pub l : Interval
   pub u : Interval
-  pub strict : Bool
+  pub vanishing : Vanishing
 
 abbrev pub gatheredOf : Cuts → Gathered
-gatheredOf c = record { l = intervalOf (c .l); u = intervalOf (c .u); strict = c .strict }
+gatheredOf c = record { l = intervalOf (c .l); u = intervalOf (c .u); vanishing = vanishingOf (c .vanishing) }
 
--- before the first row
-unfoldable pub nothing : Gathered
-nothing = record { l = everyT; u = everyT; strict = false }
+-- before the first row: every t that q's set allows
+unfoldable pub begun : Kind → Gathered
+begun k = record { l = allowedL k; u = allowedU k; vanishing = everywhere }
 
 -- after one more row, and after all of some rows
 unfoldable pub gatherRow : Kind → ℤ → ℤ → Gathered → Gathered
-gatherRow s a b g = record { l = cutL s a b (g .l); u = cutU s a b (g .u); strict = g .strict || (isStrict s && not (isZero a && isZero b)) }
+gatherRow s a b g = record { l = cutL s a b (g .l); u = cutU s a b (g .u); vanishing = vanishRow s a b (g .vanishing) }
 
 unfoldable pub gather : Gathered → List Row → Gathered
 gather g [] = g
@@ -66,11 +66,11 @@ pub record Next (cs : List ℤ) (ms : List ℕ) (ss : List SignSet) (i p j q : �
   pub second : On j (r .j) q
   pub less-left : i + j < r .i + r .j
 
--- what is found from L, U and strict
-abbrev pub findingBy : Kind → Gathered → SignSet
-findingBy k g = finding k (g .strict) (g .l) (g .u)
+-- what is found from what is gathered
+abbrev pub foundFrom : Kind → Gathered → SignSet
+foundFrom k g = findingBy k (g .l) (g .u) (g .vanishing)
 
 -- r is what is found for q's set from the rows of p and q on top of what is gathered, on each board whose signs these are
 pub record Found (cs : List ℤ) (ms : List ℕ) (ss : List SignSet) (p q : Run) (set : SignSet) (g : Gathered) (r : SignSet) : Type 0 where
   pub found : {board : Board} → Signed board ms ss (p .from) (p .to) → Signed board ms ss (q .from) (q .to)
-      → r ≡ findingBy (kind set) (gatherRest board cs ms (p .from) (p .to) (q .from) (q .to) g)
+      → r ≡ foundFrom (kind set) (gatherRest board cs ms (p .from) (p .to) (q .from) (q .to) g)

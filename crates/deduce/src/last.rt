@@ -1,23 +1,26 @@
 // One t that is left of L and U, from the first monomial on whose s is ≠ or full and whose b is not 0: it asks for a + tb = 0.
-// Each further monomial is then asked for the sign of a + tb at this t alone.
+// Each further monomial is then asked for the sign of a + tb at this t alone, and is strict there if that is not 0 and its set is > or <.
 ghost use mathlib.Core.Path.{_≡_};
 ghost use mathlib.Core.Bool.{not, _&&_, _||_};
 ghost use lib.Dec.{eqb};
 ghost use Rattle.rules.specs.Signs.{kind, named};
-ghost use Rattle.rules.specs.Deduce.{isZero};
+ghost use Rattle.rules.specs.Deduce.{isStrict, isZero};
 ghost use Rattle.deduction_laws.specs.FractionSets.{L, asked as askedOf};
-ghost use Rattle.deduce.specs.Merge.{findingBy};
+ghost use Rattle.deduce.specs.Merge.{foundFrom};
 ghost use Rattle.deduce.specs.Last.{asksZero, lastOf, Kept};
 use interval::finding::finding;
 use interval::interval::End;
 use interval::interval::Interval;
+use interval::vanishing::Vanishing;
+use interval::vanishing::is_strict;
 use signs::SignSet;
 
-// The t, and whether it is still in L and in U.
+// The t, whether it is still in L and in U, and whether some monomial with set > or < does not vanish at it.
 pub struct Last {
     pub t: End,
     pub l: bool,
     pub u: bool,
+    pub strict: bool,
 }
 
 // Whether a monomial with the set s asks for a + tb = 0.
@@ -39,6 +42,16 @@ pub fn rules_out(value: SignSet, s: u8) -> bool
     ensures { λ r. ⌜ r ≡ (not (eqb (value .0) 2) && asksZero (kind s)) ⌝ }
 {
     if value.0 == 2 { false } else { asks_zero(s) }
+}
+
+// Whether some monomial is strict at the t, with one more, where its a + tb has this sign.
+pub fn strict_with(before: bool, value: SignSet, s: u8) -> bool
+    ensures { λ r. ⌜ r ≡ (before || (isStrict (kind s) && not (eqb (value .0) 2))) ⌝ }
+{
+    if before {
+        return true;
+    }
+    if is_strict(s) { value.0 != 2 } else { false }
 }
 
 // The signs of a + tb that a monomial with the set s asks for in L; U asks for the mirrored set.
@@ -68,7 +81,8 @@ impl Last {
         let asks = asked(s);
         let l = both(self.l, value.inside(asks));
         let u = both(self.u, value.inside(asks.mirror()));
-        Last { t, l, u }
+        let strict = strict_with(self.strict, value, s);
+        Last { t, l, u, strict }
     }
 
     // Whether it is in neither.
@@ -78,9 +92,9 @@ impl Last {
         if self.l { false } else { !self.u }
     }
 
-    // What is found where no monomial is left. This t alone has no interior, so strict says nothing.
+    // What is found where no monomial is left.
     pub fn found(self, set: u8) -> SignSet
-        ensures { λ r. ⌜ r .0 ≡ findingBy (kind set) (lastOf self) ⌝ }
+        ensures { λ r. ⌜ r .0 ≡ foundFrom (kind set) (lastOf self) ⌝ }
     {
         let t = self.t;
         let l = Interval {
@@ -93,6 +107,11 @@ impl Last {
             high: t,
             void: !self.u,
         };
-        finding(set, false, l, u)
+        let v = Vanishing {
+            a: 0,
+            b: 0,
+            never: self.strict,
+        };
+        finding(set, l, u, v)
     }
 }

@@ -1,21 +1,22 @@
-// The merge of p's and q's terms: the monomials of p or q, the greatest first, each cuts L and U.
+// The merge of p's and q's terms: the monomials of p or q, the greatest first, each cuts the allowed t of L and of U.
 // The signs of the monomials are lent; they were worked out once for the board.
 ghost use mathlib.Core.Path.{_≡_};
-ghost use mathlib.Core.Bool.{not, _&&_, _||_};
+ghost use mathlib.Core.Bool.{_||_};
 ghost use Rattle.rules.specs.Signs.{kind};
-ghost use Rattle.rules.specs.Deduce.{hasT, isStrict, isZero};
+ghost use Rattle.rules.specs.Deduce.{hasT};
 ghost use Rattle.interval.specs.Ends.{intervalOf};
-ghost use Rattle.deduce.specs.Merge.{gatheredOf, gatherRow, Left, Next};
+ghost use Rattle.deduce.specs.Merge.{gatheredOf, begun, gatherRow, Left, Next};
 ghost use Rattle.deduce.specs.Last.{AtLast};
 use crate::last::Last;
 use interval::interval::End;
 use interval::interval::Interval;
+use interval::vanishing::Vanishing;
 
-// L and U so far, and whether they are strict.
+// The allowed t of L and of U so far, and where the monomials with set > or < vanish.
 pub struct Cuts {
     pub l: Interval,
     pub u: Interval,
-    pub strict: bool,
+    pub vanishing: Vanishing,
 }
 
 // A monomial of p or q: its coefficients in p and in q, its sign set, and where the terms after it begin.
@@ -27,57 +28,77 @@ pub struct Step {
     pub j: usize,
 }
 
-// "Strict means that some s is > or <." A monomial with both coefficients 0 is none of p or q.
-pub fn strict_with(before: bool, a: i32, b: i32, s: u8) -> bool
-    ensures { λ r. ⌜ r ≡ (before || (isStrict (kind s) && not (isZero a && isZero b))) ⌝ }
-{
-    if before {
-        return true;
-    }
-    match s {
-        1 | 4 => { if a == 0 { b != 0 } else { true } }
-        _ => false,
-    }
-}
-
 impl Cuts {
+    // The t that q's set allows, before the first monomial: for L those from 0 up if it is < or ≤, those from 0 down if it is > or ≥, every t if it is =.
+    // For U the other way about. With ≠ and the full set no t is asked for.
+    pub fn allowed(set: u8) -> Cuts
+        ensures { λ r. ⌜ gatheredOf r ≡ begun (kind set) ⌝ }
+    {
+        let vanishing = Vanishing::EVERYWHERE;
+        match set {
+            1 | 3 => Cuts {
+                l: Interval::TO_ZERO,
+                u: Interval::FROM_ZERO,
+                vanishing,
+            },
+            4 | 6 => Cuts {
+                l: Interval::FROM_ZERO,
+                u: Interval::TO_ZERO,
+                vanishing,
+            },
+            2 => Cuts {
+                l: Interval::EVERY_T,
+                u: Interval::EVERY_T,
+                vanishing,
+            },
+            _ => Cuts {
+                l: Interval::NO_T,
+                u: Interval::NO_T,
+                vanishing,
+            },
+        }
+    }
+
     // Cuts L and U by a monomial.
     pub fn by(self, a: i32, b: i32, s: u8) -> Cuts
         ensures { λ r. ⌜ gatheredOf r ≡ gatherRow (kind s) a b (gatheredOf self) ⌝ }
     {
-        let strict = strict_with(self.strict, a, b, s);
+        let so_far = self.vanishing;
+        let vanishing = so_far.by(a, b, s);
         let l = self.l;
         let u = self.u;
         match s {
             1 | 3 => {
                 let l = l.cut_not_negative(a, b);
                 let u = u.cut_not_positive(a, b);
-                Cuts { l, u, strict }
+                Cuts { l, u, vanishing }
             }
             4 | 6 => {
                 let l = l.cut_not_positive(a, b);
                 let u = u.cut_not_negative(a, b);
-                Cuts { l, u, strict }
+                Cuts { l, u, vanishing }
             }
-            0 | 2 => Cuts { l, u, strict },
+            0 | 2 => Cuts { l, u, vanishing },
             _ => {
                 let l = l.cut_not_positive(a, b).cut_not_negative(a, b);
                 let u = u.cut_not_positive(a, b).cut_not_negative(a, b);
-                Cuts { l, u, strict }
+                Cuts { l, u, vanishing }
             }
         }
     }
 
-    // Whether L and U hold a t, which is there.
+    // Whether L and U hold a t, which is there, and whether some monomial with set > or < does not vanish at it.
     pub fn at(self, t: End) -> Last
         ensures { λ r. ⌜ AtLast self t r ⌝ }
     {
         let l = self.l;
         let u = self.u;
+        let vanishing = self.vanishing;
         Last {
             t,
             l: l.holds(t),
             u: u.holds(t),
+            strict: vanishing.strict_at(t),
         }
     }
 

@@ -1,19 +1,21 @@
 -- The sign of a + tb at a t = -c/d, by the cross products ad and cb and the sign of d.
 -- It is the sign of ad - cb if d is above 0, and of cb - ad if d is below 0.
 use mathlib.Core.Path.{_≡_, refl, sym, ap, _∙_}
-use mathlib.Core.Bool.{Bool, true, false, true≢false, false≢true}
+use mathlib.Core.Bool.{Bool, true, false, not, true≢false, false≢true}
 use mathlib.Core.List.{[], _∷_}
 use Prim.Native.Nat.{zero, suc}
 use native.Mathlib.Omega.{arith}
 use borrow.Author.Tests.{ltb-true}
+use lib.Dec.{eqb}
 use lib.IntN.{ℤ, pos, negsuc, negℤ, _*ℤ_, _-ℤ_}
 use lib.Signed.{ltZ, leZ, nonNeg}
 use Rattle.whole.specs.Differences.{order-by-difference}
 use Rattle.whole.specs.Solver.{#, _:+_, _:-_, _:*_, neg, solve}
-use Rattle.rules.specs.Signs.{negative, nought, positive, signOf, only}
-use Rattle.rules.specs.Deduce.{Fraction, End, free, at}
+use Rattle.rules.specs.Signs.{negative, nought, positive, signOf, SignSet, only}
+use Rattle.rules.specs.Deduce.{Fraction, End, free, at, isZero, notZeroAt}
 use Rattle.deduction_laws.specs.Fractions.{combined, zeroFraction}
 use Rattle.interval.specs.Ends.{endAt}
+use Rattle.interval.specs.Coefficients.{zero-sign}
 
 -- ---- x - y, by the order of x and y
 
@@ -79,3 +81,11 @@ module _ (a b c : ℤ) where
   value-rising (pos (suc n)) t e f =
       solve (a ∷ b ∷ c ∷ pos (suc n) ∷ []) (# 0 :* # 3 :- # 2 :* # 1) (# 0 :* # 3 :+ neg (# 2) :* # 1) tt ∙ ap (λ (t : Fraction). combined t a b) (ap fraction f)
   value-rising (negsuc n) t e f = absurd (true≢false e)
+
+-- it is not 0, where t is there
+pub not-zero-there : (c d a b : ℤ) (value : SignSet) → isZero d ≡ false → ((t : Fraction) → endAt c d ≡ at t → value ≡ only (signOf (combined t a b)))
+    → not (eqb value 2) ≡ notZeroAt (endAt c d) a b
+unfolding notZeroAt isZero
+not-zero-there c (pos zero) a b value e f = absurd (true≢false e)
+not-zero-there c (pos (suc n)) a b value e f = ap (λ (v : SignSet). not (eqb v 2)) (f _ refl) ∙ ap not (zero-sign _)
+not-zero-there c (negsuc n) a b value e f = ap (λ (v : SignSet). not (eqb v 2)) (f _ refl) ∙ ap not (zero-sign _)

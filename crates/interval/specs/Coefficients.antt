@@ -10,6 +10,7 @@ use lib.IntN.{ℤ, pos, negsuc}
 use mir.Syntax.{w32}
 use mir.Val.{SFits, toZ, ofZ}
 use mir.ValLaws.{toZ-ofZ}
+use Rattle.rules.specs.Signs.{signOf, only}
 use Rattle.rules.specs.Deduce.{isZero}
 
 pub back : {z : ℤ} → SFits w32 z → toZ w32 (ofZ w32 z) ≡ z
@@ -26,3 +27,10 @@ is-zero f e = sym (zero-test f) ∙ eq-eqb _ 0 e
 
 pub not-zero : {z : ℤ} → SFits w32 z → (ofZ w32 z ≡ 0 → ⊥) → isZero z ≡ false
 not-zero f e = sym (zero-test f) ∙ ne-eqb _ 0 e
+
+-- a number by its sign
+pub zero-sign : (z : ℤ) → eqb (only (signOf z)) 2 ≡ isZero z
+unfolding only signOf isZero
+zero-sign (pos zero) = refl
+zero-sign (pos (suc n)) = refl
+zero-sign (negsuc n) = refl

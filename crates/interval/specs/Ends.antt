@@ -4,11 +4,11 @@ use mathlib.Core.Path.{_≡_}
 use mathlib.Core.Bool.{Bool, true, false}
 use Prim.Native.Nat.{zero, suc}
 use lib.IntN.{ℤ, pos, negsuc, negℤ}
-use Rattle.rules.specs.Deduce.{Fraction, End, free, at, Interval, endAtMost, Way, up, down}
+use Rattle.rules.specs.Deduce.{Fraction, End, free, at, Interval, endAtMost}
+use Rattle.deduction_laws.specs.Vanishing.{Vanishing}
 use Rattle.interval.specs.declared.interval.End.{End as Kept}
 use Rattle.interval.specs.declared.interval.Interval.{Interval as KeptInterval}
-use Rattle.interval.specs.declared.interval.Way.{Way as KeptWay}
-use Rattle.interval.specs.declared.interval.Way.the-variants.{Up, Down}
+use Rattle.interval.specs.declared.vanishing.Vanishing.{Vanishing as KeptVanishing}
 
 -- the fraction -a/b
 abbrev pub endAt : ℤ → ℤ → End
@@ -32,9 +32,8 @@ pub record Zero (e : Kept) : Type 0 where
 abbrev pub intervalOf : KeptInterval → Interval
 intervalOf r = record { low = endOf (r .low); high = endOf (r .high); void = r .void }
 
-abbrev pub wayOf : KeptWay → Way
-wayOf Up = up
-wayOf Down = down
+abbrev pub vanishingOf : KeptVanishing → Vanishing
+vanishingOf v = record { a = v .a; b = v .b; never = v .never }
 
 -- the higher of two ends, and the lower; of equal ones the second
 abbrev pub oneOf : Bool → End → End → End

@@ -1,66 +1,42 @@
-// What is found of p from L, U and strict: 01's five bullets, by the set of q.
-// L gives > and ≥; what U gives is the same with < for > and ≤ for ≥, and the signs of t exchanged.
+// What is found of p by q's set, from the allowed t of L and of U and the monomials that are strict at them: 01's five bullets as 02, #104, has them.
+// L gives > and ≥; what U gives is the same with < for > and ≤ for ≥.
 ghost use mathlib.Core.Path.{_≡_};
+ghost use mathlib.Core.Bool.{_&&_, _||_};
 ghost use Rattle.rules.specs.Signs.{kind};
-ghost use Rattle.rules.specs.Deduce.{fromStrict, fromWeak, fromEqual, finding as findingBy};
-ghost use Rattle.interval.specs.Ends.{intervalOf, wayOf};
+ghost use Rattle.deduction_laws.specs.Vanishing.{foundBy, findingBy};
+ghost use Rattle.interval.specs.Ends.{intervalOf, vanishingOf};
 use crate::interval::Interval;
-use crate::interval::Way;
+use crate::vanishing::Vanishing;
+use crate::vanishing::is_strict;
 use signs::SignSet;
 
-// "if L has a t > 0, p > 0; else if 0 is in L, p ≥ 0."
-pub fn from_strict(way: Way, r: Interval) -> SignSet
-    ensures { λ s. ⌜ s .0 ≡ fromStrict (wayOf way) (intervalOf r) ⌝ }
+// Strict where some t is: a monomial is strict at it, or q's set is < or > and it is other than 0.
+pub fn strictly(q: bool, other: bool, monomial: bool) -> bool
+    ensures { λ r. ⌜ r ≡ ((q && other) || monomial) ⌝ }
 {
-    if r.has_past(way) {
-        return SignSet(1);
+    if monomial {
+        return true;
     }
-    if r.has_zero() {
-        SignSet(3)
-    } else {
-        SignSet::FULL
-    }
+    if q { other } else { false }
 }
 
-// "if strict and L's interior has a t > 0, p > 0; else if L has a t ≥ 0, p ≥ 0."
-pub fn from_weak(strict: bool, way: Way, r: Interval) -> SignSet
-    ensures { λ s. ⌜ s .0 ≡ fromWeak strict (wayOf way) (intervalOf r) ⌝ }
+// What the allowed t of L give.
+pub fn found_in(set: u8, r: Interval, v: Vanishing) -> SignSet
+    ensures { λ s. ⌜ s .0 ≡ foundBy (kind set) (intervalOf r) (vanishingOf v) ⌝ }
 {
-    if strict {
-        if r.has_inner_past(way) {
-            return SignSet(1);
-        }
+    if !r.has_t() {
+        return SignSet::FULL;
     }
-    if r.has_from(way) {
-        SignSet(3)
+    if strictly(is_strict(set), r.has_other(), v.strict_in(r)) {
+        SignSet(1)
     } else {
-        SignSet::FULL
+        SignSet(3)
     }
-}
-
-// "if strict and L's interior is not empty, p > 0; else if L is not empty, p ≥ 0."
-pub fn from_equal(strict: bool, r: Interval) -> SignSet
-    ensures { λ s. ⌜ s .0 ≡ fromEqual strict (intervalOf r) ⌝ }
-{
-    if strict {
-        if r.has_inner() {
-            return SignSet(1);
-        }
-    }
-    if r.has_t() { SignSet(3) } else { SignSet::FULL }
 }
 
 // "The findings are intersected."
-pub fn finding(set: u8, strict: bool, l: Interval, u: Interval) -> SignSet
-    ensures { λ r. ⌜ r .0 ≡ findingBy (kind set) strict (intervalOf l) (intervalOf u) ⌝ }
+pub fn finding(set: u8, l: Interval, u: Interval, v: Vanishing) -> SignSet
+    ensures { λ r. ⌜ r .0 ≡ findingBy (kind set) (intervalOf l) (intervalOf u) (vanishingOf v) ⌝ }
 {
-    match set {
-        0 => SignSet::EMPTY,
-        1 => from_strict(Way::Down, l).intersect(from_strict(Way::Up, u).mirror()),
-        2 => from_equal(strict, l).intersect(from_equal(strict, u).mirror()),
-        3 => from_weak(strict, Way::Down, l).intersect(from_weak(strict, Way::Up, u).mirror()),
-        4 => from_strict(Way::Up, l).intersect(from_strict(Way::Down, u).mirror()),
-        6 => from_weak(strict, Way::Up, l).intersect(from_weak(strict, Way::Down, u).mirror()),
-        _ => SignSet::FULL,
-    }
+    found_in(set, l, v).intersect(found_in(set, u, v).mirror())
 }

@@ -4,10 +4,10 @@ ghost use mathlib.Core.Path.{_≡_};
 ghost use lib.IntN.{_*ℤ_, _-ℤ_};
 ghost use Rattle.rules.specs.Signs.{only, signOf};
 ghost use Rattle.rules.specs.Deduce.{Fraction, at};
-ghost use Rattle.rules.specs.Deduce.{endAtMost, endBelow, cutNotNegative, cutNotPositive, pastZero, reachesZero, hasT, hasZero, hasPast, hasFrom, hasInner, hasInnerPast};
+ghost use Rattle.rules.specs.Deduce.{endAtMost, endBelow, cutNotNegative, cutNotPositive, hasT, hasMore, hasOther, notZeroAt};
 ghost use Rattle.deduction_laws.specs.Fractions.{combined};
 ghost use Rattle.deduction_laws.specs.Exact.{hasAt};
-ghost use Rattle.interval.specs.Ends.{endAt, endOf, intervalOf, wayOf, higherEnd, lowerEnd};
+ghost use Rattle.interval.specs.Ends.{endAt, endOf, intervalOf, higherEnd, lowerEnd};
 use signs::SignSet;
 
 // The fraction -a/b; no end on this side if b is 0.
@@ -21,12 +21,6 @@ pub struct Interval {
     pub low: End,
     pub high: End,
     pub void: bool,
-}
-
-// The sign of the t that is asked for: above 0, or below 0.
-pub enum Way {
-    Up,
-    Down,
 }
 
 // Each product of two coefficients fits 64 signed bits.
@@ -96,6 +90,18 @@ impl End {
         }
     }
 
+    // Whether a + tb is not 0 at this t; if it is not there, no.
+    pub fn not_zero_at(self, a: i32, b: i32) -> bool
+        ensures { λ r. ⌜ r ≡ notZeroAt (endOf self) a b ⌝ }
+    {
+        let d = self.b;
+        if d == 0 {
+            return false;
+        }
+        let value = self.sign_at(a, b);
+        value.0 != 2
+    }
+
     pub fn at_most(self, other: End) -> bool
         ensures { λ r. ⌜ r ≡ endAtMost (endOf self) (endOf other) ⌝ }
     {
@@ -128,6 +134,24 @@ impl Interval {
         low: End { a: 0, b: 0 },
         high: End { a: 0, b: 0 },
         void: false,
+    };
+
+    pub const FROM_ZERO: Interval = Interval {
+        low: End { a: 0, b: 1 },
+        high: End { a: 0, b: 0 },
+        void: false,
+    };
+
+    pub const TO_ZERO: Interval = Interval {
+        low: End { a: 0, b: 0 },
+        high: End { a: 0, b: 1 },
+        void: false,
+    };
+
+    pub const NO_T: Interval = Interval {
+        low: End { a: 0, b: 0 },
+        high: End { a: 0, b: 0 },
+        void: true,
     };
 
     // Cut by a + tb ≥ 0.
@@ -212,31 +236,7 @@ impl Interval {
         }
     }
 
-    // Whether it goes on above 0 (up), or below 0 (down).
-    pub fn past_zero(self, way: Way) -> bool
-        ensures { λ r. ⌜ r ≡ pastZero (wayOf way) (intervalOf self) ⌝ }
-    {
-        let low = self.low;
-        let high = self.high;
-        match way {
-            Way::Up => End::ZERO.below(high),
-            Way::Down => low.below(End::ZERO),
-        }
-    }
-
-    // Whether it goes as far as 0, from below (up) or from above (down).
-    pub fn reaches_zero(self, way: Way) -> bool
-        ensures { λ r. ⌜ r ≡ reachesZero (wayOf way) (intervalOf self) ⌝ }
-    {
-        let low = self.low;
-        let high = self.high;
-        match way {
-            Way::Up => End::ZERO.at_most(high),
-            Way::Down => low.at_most(End::ZERO),
-        }
-    }
-
-    // "L is not empty".
+    // Whether it has a t.
     pub fn has_t(self) -> bool
         ensures { λ r. ⌜ r ≡ hasT (intervalOf self) ⌝ }
     {
@@ -245,59 +245,25 @@ impl Interval {
         if self.void { false } else { low.at_most(high) }
     }
 
-    // "L's interior is not empty": some t has a smaller and a larger one beside it.
-    pub fn has_inner(self) -> bool
-        ensures { λ r. ⌜ r ≡ hasInner (intervalOf self) ⌝ }
+    // Whether it has more than one.
+    pub fn has_more(self) -> bool
+        ensures { λ r. ⌜ r ≡ hasMore (intervalOf self) ⌝ }
     {
         let low = self.low;
         let high = self.high;
         if self.void { false } else { low.below(high) }
     }
 
-    // "0 is in L".
-    pub fn has_zero(self) -> bool
-        ensures { λ r. ⌜ r ≡ hasZero (intervalOf self) ⌝ }
+    // Whether a t of it, if it has any, is not 0.
+    pub fn has_other(self) -> bool
+        ensures { λ r. ⌜ r ≡ hasOther (intervalOf self) ⌝ }
     {
-        if self.void {
-            return false;
-        }
-        if self.reaches_zero(Way::Down) {
-            self.reaches_zero(Way::Up)
+        let low = self.low;
+        let high = self.high;
+        if low.below(End::ZERO) {
+            true
         } else {
-            false
-        }
-    }
-
-    // "L has a t > 0", or "t < 0".
-    pub fn has_past(self, way: Way) -> bool
-        ensures { λ r. ⌜ r ≡ hasPast (wayOf way) (intervalOf self) ⌝ }
-    {
-        if self.has_t() {
-            self.past_zero(way)
-        } else {
-            false
-        }
-    }
-
-    // "L has a t ≥ 0", or "t ≤ 0".
-    pub fn has_from(self, way: Way) -> bool
-        ensures { λ r. ⌜ r ≡ hasFrom (wayOf way) (intervalOf self) ⌝ }
-    {
-        if self.has_t() {
-            self.reaches_zero(way)
-        } else {
-            false
-        }
-    }
-
-    // "L's interior has a t > 0", or "t < 0".
-    pub fn has_inner_past(self, way: Way) -> bool
-        ensures { λ r. ⌜ r ≡ hasInnerPast (wayOf way) (intervalOf self) ⌝ }
-    {
-        if self.has_inner() {
-            self.past_zero(way)
-        } else {
-            false
+            End::ZERO.below(high)
         }
     }
 }

@@ -1,6 +1,6 @@
 -- `deduce_from` meets its contract: the empty set, a set that says nothing, or what is found.
 use borrow.Author.Needs.{needs}
-use mathlib.Core.Path.{refl, _∙_}
+use mathlib.Core.Path.{_∙_}
 use mathlib.Core.Logic.{inl, inr}
 use borrow.Author.Tests.{eq-eqb}
 use Rattle.rules.specs.Deduce.{deduce, unlessEmpty}
@@ -18,4 +18,4 @@ deduce-from-spec =
     tie.close
     (tie.spec returns (λ c. record { on = λ s t h. deduce-none _ _ _ _ (inl (c .if2 .taken)) h })
     (λ c. record { on = λ s t h. deduce-none _ _ _ _ (inr (c .if3 .taken)) h }) (λ c κs. search needs)
-    (λ c. record { on = λ s t h. c .found .ensures .found s t ∙ finding-gathered _ _ _ refl ∙ deduce-found _ _ _ _ (c .before .before .before .if1 .left) h }))
+    (λ c. record { on = λ s t h. c .found .ensures .found s t ∙ finding-gathered _ _ ∙ deduce-found _ _ _ _ (c .before .before .before .if1 .left) h }))

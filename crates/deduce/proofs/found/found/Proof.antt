@@ -8,10 +8,10 @@ use mir.Syntax.{w32}
 use mir.Val.{toZ, ofZ}
 use Rattle.sign_laws.specs.Booleans.{and-first, and-second, neither, not-true}
 use Rattle.rules.specs.Signs.{kind}
-use Rattle.rules.specs.Deduce.{at, everyT, isZero, hasT}
+use Rattle.rules.specs.Deduce.{at, isZero, hasT}
 use Rattle.interval.specs.Ends.{endAt, endOf, intervalOf, There}
 use Rattle.interval.specs.Coefficients.{back, is-zero}
-use Rattle.deduce.specs.Merge.{gatheredOf, nothing, gatherRow, findingBy}
+use Rattle.deduce.specs.Merge.{gatheredOf, begun, gatherRow, foundFrom}
 use Rattle.deduce.specs.Last.{asksZero, lastOf}
 use Rattle.deduce.proofs.Rows.{Walked, walk-on, of-none}
 use Rattle.deduce.proofs.Nothing.{finding-nothing}
@@ -21,14 +21,13 @@ use Rattle.deduce.proofs.found.found.Statement.{statement}
 use Rattle.deduce.proofs.found.found.Tie as tie
 
 abbrev Inv-loop : tie.InvT-loop
-Inv-loop coefficient monomial sign set p-to q-to c₀ i₀ j₀ c i j = Walked coefficient monomial sign i₀ p-to j₀ q-to (gatheredOf c) i j
+Inv-loop coefficient monomial sign set p-to q-to c₀ i₀ j₀ c i j = Walked coefficient monomial sign i₀ p-to j₀ q-to (begun (kind set)) (gatheredOf c) i j
 
 abbrev μ-loop : tie.MeasureT-loop
 μ-loop coefficient monomial sign set p-to q-to c₀ i₀ j₀ c i j = p-to + q-to - (i + j)
 
 loop-holds : tie.Need-loop-holds Inv-loop μ-loop
-unfolding nothing everyT
-loop-holds c = record { first = omega arith; second = omega arith; rest = λ s t. refl }
+loop-holds c = record { first = omega arith; second = omega arith; rest = λ s t. rw (c .allowed .ensures) }
 
 -- the row's coefficients, from their bits
 a-back : (c : tie.After-struct-told2 Inv-loop μ-loop) → let n = c .before .before .next .result in toZ w32 (ofZ w32 (n .a)) ≡ n .a
@@ -62,9 +61,9 @@ there c = record { fraction = root (c .before) .fraction; is = ap endOf (c .at .
 
 -- after one more row
 walked : (c : tie.After-by Inv-loop μ-loop) →
-    let s = c .before .before .before .before .before .before .before .before .before .before .args in
+    let s = c .before .before .before .before .before .before .before .before .before .before .before .args in
     let r = c .before .before .before .before .before .next .result in
-    Walked (s .coefficient .now) (s .monomial .now) (s .sign .now) (s .p .from) (s .p .to) (s .q .from) (s .q .to) (gatheredOf (c .by .result)) (r .i) (r .j)
+    Walked (s .coefficient .now) (s .monomial .now) (s .sign .now) (s .p .from) (s .p .to) (s .q .from) (s .q .to) (begun (kind (s .set))) (gatheredOf (c .by .result)) (r .i) (r .j)
 walked c =
     walk-on (c .before .before .before .before .before .before .before .loop .inv) (c .before .before .before .before .before .next .ensures)
     (rw (c .by .ensures, a-back (c .before .before .before), b-back (c .before .before .before)))
@@ -72,10 +71,10 @@ walked c =
 found-at-zero-requires : tie.Need-found-at-zero-requires Inv-loop μ-loop
 unfolding there
 found-at-zero-requires c κs =
-    let start = c .before .before .before .before .before .before .before .before .before .before .before in
+    let start = c .before .before .before .before .before .before .before .before .before .before .before .before in
     let fits = c .before .before .before .before .struct-told2 .given .0 .1 in
     let nought = root (c .before .before) .nought (is-zero (record { sfits = fits }) (c .if2 .taken)) in
-    ((start .pre .0 .coefficients, start .pre .0 .signs), (start .pre .1 .1, record { there = there (c .before); nought = nought }))
+    ((start .pre .0 .coefficients, start .pre .0 .signs), record { there = there (c .before); nought = nought })
 
 returns : tie.Need-returns Inv-loop μ-loop
 returns c =
@@ -85,13 +84,13 @@ returns c =
 
 found-at-requires : tie.Need-found-at-requires Inv-loop μ-loop
 found-at-requires c κs =
-    let start = c .before .before .before .before .before .before .before .before .before .before .before in
+    let start = c .before .before .before .before .before .before .before .before .before .before .before .before in
     let step = c .before .before .before .before .before .before .next .ensures in
-    let (mine, (its, some)) = start .pre in (
+    let (mine, its) = start .pre in (
       record { ordered = step .first .within; coefficients = mine .coefficients; monomials = mine .monomials; signs = mine .signs },
       (
         record { ordered = step .second .within; coefficients = its .coefficients; monomials = its .monomials; signs = its .signs },
-        (some, there (c .before)),
+        there (c .before),
       ),
     )
 
@@ -104,22 +103,21 @@ returns-2 c =
 returns-3 : tie.Need-returns-3 Inv-loop μ-loop
 returns-3 c =
     let w = walked (c .before .before) in
-    let start = c .before .before .before .before .before .before .before .before .before .before .before .before in
     let r = c .before .before .by .result in
     let none = neither (hasT (intervalOf (r .l))) (hasT (intervalOf (r .u))) .0 (sym (c .before .has-t .ensures) ∙ not-true _ (c .if3 .taken)) in
-    record { found = λ s t. finding-nothing _ (gatheredOf r) _ (start .pre .1 .1) (none .0) (none .1) ∙ ap (findingBy _) (w .rest s t) }
+    record { found = λ s t. finding-nothing _ (gatheredOf r) _ (none .0) (none .1) ∙ ap (foundFrom _) (w .rest s t) }
 
 returns-4 : tie.Need-returns-4 Inv-loop μ-loop
 returns-4 c =
-    let l = c .before .before .before .before .loop in
-    let a = c .before .before .before .before .before .before .before .args in
+    let l = c .before .before .before .before .before .loop in
+    let a = c .before .before .before .before .before .before .before .before .before .args in
     let h : a .p .to ≤ l .i = omega arith in
     let k : a .q .to ≤ l .j = omega arith in
-    record { found = λ s t. c .finding .ensures ∙ ap (findingBy _) (sym (of-none _ _ _ _ _ _ _ _ h k) ∙ l .inv .rest s t) }
+    record { found = λ s t. c .finding .ensures ∙ ap (foundFrom _) (sym (of-none _ _ _ _ _ _ _ _ h k) ∙ l .inv .rest s t) }
 
 pub found-spec : {M : Type 1} → statement M
 found-spec =
     tie.close
-    (tie.spec Inv-loop μ-loop loop-holds (λ c. omega arith) (λ c. omega arith) (λ c κs. search needs) (λ c κs. search needs) (λ c κs. search needs)
+    (tie.spec Inv-loop μ-loop (λ c κs. search needs) loop-holds (λ c. omega arith) (λ c. omega arith) (λ c κs. search needs) (λ c κs. search needs) (λ c κs. search needs)
     found-at-zero-requires returns found-at-requires returns-2 (λ c κs. search needs) (λ c κs. search needs) returns-3
     (λ c. omega arith) (λ c. walked (c .before .before)) (λ c κs. search needs) returns-4)

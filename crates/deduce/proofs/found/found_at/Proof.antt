@@ -44,19 +44,19 @@ returns c =
     let d = c .before .before in
     let start = d .before .before .before .before .before .before .before .before .before in
     let l = d .before .before .before .before .before .before .loop in
-    let there = start .pre .1 .1 .1 in
+    let there = start .pre .1 .1 in
     let value = value-is d (there .fraction) (ap endOf (l .inv .t) ∙ there .is) in
     let out = ruled-out {x = l .left} _ value (sym (c .before .rules-out .ensures) ∙ c .if1 .taken) in
-    last-none (walked d (gone (l .left)) out) there (start .pre .1 .1 .0) refl
+    last-none (walked d (gone (l .left)) out) there refl
 
 returns-2 : tie.Need-returns-2 Inv-loop μ-loop
 returns-2 c =
     let d = c .before .before .before .before .before in
     let start = d .before .before .before .before .before .before .before .before .before in
-    last-none (walked d _ (c .before .before .by .ensures)) (start .pre .1 .1 .1) (start .pre .1 .1 .0) (sym (c .before .is-gone .ensures) ∙ c .if2 .taken)
+    last-none (walked d _ (c .before .before .by .ensures)) (start .pre .1 .1) (sym (c .before .is-gone .ensures) ∙ c .if2 .taken)
 
 returns-3 : tie.Need-returns-3 Inv-loop μ-loop
-returns-3 c = last-done (c .before .before .loop .inv) (c .before .before .before .before .before .pre .1 .1 .1) (omega arith) (omega arith) (c .found .ensures)
+returns-3 c = last-done (c .before .before .loop .inv) (c .before .before .before .before .before .pre .1 .1) (omega arith) (omega arith) (c .found .ensures)
 
 pub found-at-spec : {M : Type 1} → statement M
 found-at-spec =

@@ -41,16 +41,16 @@ returns c =
     let start = d .before .before .before .before .before .before in
     let l = d .before .before .before .before .loop in
     let out = ruled-out {x = l .left} _ (value-is d) (sym (c .before .rules-out .ensures) ∙ c .if1 .taken) in
-    zero-gone (walked d (gone (l .left)) out) (start .pre .1 .1) (start .pre .1 .0) refl
+    zero-gone (walked d (gone (l .left)) out) (start .pre .1) refl
 
 returns-2 : tie.Need-returns-2 Inv-loop μ-loop
 returns-2 c =
     let start = c .before .before .before .before .before .before .before .before .before .before .before in
-    zero-gone (walked (c .before .before .before .before .before) _ (c .before .before .by .ensures)) (start .pre .1 .1) (start .pre .1 .0)
+    zero-gone (walked (c .before .before .before .before .before) _ (c .before .before .by .ensures)) (start .pre .1)
     (sym (c .before .is-gone .ensures) ∙ c .if2 .taken)
 
 returns-3 : tie.Need-returns-3 Inv-loop μ-loop
-returns-3 c = zero-done (c .before .before .loop .inv) (c .before .before .before .before .pre .1 .1) (omega arith) (c .found .ensures)
+returns-3 c = zero-done (c .before .before .loop .inv) (c .before .before .before .before .pre .1) (omega arith) (c .found .ensures)
 
 pub found-at-zero-spec : {M : Type 1} → statement M
 found-at-zero-spec =
