@@ -1,6 +1,7 @@
 pub mod Signs
 pub mod Polynomial
 pub mod Deduce
+pub mod Plain
 pub mod Rounds
 pub mod Formula
 pub mod Level
@@ -12,3 +13,4 @@ pub mod Report
 pub mod Meaning
 pub mod Demands
 pub mod Cases
+pub mod ByHand
