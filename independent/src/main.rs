@@ -7,10 +7,10 @@ use std::process::ExitCode;
 use independent::answer::{answer, read_report, report, MOST_READ};
 use independent::cases::{cases, later_cases};
 use independent::count::work_of;
-use independent::{bench, block, book, check, corpus, edge, engine, search, smt};
+use independent::{bench, block, book, check, corpus, edge, engine, plain, search, smt};
 
 const USAGE: &str =
-    "usage: independent [many | read | describe | deductions | lists | count | repeat | smt | bench NAME |\n\
+    "usage: independent [many | read | describe | deductions | plain | shown [NAME..] | lists | count | repeat | smt | bench NAME |\n\
                     corpus KIND SEED COUNT | book SEED COUNT | check SEED COUNT]\n\
      KIND is valid, damaged, trees, edge, cases, later, deductions, points, lists or candidates\n";
 
@@ -23,6 +23,8 @@ fn main() -> ExitCode {
         ["read"] => each_block(|_, block| read_report(block)),
         ["describe"] => each_block(|index, block| format!("{index} {}", read_report(block))),
         ["deductions"] => each_block(|_, block| engine::deduction_line(block)),
+        ["plain"] => each_block(|_, block| plain::line(block)),
+        ["shown", ref names @ ..] => show(names),
         ["lists"] => each_block(|_, block| engine::list_line(block)),
         ["count"] => each_block(|_, block| count_line(block)),
         ["bench", name] => write_bench(name),
@@ -112,6 +114,14 @@ fn write_corpus(kind: &str, seed: u64, count: usize) -> io::Result<ExitCode> {
 fn write_bench(name: &str) -> io::Result<ExitCode> {
     let Some(block) = bench::block(name) else { return usage() };
     io::stdout().lock().write_all(&block)?;
+    Ok(ExitCode::SUCCESS)
+}
+
+/// One deduction as a block on standard input, shown with all its values.
+fn show(names: &[&str]) -> io::Result<ExitCode> {
+    let mut input = vec![];
+    io::stdin().lock().read_to_end(&mut input)?;
+    io::stdout().write_all(plain::shown(&input, names).as_bytes())?;
     Ok(ExitCode::SUCCESS)
 }
 
