@@ -11,7 +11,7 @@ use independent::{bench, block, book, check, corpus, edge, engine, plain, search
 
 const USAGE: &str =
     "usage: independent [many | read | describe | deductions | plain | shown [NAME..] | lists | count | repeat | smt | bench NAME |\n\
-                    corpus KIND SEED COUNT | book SEED COUNT | check SEED COUNT]\n\
+                    corpus KIND SEED COUNT | book SEED COUNT | book-deductions SEED COUNT | check SEED COUNT]\n\
      KIND is valid, damaged, trees, edge, cases, later, deductions, points, lists or candidates\n";
 
 fn main() -> ExitCode {
@@ -36,6 +36,12 @@ fn main() -> ExitCode {
         },
         ["book", seed, count] => match (seed.parse(), count.parse()) {
             (Ok(seed), Ok(count)) => write_claims(seed, count),
+            _ => usage(),
+        },
+        ["book-deductions", seed, count] => match (seed.parse(), count.parse()) {
+            (Ok(seed), Ok(count)) => io::stdout()
+                .write_all(book::deduction_claims(seed, count).as_bytes())
+                .map(|()| ExitCode::SUCCESS),
             _ => usage(),
         },
         ["check", seed, count] => match (seed.parse(), count.parse()) {
