@@ -16,7 +16,7 @@ use Rattle.deduction_laws.specs.FractionSets.{L, U, asked}
 use Rattle.deduction_laws.specs.Intervals.{Inside, interval-from}
 use Rattle.deduction_laws.specs.Exact.{hasAt}
 use Rattle.deduction_laws.specs.Found.{Same, same-rows}
-use Rattle.deduction_laws.specs.Vanishing.{vanishRow, strictWhere, strict-row, same-strict-rows, zero-by-sign, strict-at-one, strict-said, same-found-by}
+use Rattle.deduction_laws.specs.Vanishing.{vanishRow, strictWhere, strict-row, same-strict-rows, zero-by-sign, strict-at-one, strict-said, same-finding}
 use Rattle.deduction_laws.specs.Points.{point, inside-point, point-row, Root, root-rising, root-falling, root-row, sign-at-zero, asked-nought}
 use Rattle.deduction_laws.specs.Rows.{of-rows}
 use Rattle.interval.specs.declared.interval.End.{End as KeptEnd}
@@ -47,8 +47,8 @@ pub record Alike (g h : Gathered) : Type 0 where
 
 pub alike : {g h : Gathered} → Alike g h → (k : Kind) (xs : List Row) → foundFrom k (gather g xs) ≡ foundFrom k (gather h xs)
 alike {g} {h} s k xs = rw (gathered xs g, gathered xs h) (ap₂ (λ (s t : SignSet). intersect s (mirror t))
-    (same-found-by k _ _ (same-rows L xs (s .l)) (λ t i. same-strict-rows (g .vanishing) (h .vanishing) t xs (s .l-strict t (interval-from L (h .l) xs t .0 i .1))))
-    (same-found-by k _ _ (same-rows U xs (s .u)) (λ t i. same-strict-rows (g .vanishing) (h .vanishing) t xs (s .u-strict t (interval-from U (h .u) xs t .0 i .1)))))
+    (same-finding L k _ _ (same-rows L xs (s .l)) (λ t i. same-strict-rows (g .vanishing) (h .vanishing) t xs (s .l-strict t (interval-from L (h .l) xs t .0 i .1))))
+    (same-finding U k _ _ (same-rows U xs (s .u)) (λ t i. same-strict-rows (g .vanishing) (h .vanishing) t xs (s .u-strict t (interval-from U (h .u) xs t .0 i .1)))))
 
 -- ---- one row
 

@@ -1,6 +1,6 @@
 -- The merge, one law for each way that a row is taken off the two runs, and the three results of the walk apart.
 -- A row's kind comes from the sign that is lent at the term's place.
-use mathlib.Core.Path.{_≡_, refl, sym, ap, ap₂, _∙_}
+use mathlib.Core.Path.{_≡_, refl, sym, ap, _∙_}
 use mathlib.Core.List.{List, [], _∷_}
 use Prim.Native.Nat.{ℕ, _+_, _<_, _≤_}
 use native.Mathlib.Nat.{le-refl}
@@ -8,14 +8,14 @@ use native.Mathlib.Omega.{arith}
 use borrow.Author.Tests.{eq-eqb, ne-eqb, lt-ltb, le-ltb}
 use lib.IntN.{ℤ, pos}
 use lib.ListN.{getD}
-use Rattle.rules.specs.Signs.{SignSet, Kind, kind, mirror, intersect}
+use Rattle.rules.specs.Signs.{SignSet, Kind, kind}
 use Rattle.rules.specs.Polynomial.{Board}
-use Rattle.rules.specs.Deduce.{Row, row, rowsOfQ, ofThree, rowsFrom, rows, intervalL, intervalU, allowedL, allowedU, findingOf}
-use Rattle.deduction_laws.specs.Vanishing.{vanishRows, in-one-pass}
+use Rattle.rules.specs.Deduce.{Row, row, rowsOfQ, ofThree, rowsFrom, rows, intervalL, intervalU, findingOf}
+use Rattle.deduction_laws.specs.Vanishing.{vanishRows, finding-in-one-pass}
 use Rattle.terms.specs.View.{terms-cons, terms-nil}
 use Rattle.terms.specs.Signed.{Signed, signed-within}
 use Rattle.deduce.specs.declared.merge.Step.{Step}
-use Rattle.deduce.specs.Merge.{Gathered, begun, gatherRow, gather, gatherRest, foundFrom, On, Next}
+use Rattle.deduce.specs.Merge.{Gathered, nothing, gatherRow, gather, gatherRest, foundFrom, On, Next}
 
 -- what is gathered from the rows of two runs, with the signs that are lent
 module _ {board : Board} (cs : List ℤ) {ms : List ℕ} {ss : List SignSet} {i p j q : ℕ}
@@ -75,8 +75,6 @@ gathered [] g = refl
 gathered (x ∷ xs) g = gathered xs (gatherRow (x .s) (x .a) (x .b) g)
 
 -- what is gathered gives the book's finding
-pub finding-gathered : (k : Kind) (xs : List Row) → foundFrom k (gather (begun k) xs) ≡ findingOf k xs
-unfolding findingOf begun
-finding-gathered k xs =
-    ap (foundFrom k) (gathered xs (begun k))
-    ∙ ap₂ (λ s t. intersect s (mirror t)) (in-one-pass k (intervalL (allowedL k) xs) xs) (in-one-pass k (intervalU (allowedU k) xs) xs)
+pub finding-gathered : (k : Kind) (xs : List Row) → foundFrom k (gather nothing xs) ≡ findingOf k xs
+unfolding nothing
+finding-gathered k xs = ap (foundFrom k) (gathered xs nothing) ∙ finding-in-one-pass k xs

@@ -1,4 +1,4 @@
--- What the code does for each sign set, by its number: the t that it allows, the cuts of L and U, and the sets that ask for a + tb = 0.
+-- What the code does for each sign set, by its number: the cuts of L and U, and the sets that ask for a + tb = 0.
 -- The code matches on the number; the book goes by the kind of that number.
 use mathlib.Core.Path.{_≡_, refl}
 use mathlib.Core.Bool.{true, false, false≢true}
@@ -11,33 +11,10 @@ use native.Mathlib.Omega.{arith}
 use borrow.Author.Tests.{le-leb}
 use lib.Dec.{leb}
 use Rattle.rules.specs.Signs.{Kind, ∅, >0, =0, ≥0, <0, ≠0, ≤0, any, kind, named, mirror, open-signs}
-use Rattle.rules.specs.Deduce.{Interval, cutNotNegative, cutNotPositive, cutL, cutU, isStrict, fromZero, toZero, noT, allowedL, allowedU}
+use Rattle.rules.specs.Deduce.{Interval, cutNotNegative, cutNotPositive, cutL, cutU, isStrict}
 use Rattle.deduction_laws.specs.FractionSets.{L, U, asked}
 use Rattle.interval.specs.Kinds.{by-kind}
 use Rattle.deduce.specs.Last.{asksZero}
-
--- ---- the t that q's set allows
-
-module _ (k : ℕ) where
-  -- > and ≥
-  pub allowed-positive : OneOf (1 ∷ 3 ∷ []) k → (allowedL (kind k) ≡ toZero) × (allowedU (kind k) ≡ fromZero)
-  unfolding kind allowedL allowedU
-  allowed-positive (inl e) = rw e (refl, refl)
-  allowed-positive (inr e) = rw e (refl, refl)
-
-  -- < and ≤
-  pub allowed-negative : OneOf (4 ∷ 6 ∷ []) k → (allowedL (kind k) ≡ fromZero) × (allowedU (kind k) ≡ toZero)
-  unfolding kind allowedL allowedU
-  allowed-negative (inl e) = rw e (refl, refl)
-  allowed-negative (inr e) = rw e (refl, refl)
-
--- ≠ and full, and the empty set
-pub allowed-none : (k : ℕ) → (OneOf (1 ∷ 3 ∷ []) k → ⊥) → (OneOf (4 ∷ 6 ∷ []) k → ⊥) → (k ≡ 2 → ⊥) → (allowedL (kind k) ≡ noT) × (allowedU (kind k) ≡ noT)
-unfolding allowedL allowedU
-allowed-none = by-kind
-    (λ k s. (OneOf (1 ∷ 3 ∷ []) k → ⊥) → (OneOf (4 ∷ 6 ∷ []) k → ⊥) → (k ≡ 2 → ⊥) → (allowedL s ≡ noT) × (allowedU s ≡ noT))
-    (λ f g h. (refl, refl)) (λ f g h. absurd (f (inl refl))) (λ f g h. absurd (h refl)) (λ f g h. absurd (f (inr refl)))
-    (λ f g h. absurd (g (inl refl))) (λ f g h. (refl, refl)) (λ f g h. absurd (g (inr refl))) (λ k f g h. (refl, refl))
 
 -- ---- the cuts of L and U
 

@@ -7,7 +7,7 @@ use lib.IntN.{ℤ}
 use lib.ListN.{length}
 use Rattle.rules.specs.Signs.{SignSet, Kind, kind}
 use Rattle.rules.specs.Polynomial.{Board}
-use Rattle.rules.specs.Deduce.{Interval, cutL, cutU, Row, rows, allowedL, allowedU}
+use Rattle.rules.specs.Deduce.{Interval, cutL, cutU, Row, rows, everyT}
 use Rattle.deduction_laws.specs.Vanishing.{Vanishing, everywhere, vanishRow, findingBy}
 use Rattle.terms.specs.View.{termsOf}
 use Rattle.terms.specs.Signed.{Signed}
@@ -16,7 +16,7 @@ use Rattle.deduce.specs.declared.merge.Cuts.{Cuts}
 use Rattle.deduce.specs.declared.merge.Step.{Step}
 use Rattle.deduce.specs.declared.Run.{Run}
 
--- the allowed t of L and of U, and where the strict rows vanish
+-- L, U, and where the strict rows vanish
 pub record Gathered : Type 0 where
   pub l : Interval
   pub u : Interval
@@ -25,9 +25,9 @@ pub record Gathered : Type 0 where
 abbrev pub gatheredOf : Cuts → Gathered
 gatheredOf c = record { l = intervalOf (c .l); u = intervalOf (c .u); vanishing = vanishingOf (c .vanishing) }
 
--- before the first row: every t that q's set allows
-unfoldable pub begun : Kind → Gathered
-begun k = record { l = allowedL k; u = allowedU k; vanishing = everywhere }
+-- before the first row
+unfoldable pub nothing : Gathered
+nothing = record { l = everyT; u = everyT; vanishing = everywhere }
 
 -- after one more row, and after all of some rows
 unfoldable pub gatherRow : Kind → ℤ → ℤ → Gathered → Gathered

@@ -1,10 +1,9 @@
 // What is found of p from q and its set, over all monomials of p or q: no further than where neither L nor U has a t.
 // Where one t is left the rest of the merge is about that t; where it is 0 the terms of q say no more.
 ghost use Prim.Native.Nat.{_≤_};
-ghost use Rattle.rules.specs.Signs.{kind};
 ghost use lib.ListN.{length};
 ghost use Rattle.interval.specs.Ends.{There, Zero};
-ghost use Rattle.deduce.specs.Merge.{begun, Found};
+ghost use Rattle.deduce.specs.Merge.{nothing, Found};
 ghost use Rattle.deduce.specs.Last.{lastOf, FoundAtZero};
 ghost use Rattle.deduce.specs.Runs.{Within};
 use crate::Run;
@@ -15,6 +14,8 @@ use crate::merge::Cuts;
 use crate::merge::next;
 use interval::finding::finding;
 use interval::interval::End;
+use interval::interval::Interval;
+use interval::vanishing::Vanishing;
 use signs::SignSet;
 use terms::sign_of;
 
@@ -83,11 +84,15 @@ pub fn found_at(
 pub fn found(coefficient: &[i32], monomial: &[u64], sign: &[u8], p: Run, q: Run, set: u8) -> SignSet
     requires { ⌜ Within (now coefficient) (now monomial) (now sign) p ⌝ }
     requires { ⌜ Within (now coefficient) (now monomial) (now sign) q ⌝ }
-    ensures { λ r. ⌜ Found (now (coefficient .entry)) (now (monomial .entry)) (now (sign .entry)) p q set (begun (kind set)) (r .0) ⌝ }
+    ensures { λ r. ⌜ Found (now (coefficient .entry)) (now (monomial .entry)) (now (sign .entry)) p q set nothing (r .0) ⌝ }
 {
     let p_to = p.to;
     let q_to = q.to;
-    let mut c = Cuts::allowed(set);
+    let mut c = Cuts {
+        l: Interval::EVERY_T,
+        u: Interval::EVERY_T,
+        vanishing: Vanishing::EVERYWHERE,
+    };
     let mut i = p.from;
     let mut j = q.from;
     while i + j < p_to + q_to {

@@ -1,18 +1,18 @@
-// The merge of p's and q's terms: the monomials of p or q, the greatest first, each cuts the allowed t of L and of U.
+// The merge of p's and q's terms: the monomials of p or q, the greatest first, each cuts L and U.
 // The signs of the monomials are lent; they were worked out once for the board.
 ghost use mathlib.Core.Path.{_≡_};
 ghost use mathlib.Core.Bool.{_||_};
 ghost use Rattle.rules.specs.Signs.{kind};
 ghost use Rattle.rules.specs.Deduce.{hasT};
 ghost use Rattle.interval.specs.Ends.{intervalOf};
-ghost use Rattle.deduce.specs.Merge.{gatheredOf, begun, gatherRow, Left, Next};
+ghost use Rattle.deduce.specs.Merge.{gatheredOf, gatherRow, Left, Next};
 ghost use Rattle.deduce.specs.Last.{AtLast};
 use crate::last::Last;
 use interval::interval::End;
 use interval::interval::Interval;
 use interval::vanishing::Vanishing;
 
-// The allowed t of L and of U so far, and where the monomials with set > or < vanish.
+// L and U so far, and where the monomials with set > or < vanish.
 pub struct Cuts {
     pub l: Interval,
     pub u: Interval,
@@ -29,36 +29,6 @@ pub struct Step {
 }
 
 impl Cuts {
-    // The t that q's set allows, before the first monomial: for L those from 0 up if it is < or ≤, those from 0 down if it is > or ≥, every t if it is =.
-    // For U the other way about. With ≠ and the full set no t is asked for.
-    pub fn allowed(set: u8) -> Cuts
-        ensures { λ r. ⌜ gatheredOf r ≡ begun (kind set) ⌝ }
-    {
-        let vanishing = Vanishing::EVERYWHERE;
-        match set {
-            1 | 3 => Cuts {
-                l: Interval::TO_ZERO,
-                u: Interval::FROM_ZERO,
-                vanishing,
-            },
-            4 | 6 => Cuts {
-                l: Interval::FROM_ZERO,
-                u: Interval::TO_ZERO,
-                vanishing,
-            },
-            2 => Cuts {
-                l: Interval::EVERY_T,
-                u: Interval::EVERY_T,
-                vanishing,
-            },
-            _ => Cuts {
-                l: Interval::NO_T,
-                u: Interval::NO_T,
-                vanishing,
-            },
-        }
-    }
-
     // Cuts L and U by a monomial.
     pub fn by(self, a: i32, b: i32, s: u8) -> Cuts
         ensures { λ r. ⌜ gatheredOf r ≡ gatherRow (kind s) a b (gatheredOf self) ⌝ }

@@ -4,15 +4,17 @@ use mathlib.Core.Path.{_≡_, refl, sym, ap, ap₂, _∙_}
 use mathlib.Core.Bool.{Bool, true, false, not, _&&_, _||_, or-true, or-false}
 use mathlib.Core.List.{List, [], _∷_}
 use mathlib.Core.Logic.{_↔_}
-use lib.IntN.{ℤ, pos, negℤ, _+ℤ_, _*ℤ_, _-ℤ_}
-use Rattle.whole.specs.Solver.{#, _:+_, _:-_, _:*_, neg, solve}
-use Rattle.rules.specs.Signs.{signOf, SignSet, full, has, Kind, mirror, intersect, open-signs}
-use Rattle.rules.specs.Deduce.{Fraction, denominator, Interval, Row, isStrict, isZero, hasT, hasOther, notZeroIn, strictIn, found, foundIn}
-use Rattle.sign_laws.specs.Booleans.{both-ways, and-intro, and-first, and-second, or-first, or-second, or-cases, never-both, not-true}
+use lib.IntN.{ℤ, pos, negsuc, negℤ, negℤ-negℤ, _+ℤ_, _*ℤ_, _-ℤ_}
+use Rattle.whole.specs.Solver.{#, con, _:+_, _:-_, _:*_, neg, solve}
+use Rattle.rules.specs.Signs.{signOf, SignSet, full, has, Kind, ∅, >0, =0, ≥0, <0, ≠0, ≤0, any, named, mirror, intersect, open-signs}
+use Rattle.rules.specs.Deduce.{Fraction, denominator, Interval, cutNotNegative, Row, everyT, intervalL, intervalU, isStrict, isZero, noT, allowedL, allowedU, hasT, hasOther}
+use Rattle.rules.specs.Deduce.{notZeroIn, strictIn, found, foundIn, findingOf}
+use Rattle.sign_laws.specs.Booleans.{both-ways, never-true, and-intro, and-first, and-second, or-first, or-second, or-cases, never-both, not-true}
+use Rattle.sign_laws.specs.Sets.{in-empty}
 use Rattle.sign_laws.specs.Whole.{_∈_, ∈-sum, ∈-product, ∈-negation, ∈-full, by-equal, clash, without-factor}
 use Rattle.deduction_laws.specs.Fractions.{combined, gap, denominator-positive, sign-at}
-use Rattle.deduction_laws.specs.FractionSets.{StrictAt, this-row, later-row}
-use Rattle.deduction_laws.specs.Intervals.{Inside}
+use Rattle.deduction_laws.specs.FractionSets.{Side, L, U, allowed, allowedT, StrictAt, this-row, later-row}
+use Rattle.deduction_laws.specs.Intervals.{Inside, cut-not-negative, intervalFrom, interval-from, in-everyT, in-allowed}
 use Rattle.deduction_laws.specs.Exact.{is-zero, not-zero, zero-or-not, zero-everywhere, no-row, t-inside, other-inside, not-zero-inside, strictTest, strict-inside}
 use Rattle.deduction_laws.specs.Found.{Same, same-t}
 
@@ -54,9 +56,28 @@ strictBy r v = v .never || notZeroIn r (v .a) (v .b)
 unfoldable pub foundBy : Kind → Interval → Vanishing → SignSet
 foundBy k r v = found (hasT r && ((isStrict k && hasOther r) || strictBy r v)) (hasT r)
 
--- And from L and U.
+-- The t of an interval that q's set allows.
+unfoldable pub onlyAllowed : Side → Kind → Interval → Interval
+onlyAllowed L <0 r = cutNotNegative (pos 0) (pos 1) r
+onlyAllowed L ≤0 r = cutNotNegative (pos 0) (pos 1) r
+onlyAllowed L >0 r = cutNotNegative (pos 0) (negsuc 0) r
+onlyAllowed L ≥0 r = cutNotNegative (pos 0) (negsuc 0) r
+onlyAllowed L =0 r = r
+onlyAllowed L ≠0 r = noT
+onlyAllowed L any r = noT
+onlyAllowed L ∅ r = noT
+onlyAllowed U <0 r = cutNotNegative (pos 0) (negsuc 0) r
+onlyAllowed U ≤0 r = cutNotNegative (pos 0) (negsuc 0) r
+onlyAllowed U >0 r = cutNotNegative (pos 0) (pos 1) r
+onlyAllowed U ≥0 r = cutNotNegative (pos 0) (pos 1) r
+onlyAllowed U =0 r = r
+onlyAllowed U ≠0 r = noT
+onlyAllowed U any r = noT
+onlyAllowed U ∅ r = noT
+
+-- What is found from L and U, each as its own rows leave it.
 abbrev pub findingBy : Kind → Interval → Interval → Vanishing → SignSet
-findingBy k l u v = intersect (foundBy k l v) (mirror (foundBy k u v))
+findingBy k l u v = intersect (foundBy k (onlyAllowed L k l) v) (mirror (foundBy k (onlyAllowed U k u) v))
 
 -- ---- Two rows.
 
@@ -184,18 +205,18 @@ test-by k r x v w to strict e = let h = and-first (hasT r) _ e in let (u, j) = t
     (λ n. let (t, i, s) = strict-by r v .0 (and-intro h n) in or-second (isStrict k && hasOther x) (and-second (hasT x) _ (strict-by x w .1 (t, to t i, strict t i s)))))
 
 -- Intervals with the same t, at which they are strict alike, give the same finding.
-pub same-found-by : (k : Kind) {r x : Interval} (v w : Vanishing) → Same r x → ((t : Fraction) → Inside x t → strictWhere v t ≡ strictWhere w t) → foundBy k r v ≡ foundBy k x w
+same-found-by : (k : Kind) {r x : Interval} (v w : Vanishing) → Same r x → ((t : Fraction) → Inside x t → strictWhere v t ≡ strictWhere w t) → foundBy k r v ≡ foundBy k x w
 unfolding foundBy
 same-found-by k {r} {x} v w s e = ap₂ found
     (both-ways (testBy k r v) (testBy k x w) (test-by k r x v w (s .to) (λ t i h. sym (e t (s .to t i)) ∙ h)) (test-by k x r w v (s .back) (λ t i h. e t i ∙ h))) (same-t s)
 
 -- Where no t is left, nothing is found.
-pub nothing-by : (k : Kind) (r : Interval) (v : Vanishing) → hasT r ≡ false → foundBy k r v ≡ full
+nothing-by : (k : Kind) (r : Interval) (v : Vanishing) → hasT r ≡ false → foundBy k r v ≡ full
 unfolding foundBy found
 nothing-by k r v e = rw e
 
 -- And what is found by the rows in one pass is the book's finding.
-pub in-one-pass : (k : Kind) (r : Interval) (xs : List Row) → foundBy k r (vanishRows everywhere xs) ≡ foundIn k r xs
+in-one-pass : (k : Kind) (r : Interval) (xs : List Row) → foundBy k r (vanishRows everywhere xs) ≡ foundIn k r xs
 unfolding foundBy foundIn everywhere
 in-one-pass k r xs = let v = vanishRows everywhere xs in ap (λ (b : Bool). found b (hasT r)) (both-ways (testBy k r v) (strictTest r k xs)
     (λ e. let h = and-first (hasT r) _ e in and-intro h (or-cases (isStrict k && hasOther r) (strictBy r v) (and-second (hasT r) _ e) (λ n. or-first _ n)
@@ -203,3 +224,68 @@ in-one-pass k r xs = let v = vanishRows everywhere xs in ap (λ (b : Bool). foun
     strict-inside r xs .1 (t, i, strict-rows-back everywhere t xs s (λ f. never-both f (strict-said false t)) (λ s. s)))))))
     (λ e. let h = and-first (hasT r) _ e in and-intro h (or-cases (isStrict k && hasOther r) (strictIn r xs) (and-second (hasT r) _ e) (λ n. or-first _ n)
     (λ n. or-second (isStrict k && hasOther r) (and-second (hasT r) _ (let (t, i, s) = strict-inside r xs .0 (and-intro h n) in strict-by r v .1 (t, i, strict-rows everywhere t xs .1 s)))))))
+
+-- ---- The allowed t, asked for at the end.
+
+by-one : (c d : ℤ) → pos 0 *ℤ d +ℤ c *ℤ pos 1 ≡ c
+by-one c d = solve (c ∷ d ∷ []) (con (pos 0) :* # 1 :+ # 0 :* con (pos 1)) (# 0) tt
+
+by-minus-one : (c d : ℤ) → pos 0 *ℤ d +ℤ c *ℤ negsuc 0 ≡ negℤ c
+by-minus-one c d = solve (c ∷ d ∷ []) (con (pos 0) :* # 1 :+ # 0 :* con (negsuc 0)) (neg (# 0)) tt
+
+module _ (r : Interval) (t : Fraction) where
+  from-zero : Inside (cutNotNegative (pos 0) (pos 1) r) t ↔ ((t .numerator ∈ 3) × Inside r t)
+  from-zero = let cut = cut-not-negative (pos 0) (pos 1) r t in let same = by-one (t .numerator) (denominator t) in
+      (λ i. (by-equal (sym same) (cut .0 i .0), cut .0 i .1), λ (h, i). cut .1 (by-equal same h, i))
+
+  to-zero : Inside (cutNotNegative (pos 0) (negsuc 0) r) t ↔ ((t .numerator ∈ 6) × Inside r t)
+  unfolding open-signs
+  to-zero = let cut = cut-not-negative (pos 0) (negsuc 0) r t in let same = by-minus-one (t .numerator) (denominator t) in (
+    λ i. (by-equal (sym (negℤ-negℤ (t .numerator))) (∈-negation (by-equal (sym same) (cut .0 i .0))), cut .0 i .1),
+    λ (h, i). cut .1 (by-equal same (∈-negation h), i),
+  )
+
+  all-t : Inside r t ↔ ((t .numerator ∈ 7) × Inside r t)
+  all-t = (λ i. (∈-full (t .numerator), i), λ (h, i). i)
+
+  none-t : Inside noT t ↔ ((t .numerator ∈ 0) × Inside r t)
+  unfolding noT
+  none-t = (λ i. never-both refl (i .not-void), λ (h, i). in-empty (h .sign))
+
+  only-allowed : (side : Side) (k : Kind) → Inside (onlyAllowed side k r) t ↔ ((t .numerator ∈ named (allowed side k)) × Inside r t)
+  unfolding onlyAllowed named
+  only-allowed L k = elim k [ ∅ ↦ none-t | >0 ↦ to-zero | =0 ↦ all-t | ≥0 ↦ to-zero | <0 ↦ from-zero | ≠0 ↦ none-t | ≤0 ↦ from-zero | any ↦ none-t ]
+  only-allowed U k = elim k [ ∅ ↦ none-t | >0 ↦ from-zero | =0 ↦ all-t | ≥0 ↦ from-zero | <0 ↦ to-zero | ≠0 ↦ none-t | ≤0 ↦ to-zero | any ↦ none-t ]
+
+-- Intervals with the same t have the same allowed ones.
+same-allowed : (side : Side) (k : Kind) {r x : Interval} → Same r x → Same (onlyAllowed side k r) (onlyAllowed side k x)
+same-allowed side k {r} {x} s = record {
+  to = λ t i. let (h, j) = only-allowed r t side k .0 i in only-allowed x t side k .1 (h, s .to t j);
+  back = λ t i. let (h, j) = only-allowed x t side k .0 i in only-allowed r t side k .1 (h, s .back t j);
+}
+
+-- So they give the same finding, if they are strict alike at their t.
+pub same-finding : (side : Side) (k : Kind) {r x : Interval} (v w : Vanishing) → Same r x → ((t : Fraction) → Inside x t → strictWhere v t ≡ strictWhere w t)
+    → foundBy k (onlyAllowed side k r) v ≡ foundBy k (onlyAllowed side k x) w
+same-finding side k {r} {x} v w s e = same-found-by k v w (same-allowed side k s) (λ t i. e t (only-allowed x t side k .0 i .1))
+
+-- Where there is no t, none is allowed.
+pub none-left : (side : Side) (k : Kind) (r : Interval) (v : Vanishing) → hasT r ≡ false → foundBy k (onlyAllowed side k r) v ≡ full
+none-left side k r v e = nothing-by k (onlyAllowed side k r) v (never-true (hasT (onlyAllowed side k r))
+    (λ h. let (t, i) = t-inside (onlyAllowed side k r) .0 h in never-both (t-inside r .1 (t, only-allowed r t side k .0 i .1)) e))
+
+-- The rows cut from every t leave, of the allowed ones, what they leave of these.
+cut-from-every : (side : Side) (k : Kind) (xs : List Row) → Same (onlyAllowed side k (intervalFrom side everyT xs)) (intervalFrom side (allowedT side k) xs)
+cut-from-every side k xs = record {
+  to = λ t i. let (h, j) = only-allowed (intervalFrom side everyT xs) t side k .0 i in
+      interval-from side (allowedT side k) xs t .1 (interval-from side everyT xs t .0 j .0, in-allowed side k t .1 h);
+  back = λ t i. let (h, j) = interval-from side (allowedT side k) xs t .0 i in
+      only-allowed (intervalFrom side everyT xs) t side k .1 (in-allowed side k t .0 j, interval-from side everyT xs t .1 (h, in-everyT t .1 (∈-full (t .numerator))));
+}
+
+-- So what is found in one pass over the rows, from every t on, is the book's finding.
+pub finding-in-one-pass : (k : Kind) (xs : List Row) → findingBy k (intervalL everyT xs) (intervalU everyT xs) (vanishRows everywhere xs) ≡ findingOf k xs
+unfolding findingOf
+finding-in-one-pass k xs = let v = vanishRows everywhere xs in ap₂ (λ (s t : SignSet). intersect s (mirror t))
+    (same-found-by k v v (cut-from-every L k xs) (λ t i. refl) ∙ in-one-pass k (intervalL (allowedL k) xs) xs)
+    (same-found-by k v v (cut-from-every U k xs) (λ t i. refl) ∙ in-one-pass k (intervalU (allowedU k) xs) xs)

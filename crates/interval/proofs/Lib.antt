@@ -2,3 +2,4 @@ pub mod Products
 pub mod Fractions
 pub mod Cutting
 pub mod Values
+pub mod Allowed

@@ -136,24 +136,6 @@ impl Interval {
         void: false,
     };
 
-    pub const FROM_ZERO: Interval = Interval {
-        low: End { a: 0, b: 1 },
-        high: End { a: 0, b: 0 },
-        void: false,
-    };
-
-    pub const TO_ZERO: Interval = Interval {
-        low: End { a: 0, b: 0 },
-        high: End { a: 0, b: 1 },
-        void: false,
-    };
-
-    pub const NO_T: Interval = Interval {
-        low: End { a: 0, b: 0 },
-        high: End { a: 0, b: 0 },
-        void: true,
-    };
-
     // Cut by a + tb ≥ 0.
     pub fn cut_not_negative(self, a: i32, b: i32) -> Interval
         ensures { λ r. ⌜ intervalOf r ≡ cutNotNegative a b (intervalOf self) ⌝ }

@@ -80,6 +80,9 @@ impl Vanishing {
         if self.never {
             return true;
         }
+        if both_zero(a, b) {
+            return false;
+        }
         t.not_zero_at(a, b)
     }
 

@@ -8,10 +8,11 @@ use mir.Syntax.{w32}
 use mir.Val.{toZ, ofZ}
 use Rattle.sign_laws.specs.Booleans.{and-first, and-second, neither, not-true}
 use Rattle.rules.specs.Signs.{kind}
-use Rattle.rules.specs.Deduce.{at, isZero, hasT}
+use Rattle.rules.specs.Deduce.{at, everyT, isZero, hasT}
+use Rattle.deduction_laws.specs.Vanishing.{everywhere}
 use Rattle.interval.specs.Ends.{endAt, endOf, intervalOf, There}
 use Rattle.interval.specs.Coefficients.{back, is-zero}
-use Rattle.deduce.specs.Merge.{gatheredOf, begun, gatherRow, foundFrom}
+use Rattle.deduce.specs.Merge.{gatheredOf, nothing, gatherRow, foundFrom}
 use Rattle.deduce.specs.Last.{asksZero, lastOf}
 use Rattle.deduce.proofs.Rows.{Walked, walk-on, of-none}
 use Rattle.deduce.proofs.Nothing.{finding-nothing}
@@ -21,13 +22,14 @@ use Rattle.deduce.proofs.found.found.Statement.{statement}
 use Rattle.deduce.proofs.found.found.Tie as tie
 
 abbrev Inv-loop : tie.InvT-loop
-Inv-loop coefficient monomial sign set p-to q-to c₀ i₀ j₀ c i j = Walked coefficient monomial sign i₀ p-to j₀ q-to (begun (kind set)) (gatheredOf c) i j
+Inv-loop coefficient monomial sign set p-to q-to c₀ i₀ j₀ c i j = Walked coefficient monomial sign i₀ p-to j₀ q-to nothing (gatheredOf c) i j
 
 abbrev μ-loop : tie.MeasureT-loop
 μ-loop coefficient monomial sign set p-to q-to c₀ i₀ j₀ c i j = p-to + q-to - (i + j)
 
 loop-holds : tie.Need-loop-holds Inv-loop μ-loop
-loop-holds c = record { first = omega arith; second = omega arith; rest = λ s t. rw (c .allowed .ensures) }
+unfolding nothing everyT everywhere
+loop-holds c = record { first = omega arith; second = omega arith; rest = λ s t. refl }
 
 -- the row's coefficients, from their bits
 a-back : (c : tie.After-struct-told2 Inv-loop μ-loop) → let n = c .before .before .next .result in toZ w32 (ofZ w32 (n .a)) ≡ n .a
@@ -61,9 +63,9 @@ there c = record { fraction = root (c .before) .fraction; is = ap endOf (c .at .
 
 -- after one more row
 walked : (c : tie.After-by Inv-loop μ-loop) →
-    let s = c .before .before .before .before .before .before .before .before .before .before .before .args in
+    let s = c .before .before .before .before .before .before .before .before .before .before .args in
     let r = c .before .before .before .before .before .next .result in
-    Walked (s .coefficient .now) (s .monomial .now) (s .sign .now) (s .p .from) (s .p .to) (s .q .from) (s .q .to) (begun (kind (s .set))) (gatheredOf (c .by .result)) (r .i) (r .j)
+    Walked (s .coefficient .now) (s .monomial .now) (s .sign .now) (s .p .from) (s .p .to) (s .q .from) (s .q .to) nothing (gatheredOf (c .by .result)) (r .i) (r .j)
 walked c =
     walk-on (c .before .before .before .before .before .before .before .loop .inv) (c .before .before .before .before .before .next .ensures)
     (rw (c .by .ensures, a-back (c .before .before .before), b-back (c .before .before .before)))
@@ -71,7 +73,7 @@ walked c =
 found-at-zero-requires : tie.Need-found-at-zero-requires Inv-loop μ-loop
 unfolding there
 found-at-zero-requires c κs =
-    let start = c .before .before .before .before .before .before .before .before .before .before .before .before in
+    let start = c .before .before .before .before .before .before .before .before .before .before .before in
     let fits = c .before .before .before .before .struct-told2 .given .0 .1 in
     let nought = root (c .before .before) .nought (is-zero (record { sfits = fits }) (c .if2 .taken)) in
     ((start .pre .0 .coefficients, start .pre .0 .signs), record { there = there (c .before); nought = nought })
@@ -84,7 +86,7 @@ returns c =
 
 found-at-requires : tie.Need-found-at-requires Inv-loop μ-loop
 found-at-requires c κs =
-    let start = c .before .before .before .before .before .before .before .before .before .before .before .before in
+    let start = c .before .before .before .before .before .before .before .before .before .before .before in
     let step = c .before .before .before .before .before .before .next .ensures in
     let (mine, its) = start .pre in (
       record { ordered = step .first .within; coefficients = mine .coefficients; monomials = mine .monomials; signs = mine .signs },
@@ -110,7 +112,7 @@ returns-3 c =
 returns-4 : tie.Need-returns-4 Inv-loop μ-loop
 returns-4 c =
     let l = c .before .before .before .before .before .loop in
-    let a = c .before .before .before .before .before .before .before .before .before .args in
+    let a = c .before .before .before .before .before .before .before .before .args in
     let h : a .p .to ≤ l .i = omega arith in
     let k : a .q .to ≤ l .j = omega arith in
     record { found = λ s t. c .finding .ensures ∙ ap (foundFrom _) (sym (of-none _ _ _ _ _ _ _ _ h k) ∙ l .inv .rest s t) }
@@ -118,6 +120,6 @@ returns-4 c =
 pub found-spec : {M : Type 1} → statement M
 found-spec =
     tie.close
-    (tie.spec Inv-loop μ-loop (λ c κs. search needs) loop-holds (λ c. omega arith) (λ c. omega arith) (λ c κs. search needs) (λ c κs. search needs) (λ c κs. search needs)
+    (tie.spec Inv-loop μ-loop loop-holds (λ c. omega arith) (λ c. omega arith) (λ c κs. search needs) (λ c κs. search needs) (λ c κs. search needs)
     found-at-zero-requires returns found-at-requires returns-2 (λ c κs. search needs) (λ c κs. search needs) returns-3
     (λ c. omega arith) (λ c. walked (c .before .before)) (λ c κs. search needs) returns-4)

@@ -1,7 +1,8 @@
 -- `Vanishing::strict_in` meets its contract: never together, or by the first, at the lowest t or with several.
 use borrow.Author.Needs.{needs}
-use mathlib.Core.Path.{_≡_, sym, ap, _∙_}
+use mathlib.Core.Path.{_≡_, sym, ap, ap₂, _∙_}
 use mathlib.Core.Bool.{not, _&&_}
+use lib.IntN.{ℤ}
 use mir.Syntax.{w32}
 use mir.Val.{SFits}
 use Rattle.rules.specs.Deduce.{isZero, hasMore, notZeroAt, notZeroIn}
@@ -20,12 +21,16 @@ b-fits c = record { sfits = c .struct-told2 .given .1 .0 .1 }
 -- what was tested at the lowest t
 lowest : (c : tie.After-not-zero-at) → let a = c .before .before .before .before .before .args in
     c .not-zero-at .result ≡ notZeroAt (endOf (a .r .low)) (a .self .a) (a .self .b)
-lowest c = let s = c .before .before .before in c .not-zero-at .ensures ∙ rw (back (a-fits s), back (b-fits s))
+lowest c =
+    let s = c .before .before .before in
+    c .not-zero-at .ensures ∙ ap₂ (λ (x y : ℤ). notZeroAt (endOf (s .before .before .args .r .low)) x y) (back (a-fits s)) (back (b-fits s))
 
 -- whether it vanishes everywhere
 vanishes : (c : tie.After-both-zero) → let a = c .before .before .before .before .before .before .before .before .before .args in
     c .both-zero .result ≡ (isZero (a .self .a) && isZero (a .self .b))
-vanishes c = let s = c .before .before .before .before .before .before .before in c .both-zero .ensures ∙ rw (back (a-fits s), back (b-fits s))
+vanishes c =
+    let s = c .before .before .before .before .before .before .before in
+    c .both-zero .ensures ∙ ap₂ (λ (x y : ℤ). isZero x && isZero y) (back (a-fits s)) (back (b-fits s))
 
 returns : tie.Need-returns
 unfolding strictBy
