@@ -137,7 +137,7 @@ fn numbers<'a>(sets: impl Iterator<Item = &'a SignSet>) -> String {
 }
 
 /// The sets of the atoms of a root AND, in order.
-fn sets_of(formula: &Formula) -> Vec<SignSet> {
+pub fn sets_of(formula: &Formula) -> Vec<SignSet> {
     let Node::And(parts) = &formula.tree else { return vec![] };
     parts.iter().filter_map(|part| if let Node::Atom(atom) = part { Some(atom.set) } else { None }).collect()
 }

@@ -19,6 +19,9 @@ pub mod count;
 // "Deducing p from q"
 pub mod deduce;
 
+// "Deducing p from q" with single values of t, for a person (document 02, #110)
+pub mod plain;
+
 // "Rounds over a list of atoms joined by AND"
 pub mod rounds;
 

@@ -7,11 +7,11 @@ use std::process::ExitCode;
 use independent::answer::{answer, read_report, report, report_with_rounds, MOST_READ};
 use independent::cases::{cases, later_cases};
 use independent::count::work_of;
-use independent::{bench, block, book, check, corpus, edge, engine, evaluate, loading, search, smt, uses};
+use independent::{bench, block, book, check, corpus, edge, engine, evaluate, loading, plain, search, smt, uses};
 
 const USAGE: &str =
-    "usage: independent [rounds | many [rounds] | read | describe | deductions | lists | evaluations | live FILE | loads | load | start | count | repeat | smt | bench NAME |\n\
-                    corpus KIND SEED COUNT | book SEED COUNT | check SEED COUNT]\n\
+    "usage: independent [rounds | many [rounds] | read | describe | deductions | plain | shown [NAME..] | lists | evaluations | live FILE | loads | load | start | count | repeat | smt | bench NAME |\n\
+                    corpus KIND SEED COUNT | book SEED COUNT | book-deductions SEED COUNT | check SEED COUNT]\n\
      KIND is valid, damaged, trees, uses, edge, long, cases, later, deductions, points, lists, evaluations, loads or candidates\n";
 
 fn main() -> ExitCode {
@@ -25,6 +25,8 @@ fn main() -> ExitCode {
         ["read"] => each_block(|_, block| read_report(block)),
         ["describe"] => each_block(|index, block| format!("{index} {}", read_report(block))),
         ["deductions"] => each_block(|_, block| engine::deduction_line(block)),
+        ["plain"] => each_block(|_, block| plain::line(block)),
+        ["shown", ref names @ ..] => show(names),
         ["lists"] => each_block(|_, block| engine::list_line(block)),
         ["live", file] => live(file),
         ["evaluations"] => each_block(|_, frame| evaluate::frame_line(frame)),
@@ -41,6 +43,12 @@ fn main() -> ExitCode {
         },
         ["book", seed, count] => match (seed.parse(), count.parse()) {
             (Ok(seed), Ok(count)) => write_claims(seed, count),
+            _ => usage(),
+        },
+        ["book-deductions", seed, count] => match (seed.parse(), count.parse()) {
+            (Ok(seed), Ok(count)) => io::stdout()
+                .write_all(book::deduction_claims(seed, count).as_bytes())
+                .map(|()| ExitCode::SUCCESS),
             _ => usage(),
         },
         ["check", seed, count] => match (seed.parse(), count.parse()) {
@@ -158,6 +166,14 @@ fn live(file: &str) -> io::Result<ExitCode> {
 fn write_bench(name: &str) -> io::Result<ExitCode> {
     let Some(block) = bench::block(name) else { return usage() };
     io::stdout().lock().write_all(&block)?;
+    Ok(ExitCode::SUCCESS)
+}
+
+/// One deduction as a block on standard input, shown with all its values.
+fn show(names: &[&str]) -> io::Result<ExitCode> {
+    let mut input = vec![];
+    io::stdin().lock().read_to_end(&mut input)?;
+    io::stdout().write_all(plain::shown(&input, names).as_bytes())?;
     Ok(ExitCode::SUCCESS)
 }
 

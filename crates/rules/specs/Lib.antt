@@ -1,6 +1,7 @@
 pub mod Signs
 pub mod Polynomial
 pub mod Deduce
+pub mod Plain
 pub mod Rounds
 pub mod Formula
 pub mod Level
@@ -16,3 +17,4 @@ pub mod Cases
 pub mod Tenths
 pub mod Evaluate
 pub mod Edges
+pub mod ByHand

@@ -1,0 +1,4 @@
+pub mod StandIn
+pub mod Listed
+pub mod Same
+pub mod Bounds
