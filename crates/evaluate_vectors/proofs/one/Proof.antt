@@ -7,7 +7,7 @@ use Rattle.evaluate_vectors.proofs.one.Tie as tie
 
 slice-aggregate-run : tie.Need-slice-aggregate-run
 slice-aggregate-run c = let read = c .before .before .before .before .before in
-    sym (length-take-le (read .next .result .length) (read .next .last .0) (read .next .ensures))
+    sym (length-take-le (read .next .result .length) (read .next .last .0) (read .next .ensures .0))
 
 pub one-spec : {M : Type 1} → statement M
 one-spec =
