@@ -4,7 +4,7 @@
  *
  * A lent slice is a pointer and a length in bytes. In every call
  *   - the pointers are not null, also where the length is 0, and the bytes from each on are the caller's, as many as the length says;
- *   - input, output, text and the counts do not overlap each other;
+ *   - input, output, text, places and the counts do not overlap each other;
  *   - the output is at least as long as the input, else the answer is refusal 1.
  * Nothing is kept after the call, and there is no state between calls: they may run in several threads at once.
  * A call takes some 120 KB of stack; give its thread 256 KiB or more.
@@ -42,7 +42,8 @@ enum {
     PLACARDPAN_SAME_KIND_BELOW = 12, /* AND under AND or OR under OR */
     PLACARDPAN_NESTING = 13,         /* nesting above 6 */
     PLACARDPAN_NODE_COUNT = 14,      /* more or fewer nodes than the head says */
-    PLACARDPAN_PADDING = 15          /* padding not zero, or a whole byte left over */
+    PLACARDPAN_PADDING = 15,         /* padding not zero, or a whole byte left over */
+    PLACARDPAN_FEW_PLACES = 18       /* fewer than 255 places lent; tried directly after 1, by placardpan_placed alone */
 };
 
 /* A new block has at least 5 and at most this many bytes, and never more than the block it came from. */
@@ -76,6 +77,14 @@ static inline size_t placardpan_length(uint32_t answer)
  * of the new block's table, all of which its tree uses, each form once and none constant. So both count the same, and out is never above in. */
 uint32_t placardpan_counted(const uint8_t *input, size_t input_length, uint8_t *output, size_t output_length,
                             size_t *atoms_in, size_t *atoms_out, size_t *polynomials_in, size_t *polynomials_out);
+
+/* So many bytes are lent for the places of a block's atoms. */
+#define PLACARDPAN_PLACES 255
+
+/* placardpan_simplify, with the place of the input atom that each atom of the new block comes from, in reading order: the first bytes of the lent places,
+ * as many as the new block has atoms; all others keep their values. A place is the number, from 0, of an atom of the given block in reading order, parent
+ * before children, ANDs and ORs not counted. No place is there twice. A refusal leaves the output and the places as they are. */
+uint32_t placardpan_placed(const uint8_t *input, size_t input_length, uint8_t *output, size_t output_length, uint8_t *places, size_t places_length);
 
 /* Simplifies a block and returns the length of the filled part of the output, which is its start: the new block's length, 0 exactly on refusal.
  * The output is left as by placardpan_simplify. */

@@ -222,14 +222,16 @@ def shown_polynomial(names, form):
     return text[2:] if text.startswith("+ ") else "-" + text[2:]
 
 
-def shown_node(names, node, depth):
+def shown_node(names, node, depth, places):
     if node[0] == "atom":
-        return "  " * depth + shown_polynomial(names, node[1]) + " " + SIGNS[node[2]] + "\n"
-    return "  " * depth + node[0] + "\n" + "".join(shown_node(names, child, depth + 1) for child in node[1])
+        line = "  " * depth + shown_polynomial(names, node[1]) + " " + SIGNS[node[2]]
+        return (line if places is None else "%-40s # [%s]" % (line, next(places))) + "\n"
+    return "  " * depth + node[0] + "\n" + "".join(shown_node(names, child, depth + 1, places) for child in node[1])
 
 
-def write_text(names, root):
-    return "variables " + " ".join(names) + "\n" + shown_node(names, root, 0)
+def write_text(names, root, places=None):
+    """The text of a condition; with places, one for each atom in order, each atom's line ends in its own, as a comment."""
+    return "variables " + " ".join(names) + "\n" + shown_node(names, root, 0, None if places is None else iter(places))
 
 
 # ---- a block is written

@@ -7,6 +7,7 @@
 static uint8_t input[32768];
 static uint8_t output[sizeof input];
 static uint8_t text[PLACARDPAN_TEXT(sizeof input)];
+static uint8_t places[PLACARDPAN_PLACES];
 
 static const char *word(uint32_t verdict)
 {
@@ -25,9 +26,9 @@ static const char *word(uint32_t verdict)
 int main(int count, char **arguments)
 {
     FILE *file;
-    size_t length, filled, lines;
+    size_t length, filled, lines, i;
     size_t atoms_in, atoms_out, polynomials_in, polynomials_out;
-    uint32_t answer, again;
+    uint32_t answer, again, placed;
 
     if (count != 2 || (file = fopen(arguments[1], "rb")) == NULL) {
         fprintf(stderr, "usage: example FILE.block\n");
@@ -42,11 +43,17 @@ int main(int count, char **arguments)
     again = placardpan_counted(input, length, output, sizeof output, &atoms_in, &atoms_out, &polynomials_in, &polynomials_out);
     printf("atoms %zu to %zu, polynomials %zu to %zu\n", atoms_in, atoms_out, polynomials_in, polynomials_out);
 
+    placed = placardpan_placed(input, length, output, sizeof output, places, sizeof places);
+    printf("places");
+    for (i = 0; i < atoms_out; i++)
+        printf(" %u", (unsigned)places[i]);
+    printf("\n");
+
     filled = placardpan_simplified(input, length, output, sizeof output);
     printf("filled %zu\n", filled);
 
     lines = placardpan_report(input, length, output, sizeof output, text, sizeof text);
     fwrite(text, 1, lines, stdout);
 
-    return again == answer && filled == placardpan_length(answer) ? 0 : 1;
+    return again == answer && placed == answer && filled == placardpan_length(answer) ? 0 : 1;
 }

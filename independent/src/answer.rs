@@ -23,6 +23,8 @@ pub struct Answer {
     pub bytes: Vec<u8>,
     /// Request #108: the rounds of the longest run, 0 if there was none.
     pub rounds: usize,
+    /// 02, #105: for each atom of the new block, in order, the number of the input atom that it comes from.
+    pub places: Vec<usize>,
 }
 
 /// "It reads at most 32,768 bytes of a block on standard input"
@@ -35,14 +37,15 @@ pub fn answer(input: &[u8], output_length: usize) -> Result<Answer, Refusal> {
         return Err(1);
     }
     let original = read(input)?;
-    let ((verdict, simplified), rounds) = with_longest_run(|| simplify_formula(&original));
+    let ((verdict, simplified, places), rounds) = with_longest_run(|| simplify_formula(&original));
     let bytes = write(&simplified);
-    Ok(Answer { verdict, original, simplified, bytes, rounds })
+    Ok(Answer { verdict, original, simplified, bytes, rounds, places })
 }
 
-/// The verdict and the new formula.
-pub fn simplify_formula(formula: &Formula) -> (Verdict, Formula) {
-    let tree = simplify(formula.variables, formula.tree.map(&mut |&k| formula.table[k].clone()));
+/// The verdict, the new formula, and the places of its atoms.
+pub fn simplify_formula(formula: &Formula) -> (Verdict, Formula, Vec<usize>) {
+    let tree = formula.tree.map(&mut |&k| formula.table[k].clone()).numbered(&mut 0);
+    let tree = simplify(formula.variables, tree);
     let verdict = if tree.is_always() {
         Verdict::Always
     } else if tree.is_never() {
@@ -50,7 +53,7 @@ pub fn simplify_formula(formula: &Formula) -> (Verdict, Formula) {
     } else {
         Verdict::Formula
     };
-    (verdict, new_formula(formula.variables, &tree))
+    (verdict, new_formula(formula.variables, &tree), tree.places())
 }
 
 /// "The new block keeps n and lists the used normal forms by first use in the tree. ALWAYS is written as an
@@ -113,6 +116,20 @@ pub fn report_with_rounds(input: &[u8]) -> String {
     match answer(&input[..input.len().min(MOST_READ)], MOST_READ) {
         Err(_) => lines,
         Ok(answer) => format!("{lines}ROUNDS {}\n", answer.rounds),
+    }
+}
+
+/// 02, #105: the same lines, and with the argument `places` "one line more at the end, `PLACES` and the places in
+/// decimal, one space apart (none on refusal)".
+pub fn report_with_places(input: &[u8]) -> String {
+    let lines = report(input);
+    let input = &input[..input.len().min(MOST_READ)];
+    match answer(input, input.len()) {
+        Err(_) => lines,
+        Ok(answer) => {
+            let places: String = answer.places.iter().map(|place| format!(" {place}")).collect();
+            format!("{lines}PLACES{places}\n")
+        }
     }
 }
 

@@ -8,7 +8,7 @@ use crate::level::{in_normal_form, tidied};
 use crate::meaning::{formula_holds, Choice};
 use crate::random::Random;
 use crate::rounds::run_rounds;
-use crate::tree::{Atom, Node};
+use crate::tree::Node;
 
 #[derive(Default)]
 pub struct Summary {
@@ -182,8 +182,8 @@ fn check_rounds(formula: &Formula, summary: &mut Summary) {
     };
     let mut atoms = vec![];
     for part in parts {
-        if let Node::Atom(Atom { poly, set }) = part {
-            atoms.push(in_normal_form(Atom { poly, set }));
+        if let Node::Atom(atom) = part {
+            atoms.push(in_normal_form(atom));
         }
     }
     if let Some(list) = tidied(atoms) {

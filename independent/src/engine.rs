@@ -108,7 +108,7 @@ fn list(random: &mut Random) -> Formula {
             1 => some_polynomial(random, &pool),
             _ => difference(random, variables),
         };
-        atoms.push(Atom { poly, set: some_set(random) });
+        atoms.push(Atom { poly, set: some_set(random), place: None });
     }
     let atoms = tidied(atoms).unwrap_or_default();
     let table: Vec<Polynomial> = atoms.iter().map(|atom| atom.poly.clone()).collect();
@@ -121,7 +121,7 @@ pub fn list_line(block: &[u8]) -> String {
     let Ok(formula) = read(block) else { return "REFUSED\n".to_string() };
     let sets = sets_of(&formula);
     let atoms: Vec<Atom<Polynomial>> =
-        formula.table.iter().zip(&sets).map(|(poly, set)| Atom { poly: poly.clone(), set: *set }).collect();
+        formula.table.iter().zip(&sets).map(|(poly, set)| Atom { poly: poly.clone(), set: *set, place: None }).collect();
     let after = run_rounds(formula.variables, &atoms);
     if after.contradiction {
         return format!("{} CONTRADICTION\n", after.rounds);

@@ -250,7 +250,7 @@ fn near(random: &mut Random, readings: &[i128]) -> Polynomial {
 pub fn some_negated(formula: &Formula) -> bool {
     let mut negated = false;
     formula.tree.map(&mut |&number| {
-        let atom = Atom { poly: formula.table[number].clone(), set: SignSet::EQUAL };
+        let atom = Atom { poly: formula.table[number].clone(), set: SignSet::EQUAL, place: None };
         negated |= in_normal_form(atom.clone()).poly != atom.poly && atom.poly.terms[0].coefficient < 0;
     });
     negated

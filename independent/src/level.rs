@@ -103,7 +103,8 @@ fn join_or_splice(part: Part, atoms: &mut AtomList, ors: &mut OrChildren) {
 
 /// Step 2: "Bring atoms to normal form; atoms of one polynomial become one at the first's place with the
 /// intersected set. Full or true: dropped. Empty or false: the node is false." The atoms are merged first;
-/// what is full, true, empty or false is asked of the merged ones.
+/// what is full, true, empty or false is asked of the merged ones. 02, #105: "A merged atom keeps the place of
+/// the one it is merged into": the first in the list.
 fn step_2(atoms: AtomList) -> Result<AtomList, NodeIsFalse> {
     let mut merged: AtomList = vec![];
     for atom in atoms {
@@ -130,7 +131,7 @@ fn step_2(atoms: AtomList) -> Result<AtomList, NodeIsFalse> {
 pub fn in_normal_form(atom: Atom<Polynomial>) -> Atom<Polynomial> {
     let (poly, negated) = atom.poly.normal_form();
     let set = if negated { atom.set.mirror() } else { atom.set };
-    Atom { poly, set }
+    Atom { poly, set, place: atom.place }
 }
 
 /// "A constant polynomial makes its atom true or false." Its normal form is 1, which is positive.
@@ -180,14 +181,14 @@ fn what_is_left(list: &AfterRounds, child: Vec<Part>) -> Option<Vec<Part>> {
     let mut left = vec![];
     for part in child {
         match part {
-            Node::Atom(Atom { poly, set }) => {
+            Node::Atom(Atom { poly, set, place }) => {
                 let says = list.says_of(&poly);
                 if says.is_inside(set) {
                     return None;
                 }
                 let set = set.intersection(says);
                 if !set.is_empty() {
-                    left.push(Node::atom(poly, set));
+                    left.push(Node::Atom(Atom { poly, set, place }));
                 }
             }
             other => left.push(other),

@@ -7,6 +7,8 @@ use crate::signs::SignSet;
 pub struct Atom<P> {
     pub poly: P,
     pub set: SignSet,
+    /// 02, #105: "the number, from 0, of the input atom in reading order"; none before the atoms are numbered.
+    pub place: Option<usize>,
 }
 
 #[derive(Clone, Debug, PartialEq, Eq)]
@@ -18,7 +20,7 @@ pub enum Node<P> {
 
 impl<P> Node<P> {
     pub fn atom(poly: P, set: SignSet) -> Node<P> {
-        Node::Atom(Atom { poly, set })
+        Node::Atom(Atom { poly, set, place: None })
     }
 
     /// "An AND with no children is true, an OR with none is false."
@@ -61,7 +63,28 @@ impl<P> Node<P> {
         }
     }
 
-    /// The same tree with another way to name the polynomials, atoms taken in order.
+    /// The same tree, its atoms numbered in reading order, parent before children; ANDs and ORs are not counted.
+    pub fn numbered(self, next: &mut usize) -> Node<P> {
+        match self {
+            Node::Atom(atom) => {
+                let place = Some(*next);
+                *next += 1;
+                Node::Atom(Atom { place, ..atom })
+            }
+            Node::And(parts) => Node::And(parts.into_iter().map(|part| part.numbered(next)).collect()),
+            Node::Or(parts) => Node::Or(parts.into_iter().map(|part| part.numbered(next)).collect()),
+        }
+    }
+
+    /// The places of the atoms in reading order.
+    pub fn places(&self) -> Vec<usize> {
+        match self {
+            Node::Atom(atom) => vec![atom.place.expect("the atoms are numbered")],
+            Node::And(parts) | Node::Or(parts) => parts.iter().flat_map(Node::places).collect(),
+        }
+    }
+
+    /// The same tree with another way to name the polynomials, atoms taken in order; no atom is numbered.
     pub fn map<Q>(&self, name: &mut dyn FnMut(&P) -> Q) -> Node<Q> {
         match self {
             Node::Atom(atom) => Node::atom(name(&atom.poly), atom.set),
@@ -73,7 +96,7 @@ impl<P> Node<P> {
     /// "complement all sets and exchange AND and OR below": the node that holds when this one does not.
     pub fn exchanged(self) -> Node<P> {
         match self {
-            Node::Atom(atom) => Node::atom(atom.poly, atom.set.complement()),
+            Node::Atom(atom) => Node::Atom(Atom { set: atom.set.complement(), ..atom }),
             Node::And(parts) => Node::Or(all_exchanged(parts)),
             Node::Or(parts) => Node::And(all_exchanged(parts)),
         }

@@ -57,7 +57,7 @@ fn case_n_takes_several_rounds() {
     for part in &parts[..3] {
         let Node::Atom(atom) = part else { panic!("case N has atoms alone") };
         let poly = case.formula.table[atom.poly].clone();
-        atoms.push(in_normal_form(Atom { poly, set: atom.set }));
+        atoms.push(in_normal_form(Atom { poly, set: atom.set, place: None }));
     }
     let after = run_rounds(3, &atoms);
     assert!(!after.contradiction);
@@ -95,7 +95,7 @@ fn without_a_run_there_are_no_rounds() {
         let block = write(&Formula { variables: 1, table, tree: node });
         answer(&block, block.len()).unwrap().rounds
     };
-    let x = |bits| Node::Atom(Atom { poly: 0, set: SignSet::from_bits(bits) });
+    let x = |bits| Node::Atom(Atom { poly: 0, set: SignSet::from_bits(bits), place: None });
     assert_eq!(of(x(0)), 0);
     assert_eq!(of(Node::And(vec![x(1), x(4)])), 0);
     assert_eq!(of(x(7)), 1, "a run over a list with no atoms has one round");

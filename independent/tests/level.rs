@@ -236,3 +236,17 @@ fn one_part() {
     );
     gives(or(&[and(&[is(X, GREATER)]), and(&[is(Y, GREATER)])]), or(&[is(X, GREATER), is(Y, GREATER)]));
 }
+
+/// 02, #105: the places of the answer's atoms need not rise; a joined atom merges into the one that stands in the
+/// list, whose place stays; a full first atom still gives the place; carried atoms stand before those that joined.
+#[test]
+fn places_of_the_answer() {
+    let places = |parts: Vec<Tree>| simplify(3, Node::And(parts).numbered(&mut 0)).places();
+    let or = |parts: Vec<Tree>| Node::Or(parts);
+    let y_plus_1 = [0, 1, 0, 1];
+    assert_eq!(places(vec![or(vec![is(X, GREATER), is(Y, GREATER)]), is(Z, GREATER)]), [2, 0, 1]);
+    assert_eq!(places(vec![or(vec![is(y_plus_1, EQUAL), is(y_plus_1, LESS_EQUAL)]), is(y_plus_1, EQUAL)]), [2]);
+    assert_eq!(places(vec![is(X, 7), is(X, GREATER)]), [0]);
+    let child = or(vec![is(Y, LESS), is(X, LESS_EQUAL)]);
+    assert_eq!(places(vec![is(X, GREATER_EQUAL), child, is(Y, GREATER_EQUAL)]), [0, 3]);
+}

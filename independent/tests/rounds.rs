@@ -82,7 +82,7 @@ fn polynomial(terms: &[(i128, [u8; 3])]) -> Polynomial {
 }
 
 fn atom(poly: Polynomial, set: SignSet) -> Atom<Polynomial> {
-    Atom { poly, set }
+    Atom { poly, set, place: None }
 }
 
 /// x - y > 0 and y - z > 0 with z > 0: y's turn comes before any later variable's, so that a sign which goes

@@ -10,6 +10,7 @@ use lib.ListN.{length, drop}
 use borrow.Author.Tests.{le-leb, lt-leb, ne-eqb}
 use Rattle.rules.specs.Polynomial.{Atom}
 use Rattle.rules.specs.Formula.{Parts, end, atom, and, or, Node, leaf, allOf, anyOf, eachAtom, eachAtomOf, isEnd, alone, atoms, nodes, open-formula}
+use Rattle.rules.specs.Level.{plain}
 use Rattle.rules.specs.Block.{NumberedAtom, Block, Stream, refused, read, readBlock, writeBlock, blockLength}
 use Rattle.rules.specs.Answer as book
 use Rattle.rules.specs.Answer.{used, numbered, blockOf, written, simplified, newBlock, answerTo, unlessShort}
@@ -109,10 +110,19 @@ tree-verdict f (leaf a) = refl
 tree-verdict f (allOf kids) = rw (only-node (eachAtom f kids), is-end-each f kids) (always-if (isEnd kids))
 tree-verdict f (anyOf kids) = rw (only-node (eachAtom f kids), is-end-each f kids) (unsatisfiable-if (isEnd kids))
 
+-- The verdict does not ask for the atoms.
+verdict-same : {A B : Type 0} (f : A → B) (tree : Node A) → book.verdictOf (eachAtomOf f tree) ≡ book.verdictOf tree
+unfolding book.verdictOf eachAtomOf
+verdict-same f (leaf a) = refl
+verdict-same f (allOf kids) = ap (λ (b : Bool). book.ifEnd b book.always) (is-end-each f kids)
+verdict-same f (anyOf kids) = ap (λ (b : Bool). book.ifEnd b book.unsatisfiable) (is-end-each f kids)
+
 -- The verdict is told by the kind of the new block's root and the number of its tokens.
 pub new-verdict : (given : Block) → verdictOf (book.verdictOf (simplified given)) ≡ verdictFrom (heldOf (newBlock given) .root) (heldOf (newBlock given) .tokens)
 unfolding heldOf newBlock blockOf
-new-verdict given = tree-verdict (numbered (used [] (alone (simplified given)))) (simplified given)
+new-verdict given =
+    let short = eachAtomOf plain (simplified given) in
+    ap verdictOf (sym (verdict-same plain (simplified given))) ∙ tree-verdict (numbered (used [] (alone short))) short
 
 -- ---- the counts
 

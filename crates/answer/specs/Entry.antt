@@ -1,11 +1,11 @@
 -- What `answer_to` asks and says, and what the entries say: what is held was read from these bytes, and the lent output and what is returned are the
 -- book's answer to them.
 use mathlib.Core.Path.{_≡_}
-use mathlib.Core.List.{List}
+use mathlib.Core.List.{List, _++_}
 use Prim.Native.Nat.{ℕ, _≤_}
-use lib.ListN.{length}
+use lib.ListN.{length, drop}
 use Rattle.rules.specs.Block.{Block, Stream, read, readBlock}
-use Rattle.rules.specs.Answer.{written, answer}
+use Rattle.rules.specs.Answer.{written, answer, readPlaces}
 use Rattle.block.specs.declared.Held.{Held}
 use Rattle.block.specs.Held.{heldOf}
 use Rattle.answer.specs.declared.Answer.{Answer}
@@ -27,3 +27,7 @@ pub record AcceptedSome (held : Held) (room : ℕ) : Type 0 where
 pub record Answers (bytes before after : List ℕ) (returned : Answer) : Type 0 where
   pub returns : returned ≡ answerOf (answer (length before) bytes)
   pub output : after ≡ written (answer (length before) bytes) before
+
+-- What the lent slice of places holds afterwards: the places of the answer's atoms, then what was there before.
+pub record TellsPlaces (bytes before after : List ℕ) : Type 0 where
+  pub is : after ≡ readPlaces (readBlock bytes) ++ drop (length (readPlaces (readBlock bytes))) before

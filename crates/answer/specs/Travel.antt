@@ -7,7 +7,7 @@ use native.Mathlib.Omega.{arith}
 use lib.ListN.{length}
 use Rattle.rules.specs.Polynomial.{Atom, normal}
 use Rattle.rules.specs.Formula.{Node, alone, eachAtomOf}
-use Rattle.rules.specs.Level.{simplify}
+use Rattle.rules.specs.Level.{placedTree, simplify}
 use Rattle.rules.specs.Block.{Block, Stream, read, readBlock, blockLength}
 use Rattle.rules.specs.Limits.{BlockWithin}
 use Rattle.rules.specs.Answer.{lookedUp, formulaOf, used, withoutConstants, formsUsed, simplified, newBlock}
@@ -24,8 +24,8 @@ use Rattle.answer.specs.Normal.{tree-after, normalTree, normal-forms}
 module _ (given : Block) (within : BlockWithin given) (w : WorkingTable)
     (worked : Worked (heldOf given .coefficient) (heldOf given .monomial) (heldOf given .terms) (length (given .table)) (given .variables) w) where
   -- The normalised tree over the working table's slots is simplified to the block's simplified formula.
-  pub slots-simplified : simplify (given .variables) (eachAtomOf (inSlot (tableOf (given .variables) w)) (normalTree given within w worked)) ≡ simplified given
-  slots-simplified = ap (simplify (given .variables)) (normal-forms given within w worked) ∙ block-normal-first given within
+  pub slots-simplified : simplify (given .variables) (placedTree (eachAtomOf (inSlot (tableOf (given .variables) w)) (normalTree given within w worked))) ≡ simplified given
+  slots-simplified = ap (λ (tree : Node Atom). simplify (given .variables) (placedTree tree)) (normal-forms given within w worked) ∙ block-normal-first given within
 
   -- And the forms that it uses are those that the block's tree uses.
   pub slots-used : withoutConstants (used [] (alone (eachAtomOf (inSlot (tableOf (given .variables) w)) (normalTree given within w worked)))) ≡ formsUsed (formulaOf given)

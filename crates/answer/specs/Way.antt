@@ -1,22 +1,25 @@
 -- The way of an accepted block through the crates below: what is held, made normal, simplified, collected and written, step by step.
 -- Each step takes what the function of that step ensures, and gives what the next one asks.
-use mathlib.Core.Path.{_≡_, sym, ap, ap₂, _∙_, subst}
+use mathlib.Core.Path.{_≡_, refl, sym, ap, ap₂, _∙_, subst}
 use mathlib.Core.List.{List, [], _∷_, _++_, map}
-use Prim.Native.Nat.{ℕ, _≤_}
+use Prim.Native.Nat.{ℕ, suc, _%_, _<_, _≤_}
 use native.Mathlib.Nat.{zero-add}
 use native.Mathlib.Omega.{arith}
 use lib.IntN.{ℤ}
-use lib.ListN.{length, take, drop, replicate, length-map, length-replicate}
+use lib.ListN.{length, getD, take, drop, replicate, length-map, length-replicate}
 use lib.Seq.{sets, sets-eq, length-sets, take-at}
 use Rattle.rules.specs.Polynomial.{Atom}
 use Rattle.rules.specs.Formula.{Node, eachAtomOf, alone, atoms, nodes}
-use Rattle.rules.specs.Level.{simplify}
+use Rattle.rules.specs.Level.{Placed, plain as withoutPlace, placedTree, places, simplify}
 use Rattle.rules.specs.Block.{NumberedAtom, Block, writeBlock, blockLength}
 use Rattle.rules.specs.Limits.{PartsWithin, BlockWithin}
 use Rattle.rules.specs.Answer as book
-use Rattle.rules.specs.Answer.{formulaOf, used, withoutConstants, formsUsed, numbered, blockOf, simplified, newBlock}
+use Rattle.rules.specs.Answer.{lookedUp, formulaOf, used, withoutConstants, formsUsed, numbered, blockOf, simplified, newBlock, newPlaces, readPlaces}
+use Rattle.rules.specs.Demands.{atomsOf}
 use Rattle.block_laws.specs.Blocks.{accepted-within}
 use Rattle.block_laws.specs.Sizes.{length-block}
+use Rattle.length_laws.specs.Blocks.{in-order-many}
+use Rattle.length_laws.specs.Places.{places-name}
 use Rattle.block.specs.declared.Held.{Held}
 use Rattle.block.specs.Held as reader
 use Rattle.block.specs.Held.{heldBy, BlockRoom, heldOver, heldOf}
@@ -24,7 +27,9 @@ use Rattle.writer.specs.Written.{Writable}
 use Rattle.forms.specs.declared.WorkingTable.{WorkingTable}
 use Rattle.forms.specs.Working.{TableRead, tableOf, Worked}
 use Rattle.forms.specs.Tokens.{normalTokens}
+use Rattle.tape.specs.Token.{atomOf}
 use Rattle.tape.specs.Listing.{row-long}
+use Rattle.places.specs.Places.{placedTokens, placeBytes, placesOver}
 use Rattle.level.specs.declared.writing.Tree.{Tree}
 use Rattle.level.specs.Tree.{TreeHeld, Simplified}
 use Rattle.used.specs.Tape.{inSlot, Holds, HoldsSome}
@@ -32,11 +37,12 @@ use Rattle.answer.specs.declared.Verdict.{Verdict}
 use Rattle.answer.specs.declared.Answer.the-variants.{Answered}
 use Rattle.array_laws.specs.Arrays.{held-table-read}
 use Rattle.answer.specs.Normal.{normalised, normalTree, normal-holds, normal-kind, normal-within}
-use Rattle.answer.specs.Tapes.{tokenOf, plain, plainTokens, tokens-in-slots, held-as-tokens, result, result-is, result-holds, result-kind}
+use Rattle.answer.specs.Tapes.{tokenTree, atoms-few, plain, plainTokens, tokens-in-slots, held-as-tokens, result, result-is, result-places, result-holds}
+use Rattle.answer.specs.Tapes.{result-kind}
 use Rattle.answer.specs.Travel.{slots-simplified, slots-used, new-writable, new-room}
 use Rattle.answer.specs.Answered.{verdictFrom, verdictOf, countsOf, answerOf, answer-accepted, answer-written, new-verdict, atoms-same}
 use Rattle.array_laws.specs.Writing.{writable}
-use Rattle.answer.specs.Entry.{Accepted, Answers}
+use Rattle.answer.specs.Entry.{Accepted, Answers, TellsPlaces}
 
 -- ---- the tape that is simplified
 
@@ -46,7 +52,7 @@ pub record Prepared (given : Block) (held : Held) (w : WorkingTable) (token : Li
   pub holds : Holds token (held .tokens) tree
   pub kind : reader.kindOf tree ≡ held .root
   pub within : PartsWithin 6 64 0 (alone tree)
-  pub simplifies : simplify (held .variables) (eachAtomOf (inSlot (tableOf (held .variables) w)) tree) ≡ simplified given
+  pub simplifies : simplify (held .variables) (placedTree (eachAtomOf (inSlot (tableOf (held .variables) w)) tree)) ≡ simplified given
   pub counted : atoms (alone tree) ≡ atoms (alone (given .tree))
   pub uses : withoutConstants (used [] (alone (eachAtomOf (inSlot (tableOf (held .variables) w)) tree))) ≡ formsUsed (formulaOf given)
 
@@ -106,27 +112,39 @@ module _ {bytes : List ℕ} {held : Held} {room : ℕ} (accepted : Accepted byte
 
 module _ {given : Block} {held : Held} {w : WorkingTable} {token : List ℕ} (prepared : Prepared given held w token) where
   -- What the level rules ask for.
-  pub asks-tree : TreeHeld token (held .root) (eachAtomOf tokenOf (prepared .tree))
+  pub asks-tree : TreeHeld (placedTokens (held .tokens) token) (held .root) (tokenTree (prepared .tree))
   asks-tree = held-as-tokens (prepared .tree) (prepared .within) (prepared .holds) (prepared .kind)
 
   -- What the count of atoms asks for.
   pub asks-atoms : HoldsSome token (held .tokens)
   asks-atoms = record { tree = prepared .tree; holds = prepared .holds }
 
-  module _ (r : Tree) (simpler : Simplified (tableOf (held .variables) w) (eachAtomOf tokenOf (prepared .tree)) r) where
+  module _ (r : Tree) (simpler : Simplified (tableOf (held .variables) w) (tokenTree (prepared .tree)) r) where
     -- The row has as many tokens as are counted.
     pub counts-row : r .tokens .count ≤ length (r .tokens .token)
     counts-row = row-long (simpler .lists)
 
     -- The simplified tree.
     abbrev pub simplerTree : Node NumberedAtom
-    simplerTree = result (tableOf (held .variables) w) (eachAtomOf tokenOf (prepared .tree)) r simpler
+    simplerTree = result (tableOf (held .variables) w) (tokenTree (prepared .tree)) r simpler
 
-    -- It stands for the simplified formula.
-    pub simpler-is : eachAtomOf (inSlot (tableOf (held .variables) w)) simplerTree ≡ simplified given
-    simpler-is =
-        result-is (tableOf (held .variables) w) (eachAtomOf tokenOf (prepared .tree)) r simpler
-        ∙ ap (simplify (held .variables)) (tokens-in-slots (prepared .tree) (prepared .within) (tableOf (held .variables) w)) ∙ prepared .simplifies
+    -- What is simplified is the block's formula, each atom at its place.
+    simplifies-placed : simplify (held .variables) (eachAtomOf (atomOf (tableOf (held .variables) w)) (tokenTree (prepared .tree))) ≡ simplified given
+    simplifies-placed =
+        ap (simplify (held .variables))
+        (tokens-in-slots (prepared .tree) (prepared .within) (tableOf (held .variables) w) (omega (arith, prepared .holds .counted, prepared .holds .few)))
+        ∙ prepared .simplifies
+
+    -- It stands for the simplified formula,
+    pub simpler-is : eachAtomOf (inSlot (tableOf (held .variables) w)) simplerTree ≡ eachAtomOf withoutPlace (simplified given)
+    simpler-is = result-is (tableOf (held .variables) w) (tokenTree (prepared .tree)) r simpler ∙ ap (eachAtomOf withoutPlace) simplifies-placed
+
+    -- and tells the places of its atoms.
+    pub simpler-places : placeBytes (take (r .tokens .count) (r .tokens .token)) ≡ map (λ (k : ℕ). k % 256) (newPlaces given)
+    unfolding newPlaces
+    simpler-places =
+        result-places (tableOf (held .variables) w) (tokenTree (prepared .tree)) r simpler
+        ∙ ap (λ (n : Node Placed). map (λ (k : ℕ). k % 256) (places (alone n))) simplifies-placed
 
     -- The plain tape holds it.
     pub simpler-holds : (tape : List ℕ) → tape ≡ plainTokens (r .tokens .count) (r .tokens .token) → Holds tape (r .tokens .count) simplerTree
@@ -134,43 +152,47 @@ module _ {given : Block} {held : Held} {w : WorkingTable} {token : List ℕ} (pr
         let front : List ℕ = map plain (take (r .tokens .count) (r .tokens .token)) in
         let long : length front ≡ r .tokens .count
         = length-map (take (r .tokens .count) (r .tokens .token)) plain ∙ ap length (simpler .lists .is) ∙ sym (simpler .lists .size) in
-        result-holds (tableOf (held .variables) w) (eachAtomOf tokenOf (prepared .tree)) r simpler
+        result-holds (tableOf (held .variables) w) (tokenTree (prepared .tree)) r simpler
         (ap (take (r .tokens .count)) is ∙ take-at front (drop (r .tokens .count) (r .tokens .token)) (r .tokens .count) long)
+
+    -- There are at most 255 tokens.
+    pub counts-few : r .tokens .count ≤ 255
+    counts-few = simpler-holds (plainTokens (r .tokens .count) (r .tokens .token)) refl .few
 
     -- Its root is of the kind that is told.
     pub simpler-kind : reader.kindOf simplerTree ≡ r .root
-    simpler-kind = result-kind (tableOf (held .variables) w) (eachAtomOf tokenOf (prepared .tree)) r simpler
+    simpler-kind = result-kind (tableOf (held .variables) w) (tokenTree (prepared .tree)) r simpler
 
 -- ---- the new block
 
 module _ {bytes : List ℕ} (before : List ℕ) {held : Held} (accepted : Accepted bytes held (length before)) {w : WorkingTable} {token : List ℕ}
     (prepared : Prepared (accepted .given) held w token) (r : Tree)
-    (simpler : Simplified (tableOf (held .variables) w) (eachAtomOf tokenOf (prepared .tree)) r) where
+    (simpler : Simplified (tableOf (held .variables) w) (tokenTree (prepared .tree)) r) (tape : List ℕ) where
   same-variables : held .variables ≡ accepted .given .variables
   unfolding heldOf
   same-variables = ap (λ (h : Held). h .variables) (accepted .is)
 
-  -- The new block, stored over the arrays that held the given one.
+  -- The new block, stored over the arrays that held the given one, the tape as it is then.
   abbrev pub newHeld : Held
-  newHeld = heldOver (held .coefficient) (held .monomial) (held .terms) token (newBlock (accepted .given))
+  newHeld = heldOver (held .coefficient) (held .monomial) (held .terms) tape (newBlock (accepted .given))
 
   -- This is what is collected,
-  pub collects : {m : ℕ} {cs : List ℤ} {ms ts tape : List ℕ}
-      → heldBy (held .variables) m (reader.kindOf (simplerTree prepared r simpler)) (r .tokens .count) cs ms ts tape
-      ≡ heldOver (held .coefficient) (held .monomial) (held .terms) token
+  pub collects : {m : ℕ} {cs : List ℤ} {ms ts new : List ℕ}
+      → heldBy (held .variables) m (reader.kindOf (simplerTree prepared r simpler)) (r .tokens .count) cs ms ts new
+      ≡ heldOver (held .coefficient) (held .monomial) (held .terms) tape
       (blockOf (held .variables) (eachAtomOf (inSlot (tableOf (held .variables) w)) (simplerTree prepared r simpler)))
-      → heldBy (held .variables) m (r .root) (r .tokens .count) cs ms ts tape ≡ newHeld
+      → heldBy (held .variables) m (r .root) (r .tokens .count) cs ms ts new ≡ newHeld
   unfolding newBlock
-  collects {m} {cs} {ms} {ts} {tape} is =
-      ap (λ (kind : ℕ). heldBy (held .variables) m kind (r .tokens .count) cs ms ts tape) (sym (simpler-kind prepared r simpler)) ∙ is
-      ∙ ap₂ (λ (n : ℕ) (tree : Node Atom). heldOver (held .coefficient) (held .monomial) (held .terms) token (blockOf n tree)) same-variables (simpler-is prepared r simpler)
+  collects {m} {cs} {ms} {ts} {new} is =
+      ap (λ (kind : ℕ). heldBy (held .variables) m kind (r .tokens .count) cs ms ts new) (sym (simpler-kind prepared r simpler)) ∙ is
+      ∙ ap₂ (λ (n : ℕ) (tree : Node Atom). heldOver (held .coefficient) (held .monomial) (held .terms) tape (blockOf n tree)) same-variables (simpler-is prepared r simpler)
 
   -- which can be written.
-  pub writes : (new : Held) → new ≡ newHeld → length token ≡ length (held .token) → Writable new (length before) (newBlock (accepted .given))
+  pub writes : (new : Held) → new ≡ newHeld → length tape ≡ length (held .token) → Writable new (length before) (newBlock (accepted .given))
   writes new is same =
       let table = asks-table accepted in
       subst (λ (h : Held). Writable h (length before) (newBlock (accepted .given))) (sym is)
-      (writable (newBlock (accepted .given)) (new-writable bytes (accepted .accepted)) (held .coefficient) (held .monomial) (held .terms) token
+      (writable (newBlock (accepted .given)) (new-writable bytes (accepted .accepted)) (held .coefficient) (held .monomial) (held .terms) tape
       (table .coefficients) (table .monomials) (table .counts) (same ∙ tape-long accepted) (length before)
       (omega (arith, new-room bytes (accepted .accepted), accepted .enough)))
 
@@ -179,7 +201,41 @@ module _ {bytes : List ℕ} (before : List ℕ) {held : Held} (accepted : Accept
   new-atoms =
       sym (atoms-same (inSlot (tableOf (held .variables) w)) (simplerTree prepared r simpler))
       ∙ ap (λ (tree : Node Atom). atoms (alone tree)) (simpler-is prepared r simpler)
-      ∙ sym (atoms-same (numbered (used [] (alone (simplified (accepted .given))))) (simplified (accepted .given)))
+      ∙ sym (atoms-same (numbered (used [] (alone short))) short)
+    where
+      short : Node Atom
+      short = eachAtomOf withoutPlace (simplified (accepted .given))
+
+  -- ---- the places
+
+  -- A place is that of an atom of the block, so it fits a byte.
+  place-small : (i : ℕ) → i < length (newPlaces (accepted .given)) → getD (newPlaces (accepted .given)) i 0 < 256
+  unfolding atomsOf formulaOf
+  place-small i h =
+      let given = accepted .given in
+      let within = accepted-within bytes (accepted .accepted) in
+      omega (
+        arith,
+        places-name given within .of-input i h,
+        in-order-many (alone (formulaOf given)),
+        atoms-same (lookedUp (given .table)) (given .tree),
+        atoms-few (alone (given .tree)),
+        within .nodes,
+      )
+
+  pub places-told : (slice after : List ℕ) → after ≡ placesOver (take (r .tokens .count) (r .tokens .token)) slice → TellsPlaces bytes slice after
+  unfolding readPlaces
+  places-told slice after is =
+      let bytes-are : placeBytes (take (r .tokens .count) (r .tokens .token)) ≡ newPlaces (accepted .given)
+      = simpler-places prepared r simpler ∙ small-bytes (newPlaces (accepted .given)) place-small in
+      record { is = is ∙ rw (bytes-are, accepted .accepted) }
+    where
+      small-bytes : (l : List ℕ) → ((i : ℕ) → i < length l → getD l i 0 < 256) → map (λ (k : ℕ). k % 256) l ≡ l
+      small-bytes [] h = refl
+      small-bytes (k ∷ l) h =
+          let first : k < 256 = h 0 (omega arith) in
+          let same : k % 256 ≡ k = omega arith in
+          ap₂ (λ (j : ℕ) (m : List ℕ). j ∷ m) same (small-bytes l (λ i low. h (suc i) (omega arith)))
 
   -- So what is returned and written is the book's answer.
   pub answers : (new : Held) → new ≡ newHeld → (after : List ℕ) (atoms-in atoms-out polynomials-in size : ℕ) (verdict : Verdict)

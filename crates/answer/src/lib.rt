@@ -7,9 +7,11 @@ ghost use lib.ListN.{length};
 ghost use Rattle.block.specs.Held.{heldBy};
 ghost use Rattle.answer.specs.Tapes.{plainTokens};
 ghost use Rattle.answer.specs.Answered.{verdictFrom};
-ghost use Rattle.answer.specs.Entry.{Accepted, AcceptedSome, Answers};
+ghost use Rattle.answer.specs.Entry.{Accepted, AcceptedSome, Answers, TellsPlaces};
 use forms::normal_tokens;
 use forms::work;
+use places::give;
+use places::tell;
 use used::atoms;
 use used::collect;
 use used::forms_used;
@@ -56,7 +58,7 @@ fn verdict_of(root: u8, tokens: usize) -> Verdict
     Verdict::Formula
 }
 
-// Drops the bits that the level rules carry along in an atom's token; a node's token stays.
+// Drops the place that the level rules carry along in an atom's token; a node's token stays.
 fn plain_tokens(token: &mut [u32], count: usize)
     requires { ⌜ count ≤ length (now token) ⌝ }
     ensures { λ _. ⌜ now (token .exit) ≡ plainTokens count (now (token .entry)) ⌝ }
@@ -72,7 +74,7 @@ fn plain_tokens(token: &mut [u32], count: usize)
     }
 }
 
-// The answer to what was read. The arrays that hold it are filled anew with what is written.
+// The answer to what was read, and the places of its atoms in the lent slice. The arrays that hold it are filled anew with what is written.
 pub fn answer_to(
     variables: usize,
     polynomials: usize,
@@ -83,11 +85,13 @@ pub fn answer_to(
     terms: &mut [u8],
     token: &mut [u32],
     output: &mut [u8],
+    places: &mut [u8],
 ) -> Answer
-    requires { ⌜ AcceptedSome (heldBy variables polynomials root count (now coefficient) (now monomial) (now terms) (now token)) (length (now output)) ⌝ }
+    requires { ⌜ AcceptedSome (heldBy variables polynomials root count (now coefficient) (now monomial) (now terms) (now token)) (length (now output))
+        × (255 ≤ length (now places)) ⌝ }
     ensures { λ r. ⌜ ((bytes : List ℕ)
         → Accepted bytes (heldBy variables polynomials root count (now (coefficient .entry)) (now (monomial .entry)) (now (terms .entry)) (now (token .entry)))
-        (length (now (output .entry))) → Answers bytes (now (output .entry)) (now (output .exit)) r) ⌝ }
+        (length (now (output .entry))) → Answers bytes (now (output .entry)) (now (output .exit)) r × TellsPlaces bytes (now (places .entry)) (now (places .exit))) ⌝ }
 {
     let mut form_coefficient = [0i32; 1280];
     let mut form_monomial = [0u64; 1280];
@@ -109,6 +113,7 @@ pub fn answer_to(
     normal_tokens(token, count, &number, &turned);
     let atoms_in = atoms(token, count);
     let polynomials_in = forms_used(&form_monomial, &form_terms, token, count);
+    give(token, count);
     let tree = level::simplified(
         &form_coefficient,
         &form_monomial,
@@ -121,6 +126,7 @@ pub fn answer_to(
     let row = tree.tokens;
     let new_count = row.count;
     let mut tape = row.token;
+    tell(&tape, new_count, places);
     plain_tokens(&mut tape, new_count);
     let atoms_out = atoms(&tape, new_count);
     let new_polynomials = collect(

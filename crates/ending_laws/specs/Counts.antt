@@ -7,7 +7,7 @@ use native.Mathlib.Omega.{arith}
 use lib.ListN.{length}
 use Rattle.rules.specs.Polynomial.{Atom}
 use Rattle.rules.specs.Rounds.{Outcome, contradiction, settled, start, enough, begun, run, nonVariable}
-use Rattle.rules.specs.Level.{Formula, Walk, falls, still, moved, Tidied, broken, tidied, tidy, sweep, innerAll}
+use Rattle.rules.specs.Level.{Placed, plains, Formula, Walk, falls, still, moved, Tidied, broken, tidied, tidy, sweep, innerAll}
 use Rattle.rules.specs.Count.{runCount, CountAgain, sweepCount, outcomeCount, tidyCount, settleCount, settledCount}
 use Rattle.ending_laws.specs.Rounds.{Run, run-ends, at-most-for-list}
 use Rattle.ending_laws.specs.Turns.{Fewer, sweep-fewer}
@@ -26,14 +26,14 @@ run-at-most n l = at-most-for-list n l
 
 -- ---- Two ways back that agree on children with fewer inner nodes count the same.
 
-module _ (n : ℕ) (ors : List Formula) (f g : CountAgain) (agree : (m : List Atom) (left : List Formula) → innerAll left < innerAll ors → f m left ≡ g m left) where
-  sweepCount-same : (l : List Atom) (walk : Walk) → Fewer (innerAll ors) walk → sweepCount n l walk f ≡ sweepCount n l walk g
+module _ (n : ℕ) (ors : List Formula) (f g : CountAgain) (agree : (m : List Placed) (left : List Formula) → innerAll left < innerAll ors → f m left ≡ g m left) where
+  sweepCount-same : (l : List Placed) (walk : Walk) → Fewer (innerAll ors) walk → sweepCount n l walk f ≡ sweepCount n l walk g
   unfolding Fewer sweepCount
   sweepCount-same l falls fewer = refl
   sweepCount-same l (still left) fewer = refl
   sweepCount-same l (moved new left) fewer = agree (l ++ new) left fewer
 
-  outcomeCount-same : (l : List Atom) (outcome : Outcome) → outcomeCount n l outcome ors f ≡ outcomeCount n l outcome ors g
+  outcomeCount-same : (l : List Placed) (outcome : Outcome) → outcomeCount n l outcome ors f ≡ outcomeCount n l outcome ors g
   unfolding outcomeCount
   outcomeCount-same l contradiction = refl
   outcomeCount-same l (settled st) = sweepCount-same _ (sweep n st ors) (sweep-fewer n st ors)
@@ -41,10 +41,10 @@ module _ (n : ℕ) (ors : List Formula) (f g : CountAgain) (agree : (m : List At
   tidyCount-same : (t : Tidied) → tidyCount n t ors f ≡ tidyCount n t ors g
   unfolding tidyCount
   tidyCount-same broken = refl
-  tidyCount-same (tidied l) = ap (max (runCount n l)) (outcomeCount-same l (run n l))
+  tidyCount-same (tidied l) = ap (max (runCount n (plains l))) (outcomeCount-same l (run n (plains l)))
 
 -- Any two numbers of turns above the inner nodes of the OR children count the same.
-pub enough-counted : (n k j : ℕ) (l : List Atom) (ors : List Formula) → innerAll ors < k → innerAll ors < j → settleCount n k l ors ≡ settleCount n j l ors
+pub enough-counted : (n k j : ℕ) (l : List Placed) (ors : List Formula) → innerAll ors < k → innerAll ors < j → settleCount n k l ors ≡ settleCount n j l ors
 unfolding settleCount
 enough-counted n zero j l ors h i = absurd (omega arith)
 enough-counted n (suc k) zero l ors h i = absurd (omega arith)
@@ -52,7 +52,7 @@ enough-counted n (suc k) (suc j) l ors h i =
     tidyCount-same n ors _ _ (λ m left fewer. enough-counted n k j m left (omega arith) (omega arith)) (tidy l)
 
 -- Steps 2 to 5 as 01 says them, with no number of turns: the way back is the steps themselves.
-pub no-count-missing : (n : ℕ) (l : List Atom) (ors : List Formula) → settledCount n l ors ≡ tidyCount n (tidy l) ors (settledCount n)
+pub no-count-missing : (n : ℕ) (l : List Placed) (ors : List Formula) → settledCount n l ors ≡ tidyCount n (tidy l) ors (settledCount n)
 unfolding settleCount settledCount
 no-count-missing n l ors =
     enough-counted n (1 + innerAll ors) (suc (innerAll ors)) l ors (omega arith) (omega arith)

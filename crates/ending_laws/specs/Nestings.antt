@@ -7,8 +7,8 @@ use native.Mathlib.Omega.{arith}
 use native.Mathlib.Nat.{le-refl, max-le}
 use lib.ListN.{length}
 use Rattle.rules.specs.Polynomial.{Atom}
-use Rattle.rules.specs.Formula.{Parts, end, atom, and, or, Node, leaf, allOf, anyOf, before, eachAtom, eachAtomOf, alone, open-formula}
-use Rattle.rules.specs.Level.{Formula, dual, dualNode, atomsOf, orsOf, add, enter, gather, afterGather, andRule, asNode, simplify}
+use Rattle.rules.specs.Formula.{Parts, end, atom, and, or, Node, leaf, allOf, anyOf, before, eachAtom, eachAtomOf, alone, atoms, open-formula}
+use Rattle.rules.specs.Level.{Placed, Formula, placedFrom, placedTree, dual, dualNode, atomsOf, orsOf, add, enter, gather, afterGather, andRule, asNode, simplify}
 use Rattle.rules.specs.Block.{NumberedAtom, Block}
 use Rattle.rules.specs.Limits.{PartsWithin, BlockWithin}
 use Rattle.rules.specs.Answer.{lookedUp, formulaOf, simplified}
@@ -96,13 +96,13 @@ andRule-unbounded n d kids h = enough-nestings n d (1 + nesting kids) kids h (om
 -- ---- The whole tree of a block.
 
 -- A tree simplified by a rule for the parts of an AND.
-unfoldable pub simplifyBy : (Formula → Formula) → Node Atom → Node Atom
+unfoldable pub simplifyBy : (Formula → Formula) → Node Placed → Node Placed
 simplifyBy rule (leaf a) = asNode (rule (atom a end))
 simplifyBy rule (allOf kids) = asNode (rule kids)
 simplifyBy rule (anyOf kids) = dualNode (asNode (rule (dual kids)))
 
 -- A tree of at most 6 nestings is simplified by the rule with no number of nestings.
-pub simplify-unbounded : (n : ℕ) (tree : Node Atom) → nesting (alone tree) ≤ 6 → simplify n tree ≡ simplifyBy (unboundedAndRule n) tree
+pub simplify-unbounded : (n : ℕ) (tree : Node Placed) → nesting (alone tree) ≤ 6 → simplify n tree ≡ simplifyBy (unboundedAndRule n) tree
 unfolding nesting alone before simplify simplifyBy
 simplify-unbounded n (leaf a) h = ap asNode (andRule-unbounded n 6 (atom a end) (omega arith))
 simplify-unbounded n (allOf kids) h = ap asNode (andRule-unbounded n 6 kids (omega arith))
@@ -125,13 +125,28 @@ alone-each f (leaf a) = refl
 alone-each f (allOf kids) = refl
 alone-each f (anyOf kids) = refl
 
+-- Atoms with their places leave the nesting as it is.
+placedFrom-nesting : (k : ℕ) (kids : Parts Atom) → nesting (placedFrom k kids) ≡ nesting kids
+unfolding nesting placedFrom
+placedFrom-nesting k end = refl
+placedFrom-nesting k (atom a rest) = placedFrom-nesting (1 + k) rest
+placedFrom-nesting k (and kids rest) = ap₂ (λ k r. max (1 + k) r) (placedFrom-nesting k kids) (placedFrom-nesting (k + atoms kids) rest)
+placedFrom-nesting k (or kids rest) = ap₂ (λ k r. max (1 + k) r) (placedFrom-nesting k kids) (placedFrom-nesting (k + atoms kids) rest)
+
+placedTree-nesting : (tree : Node Atom) → nesting (alone (placedTree tree)) ≡ nesting (alone tree)
+unfolding nesting alone before placedTree
+placedTree-nesting (leaf a) = refl
+placedTree-nesting (allOf kids) = ap (λ k. max (1 + k) 0) (placedFrom-nesting 0 kids)
+placedTree-nesting (anyOf kids) = ap (λ k. max (1 + k) 0) (placedFrom-nesting 0 kids)
+
 -- The formula that a block within the limits holds has at most 6 nestings.
-pub formula-nesting : (block : Block) → BlockWithin block → nesting (alone (formulaOf block)) ≤ 6
+pub formula-nesting : (block : Block) → BlockWithin block → nesting (alone (placedTree (formulaOf block))) ≤ 6
 unfolding formulaOf
 formula-nesting block within =
-    rw (← alone-each (lookedUp (block .table)) (block .tree), eachAtom-nesting) (parts-nesting 6 (length (block .table)) 0 (alone (block .tree)) (within .tree))
+    rw (placedTree-nesting (eachAtomOf (lookedUp (block .table)) (block .tree)), ← alone-each (lookedUp (block .table)) (block .tree), eachAtom-nesting)
+    (parts-nesting 6 (length (block .table)) 0 (alone (block .tree)) (within .tree))
 
 -- Each block within the limits is simplified by the rules of 01, with no number of nestings.
-pub simplified-unbounded : (block : Block) → BlockWithin block → simplified block ≡ simplifyBy (unboundedAndRule (block .variables)) (formulaOf block)
+pub simplified-unbounded : (block : Block) → BlockWithin block → simplified block ≡ simplifyBy (unboundedAndRule (block .variables)) (placedTree (formulaOf block))
 unfolding simplified
-simplified-unbounded block within = simplify-unbounded (block .variables) (formulaOf block) (formula-nesting block within)
+simplified-unbounded block within = simplify-unbounded (block .variables) (placedTree (formulaOf block)) (formula-nesting block within)

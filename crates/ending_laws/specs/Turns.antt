@@ -7,10 +7,9 @@ use mathlib.Core.Option.{Option, none, some}
 use Prim.Native.Nat.{ℕ, zero, suc, _+_, _≤_, _<_, zero-le}
 use native.Mathlib.Omega.{arith}
 use native.Mathlib.Nat.{le-refl}
-use Rattle.rules.specs.Polynomial.{Atom}
 use Rattle.rules.specs.Rounds.{State, Outcome, contradiction, settled, run}
 use Rattle.rules.specs.Formula.{end, atom, and, or, isEnd}
-use Rattle.rules.specs.Level.{Formula, atomsOf, orsOf, Entry, fails, joins, stays, joinsIf, enter, Walk, falls, still, moved, add, Tidied, broken, tidied, tidy}
+use Rattle.rules.specs.Level.{Placed, plains, Formula, atomsOf, orsOf, Entry, fails, joins, stays, joinsIf, enter, Walk, falls, still, moved, add, Tidied, broken, tidied, tidy}
 use Rattle.rules.specs.Level.{unlessDropped, prunedIf, prune, addPruned, sweep, Again, afterSweep, afterRounds, afterTidy, settle, inner, innerAll, settled-down}
 
 -- ---- The inner nodes of the OR children.
@@ -33,7 +32,7 @@ LeavesAtMost m fails = Unit {0}
 LeavesAtMost m (joins l ors) = innerAll ors ≤ m
 LeavesAtMost m (stays child) = inner child ≤ m
 
-joinsIf-leaves : (one : Bool) (m : ℕ) (l : List Atom) (ors : List Formula) (child : Formula) → innerAll ors ≤ m → inner child ≤ m
+joinsIf-leaves : (one : Bool) (m : ℕ) (l : List Placed) (ors : List Formula) (child : Formula) → innerAll ors ≤ m → inner child ≤ m
     → LeavesAtMost m (joinsIf one l ors child)
 unfolding LeavesAtMost joinsIf
 joinsIf-leaves true m l ors child h i = h
@@ -80,7 +79,7 @@ unfolding AtMost unlessDropped
 unlessDropped-most f m k h none most = tt
 unlessDropped-most f m k h (some rest) most = h rest most
 
-prunedIf-most : (m : ℕ) (drops isEmpty : Bool) (a : Atom) (pruned : Option Formula) → AtMost m pruned → AtMost m (prunedIf drops isEmpty a pruned)
+prunedIf-most : (m : ℕ) (drops isEmpty : Bool) (a : Placed) (pruned : Option Formula) → AtMost m pruned → AtMost m (prunedIf drops isEmpty a pruned)
 unfolding AtMost prunedIf inner
 prunedIf-most m true isEmpty a pruned most = tt
 prunedIf-most m false true a pruned most = most
@@ -107,14 +106,14 @@ sweep-fewer n st (child ∷ later) =
 
 -- ---- So two ways back that agree on children with fewer inner nodes give the same.
 
-module _ (n : ℕ) (ors : List Formula) (f g : Again) (agree : (m : List Atom) (left : List Formula) → innerAll left < innerAll ors → f m left ≡ g m left) where
-  afterSweep-same : (l : List Atom) (walk : Walk) → Fewer (innerAll ors) walk → afterSweep n l walk f ≡ afterSweep n l walk g
+module _ (n : ℕ) (ors : List Formula) (f g : Again) (agree : (m : List Placed) (left : List Formula) → innerAll left < innerAll ors → f m left ≡ g m left) where
+  afterSweep-same : (l : List Placed) (walk : Walk) → Fewer (innerAll ors) walk → afterSweep n l walk f ≡ afterSweep n l walk g
   unfolding Fewer afterSweep
   afterSweep-same l falls fewer = refl
   afterSweep-same l (still left) fewer = refl
   afterSweep-same l (moved new left) fewer = agree (l ++ new) left fewer
 
-  afterRounds-same : (l : List Atom) (outcome : Outcome) → afterRounds n l outcome ors f ≡ afterRounds n l outcome ors g
+  afterRounds-same : (l : List Placed) (outcome : Outcome) → afterRounds n l outcome ors f ≡ afterRounds n l outcome ors g
   unfolding afterRounds
   afterRounds-same l contradiction = refl
   afterRounds-same l (settled st) = afterSweep-same _ (sweep n st ors) (sweep-fewer n st ors)
@@ -122,10 +121,10 @@ module _ (n : ℕ) (ors : List Formula) (f g : Again) (agree : (m : List Atom) (
   afterTidy-same : (t : Tidied) → afterTidy n t ors f ≡ afterTidy n t ors g
   unfolding afterTidy
   afterTidy-same broken = refl
-  afterTidy-same (tidied l) = afterRounds-same l (run n l)
+  afterTidy-same (tidied l) = afterRounds-same l (run n (plains l))
 
 -- Any two numbers of turns above the inner nodes of the OR children give the same.
-pub enough-turns : (n k j : ℕ) (l : List Atom) (ors : List Formula) → innerAll ors < k → innerAll ors < j → settle n k l ors ≡ settle n j l ors
+pub enough-turns : (n k j : ℕ) (l : List Placed) (ors : List Formula) → innerAll ors < k → innerAll ors < j → settle n k l ors ≡ settle n j l ors
 unfolding settle
 enough-turns n zero j l ors h i = absurd (omega arith)
 enough-turns n (suc k) zero l ors h i = absurd (omega arith)
@@ -133,12 +132,12 @@ enough-turns n (suc k) (suc j) l ors h i =
     afterTidy-same n ors _ _ (λ m left fewer. enough-turns n k j m left (omega arith) (omega arith)) (tidy l)
 
 -- More turns change nothing.
-pub more-turns-change-nothing : (n k : ℕ) (l : List Atom) (ors : List Formula) → settle n (k + (1 + innerAll ors)) l ors ≡ settled-down n l ors
+pub more-turns-change-nothing : (n k : ℕ) (l : List Placed) (ors : List Formula) → settle n (k + (1 + innerAll ors)) l ors ≡ settled-down n l ors
 unfolding settled-down
 more-turns-change-nothing n k l ors = enough-turns n _ _ l ors (omega arith) (omega arith)
 
 -- Steps 2 to 6 as 01 says them, with no number of turns: the way back is the steps themselves.
-pub no-turn-missing : (n : ℕ) (l : List Atom) (ors : List Formula) → settled-down n l ors ≡ afterTidy n (tidy l) ors (settled-down n)
+pub no-turn-missing : (n : ℕ) (l : List Placed) (ors : List Formula) → settled-down n l ors ≡ afterTidy n (tidy l) ors (settled-down n)
 unfolding settle settled-down
 no-turn-missing n l ors =
     enough-turns n (1 + innerAll ors) (suc (innerAll ors)) l ors (omega arith) (omega arith)

@@ -12,8 +12,8 @@ use native.Mathlib.Omega.{arith}
 use lib.IntN.{ℤ}
 use lib.ListN.{length}
 use Rattle.rules.specs.Polynomial.{Polynomial, Atom, divided, firstIsNegative}
-use Rattle.rules.specs.Formula.{Parts, end, atom, and, or, Node, leaf, allOf, anyOf, alone, open-formula}
-use Rattle.rules.specs.Level.{Formula, simplify}
+use Rattle.rules.specs.Formula.{Parts, end, atom, and, or, Node, leaf, allOf, anyOf, eachAtomOf, alone, open-formula}
+use Rattle.rules.specs.Level.{Placed, plain}
 use Rattle.rules.specs.Block.{Block}
 use Rattle.rules.specs.Limits.{BlockWithin}
 use Rattle.rules.specs.Answer.{formulaOf, simplified, newBlock}
@@ -22,10 +22,10 @@ use Rattle.rules.specs.Evaluate.{steps, allFit, partsFit, someIf, evaluateBy, w
 use Rattle.sign_laws.specs.Booleans.{and-intro, and-first, and-second}
 use Rattle.normal_laws.specs.Shape.{normalForm, normalForm-twice}
 use Rattle.level_laws.specs.Written.{newBlock-keeps, new-formula}
-use Rattle.length_laws.specs.Alternation.{Join, AND, OR, Alternates, no-parts, an-atom, an-and, an-or, TreeAlternates, one-atom, one-and, one-or, tree-alone}
-use Rattle.length_laws.specs.Formed.{Given, Formed}
+use Rattle.length_laws.specs.Alternation.{Join, AND, OR, Alternates, no-parts, an-atom, an-and, an-or, TreeAlternates, one-atom, one-and, one-or, tree-each, tree-alone}
+use Rattle.length_laws.specs.Formed.{Given, Formed, FormedAt}
 use Rattle.length_laws.specs.LevelKeeps.{simplify-keeps}
-use Rattle.length_laws.specs.Blocks.{formsOf, tree-given}
+use Rattle.length_laws.specs.Blocks.{formsOf, tree-given, tree-placed}
 use Rattle.laws.specs.Fractions.{respected-over, whole-holds}
 use Rattle.evaluate_laws.specs.Scaled.{normalForm-near, normalForm-fits}
 
@@ -60,10 +60,14 @@ tree-given-by (one-and {kids} h) = one-and (given-by (polynomialsOf kids ++ []) 
 tree-given-by (one-or {kids} h) = one-or (given-by (polynomialsOf kids ++ []) h (λ p m. append-left [] m))
 
 -- Each polynomial of the simplified formula is the normal form of one of the tree's.
-pub simplified-from-tree : (given : Block) → BlockWithin given → TreeAlternates (Formed (formsOf (polynomialsOf (alone (formulaOf given))))) 5 (simplified given)
+pub simplified-from-tree : (given : Block) → BlockWithin given
+    → TreeAlternates (Formed (formsOf (polynomialsOf (alone (formulaOf given))))) 5 (eachAtomOf plain (simplified given))
 unfolding simplified formulaOf
 simplified-from-tree given h =
-    simplify-keeps (own-form (polynomialsOf (alone (formulaOf given)))) (given .variables) (tree-given-by (tree-given (given .table) (given .tree) (h .tree)))
+    let all = polynomialsOf (alone (formulaOf given)) in
+    tree-each plain (λ (a : Placed) (k : FormedAt (λ (place : ℕ) (p : Polynomial). Member p (formsOf all)) a). record { small = k .small; form = k .form })
+    (simplify-keeps (λ place p m. own-form all p m) (given .variables)
+    (tree-placed (λ k a l e g. record { small = g .small; form = g .form }) (tree-given-by (tree-given (given .table) (given .tree) (h .tree)))))
 
 -- ---- What fits.
 
@@ -133,7 +137,8 @@ module _ (given : Block) (readings : List ℤ) (many : length readings ≡ given
       let all = polynomialsOf (alone (formulaOf given)) in
       let forms : (p : Polynomial) → Member p all → allFit limits (steps readings (normalForm p)) ≡ true =
       λ p m. each p m (each-fits readings fits64 (alone (formulaOf given)) fit p m) in
-      let short : partsFit limits readings (alone (simplified given)) ≡ true = tree-alone (simplified-from-tree given h) (λ join k. formed-fits readings limits all forms k) in
+      let short : partsFit limits readings (alone (eachAtomOf plain (simplified given))) ≡ true =
+      tree-alone (simplified-from-tree given h) (λ join k. formed-fits readings limits all forms k) in
       let new : partsFit limits readings (alone (formulaOf (newBlock given))) ≡ true = subst (λ (tree : Node Atom). partsFit limits readings (alone tree) ≡ true) (sym (new-formula given)) short in
       ap (λ (x : Bool). someIf x (holdsAt readings (formulaOf (newBlock given)))) new ∙ ap some (same-truth ∙ truth)
 

@@ -9,19 +9,21 @@ use native.Mathlib.Omega.{arith}
 use lib.Dec.{leb}
 use lib.ListN.{length}
 use Rattle.rules.specs.Polynomial.{Atom}
-use Rattle.rules.specs.Formula.{Node, atoms}
+use Rattle.rules.specs.Formula.{Node, eachAtomOf, atoms}
+use Rattle.rules.specs.Level.{plain, placedTree}
 use Rattle.rules.specs.Block.{Block, Stream, Reading, refused, read, readBlock, writeBlock}
 use Rattle.rules.specs.Answer.{Answer, refusal, answered, formulaOf, simplified, newBlock, countsOf, answerTo, unlessShort, answer}
 use Rattle.rules.specs.Meaning.{holdsAt, Choice, wholeNumbers, holdsOver}
-use Rattle.rules.specs.Demands.{readHolds, SameLifts, SameWholeLifts, NeverLonger}
+use Rattle.rules.specs.Demands.{readHolds, SameLifts, SameWholeLifts, NeverLonger, PlacesTell}
 use Rattle.block_laws.specs.Blocks.{reads-back, block-accepted, accepted-within}
 use Rattle.block_laws.specs.Sizes.{length-block}
 use Rattle.level_laws.specs.Rules.{verdict-always, verdict-unsatisfiable}
-use Rattle.level_laws.specs.Written.{newBlock-keeps}
+use Rattle.level_laws.specs.Written.{placedTree-plain, newBlock-keeps}
 use Rattle.length_laws.specs.NeverLonger.{never-longer}
 use Rattle.length_laws.specs.NewTable as table
 use Rattle.length_laws.specs.NewTable.{TableUsed}
 use Rattle.length_laws.specs.NewWithin.{new-within}
+use Rattle.length_laws.specs.Places.{places-name}
 use Rattle.laws.specs.Fractions.{respected-over, whole-holds}
 
 -- ---- An accepted block.
@@ -36,9 +38,12 @@ module _ (bytes : List ℕ) {given : Block} {stream : Stream} (accepted : readBl
   unfolding SameLifts answerTo readHolds holdsOver simplified
   same-lifts-of choice = (
     ap (readHolds (holdsOver choice)) (answer-reads-back .1) ∙ ap some (newBlock-keeps given (respected-over choice)),
-    verdict-always (respected-over choice) (formulaOf given),
-    verdict-unsatisfiable (respected-over choice) (formulaOf given),
+    λ e. same-tree ∙ verdict-always (respected-over choice) (placedTree (formulaOf given)) e,
+    λ e. same-tree ∙ verdict-unsatisfiable (respected-over choice) (placedTree (formulaOf given)) e,
   )
+    where
+      same-tree : holdsOver choice (formulaOf given) ≡ holdsOver choice (eachAtomOf plain (placedTree (formulaOf given)))
+      same-tree = ap (holdsOver choice) (sym (placedTree-plain (formulaOf given)))
 
   -- No more atoms, polynomials or bytes.
   pub never-longer-of : NeverLonger bytes (answerTo (read given stream))
@@ -106,3 +111,12 @@ same-whole-lifts room bytes = at-whole-numbers (readBlock bytes) (answer room by
 pub never-longer-answer : (room : ℕ) (bytes : List ℕ) → NeverLonger bytes (answer room bytes)
 unfolding NeverLonger
 never-longer-answer room bytes = by-answer (NeverLonger bytes) room bytes (λ number. tt) (λ given stream e. never-longer-of bytes e)
+
+-- 02, #105: as many places as atoms out; no repeats; each names an input atom whose polynomial has the normal form of the answer's atom.
+pub places-tell : (bytes : List ℕ) → PlacesTell (readBlock bytes)
+unfolding PlacesTell
+places-tell bytes = by-reading (readBlock bytes) refl
+  where
+    by-reading : (reading : Reading Block) → readBlock bytes ≡ reading → PlacesTell reading
+    by-reading (refused number) e = tt
+    by-reading (read given stream) e = places-name given (accepted-within bytes e)

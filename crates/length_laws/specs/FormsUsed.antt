@@ -8,8 +8,7 @@ use mathlib.Core.Option.{Option, none, some}
 use Prim.Native.Nat.{ℕ}
 use lib.IntN.{ℤ}
 use Rattle.rules.specs.Polynomial.{Polynomial, Atom, same, normal, constant}
-use Rattle.rules.specs.Formula.{Node, alone, eachAtom, eachAtomOf, open-formula}
-use Rattle.rules.specs.Level.{Formula}
+use Rattle.rules.specs.Formula.{Parts, Node, alone, eachAtom, eachAtomOf, open-formula}
 use Rattle.rules.specs.Answer.{knows, addedUnless, used, unlessConstant, withoutConstants, formsUsed}
 use Rattle.sign_laws.specs.Lists.{Every, every-none, every}
 use Rattle.ending_laws.specs.Nestings.{alone-each}
@@ -17,7 +16,7 @@ use Rattle.normal_laws.specs.Shape.{normalForm, normalForm-twice, normal-alike}
 use Rattle.level_laws.specs.Same.{same-equal}
 use Rattle.length_laws.specs.Alternation.{Join, AND, Alternates, no-parts, an-atom, an-and, an-or, alternates-each, alternates-beside}
 use Rattle.length_laws.specs.Alternation.{TreeAlternates, one-atom, one-and, one-or, tree-alone}
-use Rattle.length_laws.specs.Formed.{Given, formed-normal}
+use Rattle.length_laws.specs.Formed.{Given, given-normal}
 use Rattle.length_laws.specs.Pigeonhole.{Distinct, none-distinct, distinct}
 use Rattle.length_laws.specs.Table.{Listed, used-distinct, used-every, used-all}
 
@@ -99,7 +98,7 @@ pub forms-every : {P : Atom → Type 0} {Q : Polynomial → Type 0} → ((a : At
     → {d : ℕ} {tree : Node Atom} → TreeAlternates P d tree → Every Q (formsUsed tree)
 unfolding formsUsed
 forms-every {P} {Q} h {tree = tree} t =
-    without-every (subst (λ (f : Formula). Every (λ (p : Polynomial). constant p ≡ none → Q p) (used [] f)) (alone-each normal tree)
+    without-every (subst (λ (f : Parts Atom). Every (λ (p : Polynomial). constant p ≡ none → Q p) (used [] f)) (alone-each normal tree)
     (tree-alone t (λ join k. used-every (λ a q. q) (alternates-each {Q = λ a. constant (a .polynomial) ≡ none → Q (a .polynomial)} normal h k) every-none)))
 
 -- Each is its own normal form.
@@ -112,7 +111,7 @@ forms-own t = forms-every (λ a h e. own a) t
 -- Of a tree whose atoms have their normal forms among others, these are among them too.
 pub forms-among : {forms : List Polynomial} {d : ℕ} {tree : Node Atom} → TreeAlternates (Given forms) d tree
     → Every (λ (p : Polynomial). Member p forms) (formsUsed tree)
-forms-among t = forms-every (λ a h e. formed-normal a e h .form) t
+forms-among t = forms-every (λ a h e. given-normal a e h) t
 
 knows-member : (table : List Polynomial) (p : Polynomial) → knows table p ≡ true → Member p table
 unfolding knows
@@ -123,7 +122,7 @@ knows-member (q ∷ qs) p e = by-test (same p q) refl e (knows-member qs p)
     by-test true w e found = here (same-equal p q w)
     by-test false w e found = later (found e)
 
-parts-given : {forms : List Polynomial} {join : Join} {d : ℕ} {f : Formula} → Alternates (Given forms) join d f
+parts-given : {forms : List Polynomial} {join : Join} {d : ℕ} {f : Parts Atom} → Alternates (Given forms) join d f
     → Alternates (Given (withoutConstants (used [] (eachAtom normal f)))) join d f
 parts-given {forms} {f = f} k = alternates-beside normal among k (used-all {P = λ a. Unit {0}} [] (alternates-each normal (λ a h. tt) k))
   where
@@ -145,7 +144,7 @@ tree-uses (one-or kids) = one-or (parts-given kids)
 
 -- What it uses is what its atoms have.
 pub used-same : {P : Atom → Type 0} → ((a : Atom) → P a → normalForm (a .polynomial) ≡ a .polynomial)
-    → {join : Join} {d : ℕ} {f : Formula} (table : List Polynomial) → Alternates P join d f → used table (eachAtom normal f) ≡ used table f
+    → {join : Join} {d : ℕ} {f : Parts Atom} (table : List Polynomial) → Alternates P join d f → used table (eachAtom normal f) ≡ used table f
 unfolding used eachAtom
 used-same own table no-parts = refl
 used-same own table (an-atom {a = a} {rest = rest} h hs) =

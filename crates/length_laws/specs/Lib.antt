@@ -11,3 +11,4 @@ pub mod FormsUsed
 pub mod NeverLonger
 pub mod NewTable
 pub mod NewWithin
+pub mod Places

@@ -1,36 +1,47 @@
 -- Law never-longer: atoms, nodes, polynomials and bytes of the new block are at most the given block's, its polynomials counted as the forms that its
 -- tree uses. Atoms and nodes for every block; the table, and with it the bytes, for a block within the limits.
-use mathlib.Core.Path.{_≡_, refl, ap, ap₂}
+use mathlib.Core.Path.{_≡_, refl, sym, ap, ap₂, _∙_}
 use mathlib.Core.List.{List, [], _∷_, map}
 use mathlib.Core.List.{List·Memᴰ as Member}
 use Prim.Native.Nat.{ℕ, _+_, _≤_}
 use native.Mathlib.Omega.{arith}
 use lib.Dec.{lit≤}
 use lib.ListN.{length}
-use Rattle.rules.specs.Polynomial.{Polynomial}
-use Rattle.rules.specs.Formula.{alone, nodes, atoms}
+use Rattle.rules.specs.Polynomial.{Polynomial, Atom}
+use Rattle.rules.specs.Formula.{Node, eachAtomOf, alone, nodes, atoms}
+use Rattle.rules.specs.Level.{Placed, plain, placedTree}
 use Rattle.rules.specs.Block.{Block, blockLength}
 use Rattle.rules.specs.Limits.{BlockWithin}
 use Rattle.rules.specs.Answer.{lookedUp, formulaOf, used, numbered, blockOf, formsUsed, simplified, newBlock}
 use Rattle.sign_laws.specs.Lists.{Every, every-none}
+use Rattle.level_laws.specs.Written.{placedTree-plain}
 use Rattle.block_laws.specs.Sizes.{termCount, no-longer}
 use Rattle.normal_laws.specs.Shape.{normalForm, normalForm-length}
-use Rattle.length_laws.specs.Weight.{weight, weight-nodes, weight-atoms, weight-each-of}
+use Rattle.length_laws.specs.Weight.{weight, one, weight-nodes, weight-atoms, weight-each-of}
 use Rattle.length_laws.specs.Shorter.{simplify-lighter}
-use Rattle.length_laws.specs.Alternation.{TreeAlternates, tree-alone}
-use Rattle.length_laws.specs.Formed.{Given, Formed}
+use Rattle.length_laws.specs.Alternation.{TreeAlternates, tree-each, tree-alone}
+use Rattle.length_laws.specs.Formed.{Given, Formed, FormedAt}
 use Rattle.length_laws.specs.LevelKeeps.{simplify-keeps}
 use Rattle.length_laws.specs.Pigeonhole.{every-member, Distinct, none-distinct, total, pigeonhole}
 use Rattle.length_laws.specs.Table.{used-distinct, used-every}
-use Rattle.length_laws.specs.Blocks.{formsOf, tree-given}
+use Rattle.length_laws.specs.Blocks.{formsOf, tree-given, tree-placed}
 use Rattle.length_laws.specs.FormsUsed.{forms-once, forms-own, forms-among, tree-uses}
 
 -- ---- Atoms and nodes.
 
-simplified-lighter : (w : ℕ) → w ≤ 1 → (given : Block) → weight w (alone (simplified given)) ≤ weight w (alone (given .tree))
+-- Atoms with their places count as the atoms.
+placed-weight : (w : ℕ) (tree : Node Atom) → weight one w (alone (placedTree tree)) ≡ weight one w (alone tree)
+placed-weight w tree = sym (weight-each-of one w plain (placedTree tree)) ∙ ap (λ (t : Node Atom). weight one w (alone t)) (placedTree-plain tree)
+
+simplified-lighter : (w : ℕ) → w ≤ 1 → (given : Block) → weight one w (alone (simplified given)) ≤ weight one w (alone (given .tree))
 unfolding simplified formulaOf
 simplified-lighter w small given =
-    omega (arith, simplify-lighter w small (given .variables) (formulaOf given), weight-each-of w (lookedUp (given .table)) (given .tree))
+    omega (
+      arith,
+      simplify-lighter (λ k. 1) w (λ k. (small, omega arith)) (given .variables) (placedTree (formulaOf given)),
+      placed-weight w (formulaOf given),
+      weight-each-of one w (lookedUp (given .table)) (given .tree),
+    )
 
 -- The simplified formula has no more atoms than the block's tree.
 pub atoms-never-more : (given : Block) → atoms (alone (simplified given)) ≤ atoms (alone (given .tree))
@@ -43,9 +54,11 @@ nodes-never-more given =
     omega (arith, simplified-lighter 1 (lit≤ tt) given, weight-nodes (alone (simplified given)), weight-nodes (alone (given .tree)))
 
 -- The new block's tree has the atoms and nodes of the simplified formula.
-new-weight : (w : ℕ) (given : Block) → weight w (alone (newBlock given .tree)) ≡ weight w (alone (simplified given))
+new-weight : (w : ℕ) (given : Block) → weight one w (alone (newBlock given .tree)) ≡ weight one w (alone (simplified given))
 unfolding newBlock blockOf
-new-weight w given = weight-each-of w (numbered (used [] (alone (simplified given)))) (simplified given)
+new-weight w given =
+    let short = eachAtomOf plain (simplified given) in
+    weight-each-of one w (numbered (used [] (alone short))) short ∙ weight-each-of one w plain (simplified given)
 
 -- The new block's tree has no more atoms.
 pub new-atoms : (given : Block) → atoms (alone (newBlock given .tree)) ≤ atoms (alone (given .tree))
@@ -73,14 +86,18 @@ pub used-of-table : (given : Block) → BlockWithin given → Every (λ (p : Pol
 used-of-table given h = forms-among (formula-given given h)
 
 -- The simplified formula: atoms in forms that the block's tree uses, AND and OR alternating.
-pub simplified-formed : (given : Block) → BlockWithin given → TreeAlternates (Formed (formsUsed (formulaOf given))) 5 (simplified given)
+pub simplified-formed : (given : Block) → BlockWithin given → TreeAlternates (Formed (formsUsed (formulaOf given))) 5 (eachAtomOf plain (simplified given))
 unfolding simplified
-simplified-formed given h = simplify-keeps (used-own given h) (given .variables) (tree-uses (formula-given given h))
+simplified-formed given h =
+    let forms = formsUsed (formulaOf given) in
+    tree-each plain (λ (a : Placed) (k : FormedAt (λ (place : ℕ) (p : Polynomial). Member p forms) a). record { small = k .small; form = k .form })
+    (simplify-keeps (λ place p m. used-own given h p m) (given .variables)
+    (tree-placed (λ k a l e g. record { small = g .small; form = g .form }) (tree-uses (formula-given given h))))
 
 -- The new table repeats nothing.
 pub new-distinct : (given : Block) → Distinct (newBlock given .table)
 unfolding newBlock blockOf
-new-distinct given = used-distinct (alone (simplified given)) none-distinct
+new-distinct given = used-distinct (alone (eachAtomOf plain (simplified given))) none-distinct
 
 -- And holds only forms that the given tree uses.
 pub new-forms : (given : Block) → BlockWithin given → Every (λ (p : Polynomial). Member p (formsUsed (formulaOf given))) (newBlock given .table)

@@ -3,9 +3,9 @@
 use mathlib.Core.Path.{_≡_, sym, ap, _∙_}
 use mathlib.Core.List.{[]}
 use mathlib.Core.Option.{none}
-use Rattle.rules.specs.Polynomial.{Polynomial, normal, constant}
-use Rattle.rules.specs.Formula.{alone, eachAtomOf}
-use Rattle.rules.specs.Level.{Formula}
+use Rattle.rules.specs.Polynomial.{Polynomial, Atom, normal, constant}
+use Rattle.rules.specs.Formula.{Parts, alone, eachAtomOf}
+use Rattle.rules.specs.Level.{plain}
 use Rattle.rules.specs.Block.{Block}
 use Rattle.rules.specs.Limits.{BlockWithin}
 use Rattle.rules.specs.Answer.{formulaOf, used, blockOf, withoutConstants, formsUsed, simplified, newBlock}
@@ -30,9 +30,9 @@ module _ (given : Block) (h : BlockWithin given) where
   new-not-constant = every-wider (λ p m. every-member (forms-not-constant (formulaOf given)) m) (new-forms given h)
 
   -- The simplified formula's atoms are in normal form.
-  normal-used : used [] (alone (eachAtomOf normal (simplified given))) ≡ used [] (alone (simplified given))
+  normal-used : let short = eachAtomOf plain (simplified given) in used [] (alone (eachAtomOf normal short)) ≡ used [] (alone short)
   normal-used =
-      ap (λ (f : Formula). used [] f) (sym (alone-each normal (simplified given)))
+      ap (λ (f : Parts Atom). used [] f) (sym (alone-each normal (eachAtomOf plain (simplified given))))
       ∙ tree-alone (simplified-formed given h) (λ join k. used-same (λ a formed. used-own given h (a .polynomial) (formed .form)) [] k)
 
   all-used : formsUsed (formulaOf (newBlock given)) ≡ newBlock given .table

@@ -7,7 +7,8 @@ use Prim.Native.Nat.{ℕ}
 use native.Mathlib.Omega.{arith}
 use lib.ListN.{length}
 use Rattle.rules.specs.Polynomial.{Polynomial}
-use Rattle.rules.specs.Formula.{alone}
+use Rattle.rules.specs.Formula.{eachAtomOf, alone}
+use Rattle.rules.specs.Level.{plain}
 use Rattle.rules.specs.Block.{Block}
 use Rattle.rules.specs.Limits.{PolynomialWithin, TableWithin, no-polynomials, polynomials, PartsWithin, BlockWithin}
 use Rattle.rules.specs.Answer.{used, numbered, blockOf, simplified, newBlock}
@@ -39,8 +40,9 @@ not-root OR e = omega arith
 tree-within : (given : Block) → BlockWithin given → PartsWithin 6 (length (newBlock given .table)) 0 (alone (newBlock given .tree))
 unfolding newBlock blockOf
 tree-within given h =
-    let table = used [] (alone (simplified given)) in
-    subst (PartsWithin 6 (length table) 0) (alone-each (numbered table) (simplified given))
+    let short = eachAtomOf plain (simplified given) in
+    let table = used [] (alone short) in
+    subst (PartsWithin 6 (length table) 0) (alone-each (numbered table) short)
     (tree-alone (simplified-formed given h) (λ join k. parts-numbered table 0 (not-root (other join)) (used-all [] k)))
 
 -- ---- The block.

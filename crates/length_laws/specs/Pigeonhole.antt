@@ -25,6 +25,12 @@ total w [] = 0
 total w (a ∷ l) = w a + total w l
 
 module _ {A : Type 0} where
+  -- Lists one after the other weigh what both weigh.
+  pub total-append : (w : A → ℕ) (l m : List A) → total w (l ++ m) ≡ total w l + total w m
+  unfolding total
+  total-append w [] m = omega arith
+  total-append w (a ∷ l) m = omega (arith, total-append w l m)
+
   -- Something new at the end repeats nothing.
   pub distinct-added : {l : List A} {a : A} → Distinct l → (Member a l → ⊥) → Distinct (l ++ (a ∷ []))
   distinct-added none-distinct h = distinct h none-distinct

@@ -1,6 +1,8 @@
 -- 01, "Rounds": the rounds keep the atoms' polynomials and give sets of three bits,
 -- so the atoms that step 3 carries on are formed as before.
-use mathlib.Core.List.{List, [], _∷_, _++_}
+use mathlib.Core.Path.{_≡_, refl, subst}
+use mathlib.Core.List.{List, [], _∷_, _++_, map}
+use mathlib.Core.List.{List·Memᴰ·head as here, List·Memᴰ·tail as later}
 use mathlib.Core.Option.{Option, none, some}
 use Prim.Native.Nat.{ℕ}
 use lib.ListN.{getD, replicate}
@@ -8,7 +10,7 @@ use Rattle.rules.specs.Signs.{SignSet, full, intersect}
 use Rattle.rules.specs.Polynomial.{Polynomial, Atom, Board, which, variable}
 use Rattle.rules.specs.Rounds.{State, Outcome, contradiction, settled, turn, turns, cutAtom, cutAtoms, round}
 use Rattle.rules.specs.Rounds.{unlessVariable, nonVariable, placed, start, run, carriedOne, carried}
-use Rattle.sign_laws.specs.Lists.{Every, every-none, every, every-replicate, every-set, every-getD}
+use Rattle.sign_laws.specs.Lists.{Every, every-none, every, every-wider, every-replicate, every-set, every-getD}
 use Rattle.ending_laws.specs.Cuts.{cutBy-below, cutAtom-below, along-turns}
 use Rattle.ending_laws.specs.Rounds.{along-run, along-placed, run-ends}
 use Rattle.length_laws.specs.Formed.{Small, Formed, full-small, intersect-small, formed-with}
@@ -93,3 +95,23 @@ module _ {forms : List Polynomial} where
   carried-formed n b every-none cs = every-none
   carried-formed n {board} b (every {a} {l} h hs) cs =
       carriedOne-formed (which n (a .polynomial)) (λ (rest : List Atom). carried n board l rest) b h cs (λ rest ks. carried-formed n b hs ks)
+
+-- ---- The sets alone, whatever the polynomials.
+
+-- Atoms with sets of three bits.
+abbrev pub AllSmall : List Atom → Type 0
+AllSmall l = Every (λ (a : Atom). Small (a .set)) l
+
+-- Each has one of the list's own polynomials.
+own-forms : {l : List Atom} → AllSmall l → Every (Formed (map (λ (a : Atom). a .polynomial) l)) l
+own-forms every-none = every-none
+own-forms (every h hs) = every (record { small = h; form = here refl }) (every-wider (λ a k. record { small = k .small; form = later (k .form) }) (own-forms hs))
+
+left-formed : {forms : List Polynomial} {st : State} → OutcomeFormed forms (settled st) → StateFormed forms st
+left-formed (settles h) = h
+
+-- The sets that a list's atoms carry after its rounds have three bits, if those of the list have.
+pub carried-small : (n : ℕ) {l : List Atom} {st : State} → run n l ≡ settled st → AllSmall l → AllSmall (carried n (st .board) l (st .atoms))
+carried-small n {l} {st} e h =
+    let left = left-formed (subst (OutcomeFormed (map (λ (a : Atom). a .polynomial) l)) e (run-formed n (own-forms h))) in
+    every-wider (λ a k. k .small) (carried-formed n (left .board) (own-forms h) (left .atoms))

@@ -8,8 +8,7 @@ use Prim.Native.Nat.{ℕ, suc, _<_}
 use native.Mathlib.Omega.{arith}
 use lib.ListN.{length}
 use Rattle.rules.specs.Polynomial.{Polynomial, Atom, same}
-use Rattle.rules.specs.Formula.{end, atom, and, or}
-use Rattle.rules.specs.Level.{Formula}
+use Rattle.rules.specs.Formula.{Parts, end, atom, and, or}
 use Rattle.rules.specs.Answer.{knows, addedUnless, used, hereOr, numberIn}
 use Rattle.sign_laws.specs.Booleans.{or-first, or-second, never-both}
 use Rattle.sign_laws.specs.Lists.{Every, every-none, every, every-append}
@@ -31,7 +30,7 @@ addedUnless-distinct true p e d = d
 addedUnless-distinct false p e d = distinct-added d (λ m. never-both (member-knows m) e)
 
 -- The used polynomials repeat nothing.
-pub used-distinct : (f : Formula) {table : List Polynomial} → Distinct table → Distinct (used table f)
+pub used-distinct : (f : Parts Atom) {table : List Polynomial} → Distinct table → Distinct (used table f)
 unfolding used
 used-distinct end d = d
 used-distinct (atom a rest) {table} d = used-distinct rest (addedUnless-distinct (knows table (a .polynomial)) (a .polynomial) refl d)
@@ -45,7 +44,7 @@ addedUnless-every false p h hs = every-append hs (every h every-none)
 
 -- The used polynomials are those of atoms.
 pub used-every : {P : Atom → Type 0} {Q : Polynomial → Type 0} → ((a : Atom) → P a → Q (a .polynomial))
-    → {join : Join} {d : ℕ} {f : Formula} {table : List Polynomial} → Alternates P join d f → Every Q table → Every Q (used table f)
+    → {join : Join} {d : ℕ} {f : Parts Atom} {table : List Polynomial} → Alternates P join d f → Every Q table → Every Q (used table f)
 unfolding used
 used-every g no-parts hs = hs
 used-every g {table = table} (an-atom {a = a} h rest) hs = used-every g rest (addedUnless-every (knows table (a .polynomial)) (a .polynomial) (g a h) hs)
@@ -57,11 +56,11 @@ pub record Listed (P : Atom → Type 0) (table : List Polynomial) (a : Atom) : T
   pub own : P a
   pub known : knows table (a .polynomial) ≡ true
 
-listed-later : {P : Atom → Type 0} {table : List Polynomial} (f : Formula) (a : Atom) → Listed P table a → Listed P (used table f) a
+listed-later : {P : Atom → Type 0} {table : List Polynomial} (f : Parts Atom) (a : Atom) → Listed P table a → Listed P (used table f) a
 listed-later {table = table} f a h = record { own = h .own; known = used-keeps table f (a .polynomial) (h .known) }
 
 -- Each atom's polynomial is used.
-pub used-all : {P : Atom → Type 0} {join : Join} {d : ℕ} {f : Formula} (table : List Polynomial) → Alternates P join d f → Alternates (Listed P (used table f)) join d f
+pub used-all : {P : Atom → Type 0} {join : Join} {d : ℕ} {f : Parts Atom} (table : List Polynomial) → Alternates P join d f → Alternates (Listed P (used table f)) join d f
 unfolding used
 used-all table no-parts = no-parts
 used-all table (an-atom {a = a} {rest = rest} h hs) =

@@ -8,9 +8,8 @@ use native.Mathlib.Nat.{add-zero}
 use native.Mathlib.Omega.{arith}
 use lib.ListN.{length, drop, getD, length-append, length-drop}
 use lib.Seq.{getD-drop, drop-drop, drop-at}
-use Rattle.rules.specs.Polynomial.{Atom}
 use Rattle.rules.specs.Formula.{end, atom, or}
-use Rattle.rules.specs.Level.{Formula, dual, atomsOf, orsOf, Entry, enter, Walk, falls, still, add, gather, afterGather, andRule, orRule}
+use Rattle.rules.specs.Level.{Placed, Formula, dual, atomsOf, orsOf, Entry, enter, Walk, falls, still, add, gather, afterGather, andRule, orRule}
 use Rattle.table.specs.Table.{Table}
 use Rattle.tape.specs.declared.rows.Row.{Row}
 use Rattle.tape.specs.declared.walks.Level.{Level}
@@ -70,7 +69,7 @@ unfolding found gather orsOf seen orRule
 found-branch t b d kids f = rw (seen-twice t (not b) kids)
 
 -- the direct atoms
-unfoldable direct : Table → Bool → Forest → List Atom
+unfoldable direct : Table → Bool → Forest → List Placed
 direct t b f = atomsOf (seen t b f)
 
 direct-none : (t : Table) (b : Bool) → direct t b nothing ≡ []
@@ -190,9 +189,9 @@ module _ {token : List ℕ} {at d : ℕ} {kids : Forest} {rest : List ℕ} (h : 
           list = g .list ++ (taken b p ∷ []);
           lists = rw (token-at token place _ _ (g .ahead) .0) at (y (g .list) (g .lists));
           direct-are =
-              ap (λ (z : List Atom). z ++ direct t b f) (map-append (atomOf t) (g .list) (taken b p ∷ []))
+              ap (λ (z : List Placed). z ++ direct t b f) (map-append (atomOf t) (g .list) (taken b p ∷ []))
               ∙ append-assoc (atomsIn t (g .list)) (atomOf t (taken b p) ∷ []) (direct t b f)
-              ∙ ap (λ (z : List Atom). atomsIn t (g .list) ++ z) (sym (direct-leaf t b p f)) ∙ g .direct-are;
+              ∙ ap (λ (z : List Placed). atomsIn t (g .list) ++ z) (sym (direct-leaf t b p f)) ∙ g .direct-are;
           walk = g .walk;
           stands = g .stands;
           is = ap (further (g .walk)) (sym (found-leaf t b d p f)) ∙ g .is;
@@ -241,7 +240,7 @@ module _ {token : List ℕ} {at d : ℕ} {kids : Forest} {rest : List ℕ} (h : 
           next = omega (arith, g .next, e);
           list = g .list;
           lists = g .lists;
-          direct-are = ap (λ (l : List Atom). atomsIn t (g .list) ++ l) (sym (direct-branch t b c f)) ∙ g .direct-are;
+          direct-are = ap (λ (l : List Placed). atomsIn t (g .list) ++ l) (sym (direct-branch t b c f)) ∙ g .direct-are;
           walk = afterwards (g .walk) (enter (dual (andRule (t .variables) (d - 1) (seen t (not b) c))));
           stands = s;
           is = further-child (g .walk) _ _ ∙ ap (further (g .walk)) (sym (found-branch t b d c f)) ∙ g .is;

@@ -2,12 +2,11 @@
 use mathlib.Core.Path.{_≡_, refl, sym, _∙_, ap, ap₂, subst}
 use mathlib.Core.Bool.{Bool, true, false, not}
 use mathlib.Core.List.{List, [], _∷_, _++_, map, append-assoc, append-nil}
-use Prim.Native.Nat.{ℕ, zero, suc, _+_, _-_, _/_, _%_, _<_, _≤_}
+use Prim.Native.Nat.{ℕ, zero, suc, _+_, _-_, _*_, _/_, _%_, _<_, _≤_}
 use native.Mathlib.Omega.{arith}
 use borrow.Author.Tests.{ne-eqb}
 use lib.Dec.{eqb}
 use lib.ListN.{length, take, drop, getD, length-append}
-use Rattle.rules.specs.Polynomial.{Atom}
 use Rattle.rules.specs.Formula.{Parts, end, atom, and, or, Node, allOf, anyOf, eachAtom, eachAtomOf, alone, before, children, nodes, isEnd, open-formula}
 use Rattle.rules.specs.Formula as formula
 use Rattle.rules.specs.Level.{Formula, complemented, dual, dualNode, Walk, atomsOf, orsOf, still, gather, orParts, parts, nodeIf, asNode, andRule, simplify}
@@ -17,7 +16,7 @@ use Rattle.tape.specs.declared.walks.Level.{Level}
 use Rattle.level.specs.declared.writing.Tree.{Tree}
 use Rattle.level.specs.declared.nesting.Found.{Found}
 use Rattle.tape.specs.Row.{Lists}
-use Rattle.tape.specs.Token.{slot, atomOf, atomsIn, opposite}
+use Rattle.tape.specs.Token.{slot, place, atomOf, atomsIn, opposite}
 use Rattle.tape.specs.Tape.{Children, none, child, laid, orsIn}
 use Rattle.tape.specs.Walked.{Shows, sizeOf}
 use Rattle.level.specs.Source.{Forest, nothing, leaf, branch, count, size, flat, named, meant, taken, seen, Shaped, Below, Holds, Done}
@@ -66,12 +65,23 @@ unfoldable back : Bool → Formula → Formula
 back true kids = kids
 back false kids = dual kids
 
+same-origin : (x : ℕ) → place (x % 16777216) ≡ place x
+same-origin x =
+    let q : ℕ = x / 16777216 in
+    let y : ℕ = x % 16777216 in
+    let z : ℕ = y / 512 in
+    let parted : x / 512 ≡ q * 32768 + z = omega arith in
+    let low : z < 32768 = omega arith in
+    let one : z % 32768 ≡ z = omega arith in
+    let two : (q * 32768 + z) % 32768 ≡ z = omega arith in
+    one ∙ sym (ap (λ (k : ℕ). k % 32768) parted ∙ two)
+
 below-node : (t : Table) (x : ℕ) → atomOf t (x % 16777216) ≡ atomOf t x
 unfolding atomOf
 below-node t x =
     let a : x % 16777216 / 8 % 64 ≡ x / 8 % 64 = omega arith in
     let b : x % 16777216 % 8 ≡ x % 8 = omega arith in
-    rw (a, b)
+    rw (a, b, same-origin x)
 
 told-opposite : (t : Table) (x : ℕ) → atomOf t (opposite x % 16777216) ≡ complemented (atomOf t x)
 told-opposite t x = below-node t (opposite x) ∙ opposite-is t x

@@ -5,10 +5,10 @@ use mathlib.Core.List.{List, [], _∷_, _++_, append-nil}
 use Prim.Native.Nat.{ℕ, suc, _+_, _-_, _<_, _≤_}
 use native.Mathlib.Omega.{arith}
 use lib.ListN.{length, take, drop, length-append}
-use Rattle.rules.specs.Polynomial.{Atom}
 use Rattle.rules.specs.Rounds.{State, settled, run}
-use Rattle.rules.specs.Level.{Formula, dual, orParts, parts, never, Walk, falls, still, moved, sweep, afterSweep, afterRounds, afterTidy, settled-down, afterGather}
+use Rattle.rules.specs.Level.{Placed, plains, Formula, dual, orParts, parts, never, Walk, falls, still, moved, sweep, afterSweep, afterRounds, afterTidy, settled-down, afterGather}
 use Rattle.ending_laws.specs.Turns.{no-turn-missing}
+use Rattle.level_laws.specs.Carried.{carried-plain}
 use Rattle.removal_laws.specs.Apart.{tidy-apart}
 use Rattle.table.specs.Table.{Table}
 use Rattle.tape.specs.declared.rows.Row.{Row}
@@ -57,17 +57,19 @@ no-sweep n state t (child l own later) e = absurd (omega arith)
 pub left-by : {t : Table} {l : List ℕ} {kept : Row} {b : Bool} (f : Tidies t l kept b) → b ≡ false → {cut : Row} {c : Carrying} (g : Carries t (f .list) cut c)
     → c .contradiction ≡ false → LeftBy t (c .state) cut
 unfolding tidiedOf
-left-by {t} {l} f e g z = record {
-  list = g .list;
-  lists = g .lists;
-  carries = record {
-    given = atomsIn t (f .list);
-    settles = rw z at (g .is);
-    distinct = tidy-apart (atomsIn t l) (rw e at (f .is));
-    variables = g .variables;
-    atoms = sym (g .carries z);
-  };
-}
+left-by {t} {l} f e {c = c} g z =
+    let settles : run (t .variables) (plains (atomsIn t (f .list))) ≡ settled (stateOf t (c .state)) = rw z at (g .is) in
+    record {
+      list = g .list;
+      lists = g .lists;
+      carries = record {
+        given = plains (atomsIn t (f .list));
+        settles = settles;
+        distinct = tidy-apart (atomsIn t l) (rw e at (f .is));
+        variables = g .variables;
+        atoms = ap plains (sym (g .carries z)) ∙ carried-plain (t .variables) (atomsIn t (f .list)) (stateOf t (c .state)) settles;
+      };
+    }
 
 -- ---- one turn
 
@@ -92,7 +94,7 @@ module _ {t : Table} {l : List ℕ} (children : Children) where
     turn-broken e n = false-stage n (sym (no-turn-missing (t .variables) (atomsIn t l) (orsIn t children) ∙ rw (f .is, e)))
 
     after-tidy : b ≡ false
-        → afterRounds (t .variables) (atomsIn t (f .list)) (run (t .variables) (atomsIn t (f .list))) (orsIn t children) (settled-down (t .variables))
+        → afterRounds (t .variables) (atomsIn t (f .list)) (run (t .variables) (plains (atomsIn t (f .list)))) (orsIn t children) (settled-down (t .variables))
         ≡ settled-down (t .variables) (atomsIn t l) (orsIn t children)
     unfolding tidiedOf afterTidy
     after-tidy e = sym (no-turn-missing (t .variables) (atomsIn t l) (orsIn t children) ∙ rw (f .is, e))
@@ -209,7 +211,7 @@ module _ {t : Table} {l : List ℕ} {children : Children} {atoms ors : List ℕ}
 
 -- ---- after step 1
 
-gathered-in : (n : ℕ) (l new : List Atom) (ors : List Formula) (m : Bool) → (m ≡ false → new ≡ []) → settled-down n (l ++ new) ors ≡ afterGather n l (walkOf false m new ors)
+gathered-in : (n : ℕ) (l new : List Placed) (ors : List Formula) (m : Bool) → (m ≡ false → new ≡ []) → settled-down n (l ++ new) ors ≡ afterGather n l (walkOf false m new ors)
 unfolding afterGather walkOf
 gathered-in n l new ors true q = refl
 gathered-in n l new ors false q = rw (q refl, append-nil l)

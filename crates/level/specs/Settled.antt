@@ -4,8 +4,7 @@ use mathlib.Core.Bool.{Bool, true, false}
 use mathlib.Core.List.{List, []}
 use Prim.Native.Nat.{ℕ, suc, _+_, _<_, _≤_}
 use lib.ListN.{length}
-use Rattle.rules.specs.Polynomial.{Atom}
-use Rattle.rules.specs.Level.{Formula, parts, settled-down, afterGather, Walk}
+use Rattle.rules.specs.Level.{Placed, Formula, parts, settled-down, afterGather, Walk}
 use Rattle.table.specs.Table.{Table}
 use Rattle.tape.specs.declared.rows.Row.{Row}
 use Rattle.tape.specs.declared.walks.Level.{Level}
@@ -23,7 +22,7 @@ pub record NodeIsFalse (atoms ors : Row) (over : Bool) : Type 0 where
   pub lies : Lists ors (laid (child [] none none))
 
 -- The parts, if the stage is over; else what settling on would give.
-unfoldable pub resultOf : Bool → ℕ → List Atom → List Formula → Formula
+unfoldable pub resultOf : Bool → ℕ → List Placed → List Formula → Formula
 resultOf true n l ors = parts l ors
 resultOf false n l ors = settled-down n l ors
 

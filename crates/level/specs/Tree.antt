@@ -4,11 +4,8 @@ use mathlib.Core.Path.{_≡_}
 use mathlib.Core.Bool.{Bool, true, false}
 use mathlib.Core.List.{List, [], _∷_, _++_}
 use Prim.Native.Nat.{ℕ, _+_, _-_, _<_, _≤_}
-use Rattle.rules.specs.Polynomial.{Atom}
 use Rattle.rules.specs.Formula.{Parts, end, atom, and, or, Node, leaf, allOf, anyOf, eachAtom, eachAtomOf, alone, children, nodes}
 use Rattle.rules.specs.Level.{Formula, dual, andRule, simplify}
-use Rattle.rules.specs.Block.{NumberedAtom}
-use Rattle.rules.specs.Limits.{PartsWithin}
 use Rattle.table.specs.Table.{Table}
 use Rattle.tape.specs.declared.walks.Level.{Level}
 use Rattle.level.specs.declared.writing.Tree.{Tree}
@@ -39,15 +36,6 @@ TokensWithin d parent end = Unit {0}
 TokensWithin d parent (atom x rest) = (x < 16777216) × TokensWithin d parent rest
 TokensWithin d parent (and kids rest) = (parent ≡ 1 → ⊥) × (0 < d) × TokensWithin (d - 1) 1 kids × TokensWithin d parent rest
 TokensWithin d parent (or kids rest) = (parent ≡ 2 → ⊥) × (0 < d) × TokensWithin (d - 1) 2 kids × TokensWithin d parent rest
-
--- Numbered atoms within the limits of a block have such tokens, if the token of each atom lies below 2 ^ 24.
-pub tokens-within : (f : NumberedAtom → ℕ) (m : ℕ) → ((a : NumberedAtom) → a .number < m → a .set < 8 → f a < 16777216)
-    → (d parent : ℕ) (p : Parts NumberedAtom) → PartsWithin d m parent p → TokensWithin d parent (eachAtom f p)
-unfolding TokensWithin PartsWithin eachAtom
-tokens-within f m h d parent end w = tt
-tokens-within f m h d parent (atom a rest) w = (h a (w .0) (w .1), tokens-within f m h d parent rest (w .2))
-tokens-within f m h d parent (and kids rest) w = (w .0, w .1, tokens-within f m h (d - 1) 1 kids (w .2), tokens-within f m h d parent rest (w .3))
-tokens-within f m h d parent (or kids rest) w = (w .0, w .1, tokens-within f m h (d - 1) 2 kids (w .2), tokens-within f m h d parent rest (w .3))
 
 -- The tape begins with a tree, with its root's kind: at most 6 nestings, at most 255 nodes.
 pub record TreeHeld (token : List ℕ) (root : ℕ) (tree : Node ℕ) : Type 0 where

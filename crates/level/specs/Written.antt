@@ -5,9 +5,8 @@ use mathlib.Core.List.{List, [], _∷_, _++_}
 use Prim.Native.Nat.{ℕ, suc, _+_, _%_, _<_, _≤_}
 use lib.Dec.{eqb}
 use lib.ListN.{length, drop, getD}
-use Rattle.rules.specs.Polynomial.{Atom}
 use Rattle.rules.specs.Formula.{Node, eachAtomOf, alone, nodes}
-use Rattle.rules.specs.Level.{Formula, dualNode, asNode}
+use Rattle.rules.specs.Level.{Placed, Formula, dualNode, asNode}
 use Rattle.table.specs.Table.{Table}
 use Rattle.tape.specs.declared.rows.Row.{Row}
 use Rattle.level.specs.declared.writing.Tree.{Tree}
@@ -83,7 +82,7 @@ rootIf false one b = kindNumber b
 abbrev pub rootOf : ℕ → ℕ → Bool → ℕ
 rootOf atoms parts b = rootIf (eqb parts 1) (eqb atoms 1) b
 
-unfoldable pub turned : Bool → Node Atom → Node Atom
+unfoldable pub turned : Bool → Node Placed → Node Placed
 turned true node = node
 turned false node = dualNode node
 

@@ -1,6 +1,6 @@
 -- Step 3: atoms that carry the cut sets of a run hold exactly if the atoms of the list hold.
 -- Where the list holds, so do the cut sets; and each of these lies inside the atom's own.
-use mathlib.Core.Path.{_≡_, refl, _∙_, subst}
+use mathlib.Core.Path.{_≡_, refl, sym, ap, ap₂, _∙_, subst}
 use mathlib.Core.Bool.{true}
 use mathlib.Core.List.{List, [], _∷_}
 use mathlib.Core.Option.{Option, none, some}
@@ -11,12 +11,13 @@ use lib.Seq.{getD-set-same}
 use Rattle.rules.specs.Signs.{Sign, full, intersect}
 use Rattle.rules.specs.Polynomial.{Polynomial, Atom, Board, which}
 use Rattle.rules.specs.Rounds.{State, Outcome, settled, unlessVariable, nonVariable, placed, placedAll, start, run, carriedOne, carried}
+use Rattle.rules.specs.Level.{Placed, plain, plains, carry}
 use Rattle.rules.specs.Meaning.{atomHolds}
 use Rattle.sign_laws.specs.Booleans.{both-ways}
 use Rattle.sign_laws.specs.Sets.{_In_, PartOf, part-trans, intersect-second}
 use Rattle.ending_laws.specs.Rounds.{placed-length}
 use Rattle.level_laws.specs.Same.{which-variable, which-below}
-use Rattle.level_laws.specs.Holding.{atomsHold, atom-in, in-atom, no-atoms, first-holds, others-hold, both-hold}
+use Rattle.level_laws.specs.Holding.{atomsHold, listHolds, atom-in, in-atom, no-atoms, first-holds, others-hold, both-hold, plains-hold}
 use Rattle.level_laws.specs.Respects.{Fits, Respects}
 use Rattle.level_laws.specs.Narrower.{BoardWithin, placedAll-within, AtomsWithin, one-more, Narrower, Narrows, run-narrows}
 use Rattle.level_laws.specs.Rounds.{Right, RightOutcome, run-keeps}
@@ -90,3 +91,37 @@ carried-keeps {sign} {n} ok l st e =
 
     right : atomsHold sign l ≡ true → Right sign n st
     right h = subst (RightOutcome sign n) e (run-keeps ok l h)
+
+-- ---- Atoms with places carry the same sets.
+
+module _ (n : ℕ) (board : Board) where
+  -- Where the cut atoms have the polynomials of the list's non-variable ones, an atom that carries its set is the atom that is carried.
+  carry-plain : (l : List Placed) (cut : List Atom) → AtomsWithin cut (nonVariable n (plains l))
+      → plains (carry l (carried n board (plains l) cut)) ≡ carried n board (plains l) cut
+  unfolding carry carried carriedOne nonVariable unlessVariable
+  carry-plain [] cut c = refl
+  carry-plain (a ∷ l) cut c = by-which (which n (a .polynomial)) cut c (λ rest. carry-plain l rest)
+    where
+      by-which : (o : Option ℕ) (cut : List Atom) → AtomsWithin cut (unlessVariable o (plain a) (nonVariable n (plains l)))
+          → ((rest : List Atom) → AtomsWithin rest (nonVariable n (plains l)) → plains (carry l (carried n board (plains l) rest)) ≡ carried n board (plains l) rest)
+          → plains (carry (a ∷ l) (carriedOne o board (plain a) cut (λ (rest : List Atom). carried n board (plains l) rest)))
+          ≡ carriedOne o board (plain a) cut (λ (rest : List Atom). carried n board (plains l) rest)
+      by-which (some i) cut c more = ap (λ (m : List Atom). onBoard (plain a) board i ∷ m) (more cut c)
+      by-which none cut (one-more {a = b} {l = rest} p f t) more =
+          ap₂ (λ (q : Polynomial) (m : List Atom). record { polynomial = q; set = b .set } ∷ m) (sym p) (more rest t)
+
+-- After a run that settled, the atoms that carry the cut sets are the carried atoms, at their places.
+pub carried-plain : (n : ℕ) (l : List Placed) (st : State) → run n (plains l) ≡ settled st
+    → plains (carry l (carried n (st .board) (plains l) (st .atoms))) ≡ carried n (st .board) (plains l) (st .atoms)
+unfolding start
+carried-plain n l st e = carry-plain n (st .board) l (st .atoms) (narrower .lists)
+  where
+    narrower : Narrower st (start n (plains l))
+    narrower = subst (λ (outcome : Outcome). Narrows outcome (start n (plains l))) e (run-narrows n (plains l))
+
+-- So they hold exactly when the atoms of the list do.
+pub carry-keeps : {sign : Polynomial → Sign} {n : ℕ} (ok : Respects sign n) (l : List Placed) (st : State) → run n (plains l) ≡ settled st
+    → listHolds sign (carry l (carried n (st .board) (plains l) (st .atoms))) ≡ listHolds sign l
+carry-keeps {sign} {n} ok l st e =
+    sym (plains-hold sign (carry l (carried n (st .board) (plains l) (st .atoms)))) ∙ ap (atomsHold sign) (carried-plain n l st e)
+    ∙ carried-keeps ok (plains l) st e ∙ plains-hold sign l

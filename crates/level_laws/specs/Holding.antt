@@ -5,9 +5,9 @@ use mathlib.Core.Bool.{Bool, true, false, not, _&&_}
 use mathlib.Core.List.{List, [], _∷_, _++_}
 use Rattle.rules.specs.Signs.{Sign, empty, full}
 use Rattle.rules.specs.Polynomial.{Polynomial, Atom}
-use Rattle.rules.specs.Formula.{Parts, end, atom, and, or, isEnd}
-use Rattle.rules.specs.Level.{Formula, complemented, dual, atomsOf, orsOf, orParts, parts}
-use Rattle.rules.specs.Meaning.{atomHolds, allHold, someHold}
+use Rattle.rules.specs.Formula.{Parts, end, atom, and, or, Node, isEnd, eachAtom, eachAtomOf}
+use Rattle.rules.specs.Level.{Placed, plain, plains, Formula, complemented, dual, atomsOf, orsOf, orParts, parts}
+use Rattle.rules.specs.Meaning.{atomHolds, allHold, someHold, holds}
 use Rattle.sign_laws.specs.Booleans.{and-assoc, and-swap, and-true, and-four, not-and, not-or, and-intro, and-first, and-second, never-true}
 use Rattle.sign_laws.specs.Sets.{_In_, in-full, in-empty, has-complement}
 
@@ -28,9 +28,25 @@ every-append test (a ∷ l) m = rw (every-append test l m) (and-assoc (test a) (
 abbrev pub atomsHold : (Polynomial → Sign) → List Atom → Bool
 atomsHold sign l = every (atomHolds sign) l
 
+-- The same of atoms with places, and of formulas over them: their places say nothing of truth.
+abbrev pub placedHolds : (Polynomial → Sign) → Placed → Bool
+placedHolds sign a = atomHolds sign (plain a)
+
+abbrev pub listHolds : (Polynomial → Sign) → List Placed → Bool
+listHolds sign l = every (placedHolds sign) l
+
+abbrev pub allPartsHold : (Polynomial → Sign) → Formula → Bool
+allPartsHold sign kids = allHold sign (eachAtom plain kids)
+
+abbrev pub somePartHolds : (Polynomial → Sign) → Formula → Bool
+somePartHolds sign kids = someHold sign (eachAtom plain kids)
+
+abbrev pub treeHolds : (Polynomial → Sign) → Node Placed → Bool
+treeHolds sign tree = holds sign (eachAtomOf plain tree)
+
 -- In each OR child some part holds.
 abbrev pub orsHold : (Polynomial → Sign) → List Formula → Bool
-orsHold sign ors = every (someHold sign) ors
+orsHold sign ors = every (somePartHolds sign) ors
 
 -- To prove something of `isEnd rest`: the case of no rest, with that fact, and the other.
 pub by-end : {A : Type 0} (P : Bool → Type 0) (rest : Parts A) → (rest ≡ end → P true) → P false → P (isEnd rest)
@@ -83,6 +99,12 @@ module _ (sign : Polynomial → Sign) where
   unfolding every
   both-hold a l h k = and-intro h k
 
+  -- Atoms with places hold exactly if the plain ones do.
+  pub plains-hold : (l : List Placed) → atomsHold sign (plains l) ≡ listHolds sign l
+  unfolding every
+  plains-hold [] = refl
+  plains-hold (a ∷ l) = rw (plains-hold l)
+
   -- A list of one atom holds exactly if the atom does.
   pub one-atom : (a : Atom) → atomsHold sign (a ∷ []) ≡ atomHolds sign a
   unfolding every
@@ -91,46 +113,46 @@ module _ (sign : Polynomial → Sign) where
   -- ---- The parts of an AND.
 
   -- An AND's parts hold exactly if its direct atoms and its OR children hold.
-  pub all-apart : (kids : Formula) → allHold sign kids ≡ atomsHold sign (atomsOf kids) && orsHold sign (orsOf kids)
-  unfolding allHold every atomsOf orsOf
+  pub all-apart : (kids : Formula) → allPartsHold sign kids ≡ listHolds sign (atomsOf kids) && orsHold sign (orsOf kids)
+  unfolding allHold eachAtom every atomsOf orsOf
   all-apart end = refl
-  all-apart (atom a rest) = rw (all-apart rest) (and-assoc (atomHolds sign a) (atomsHold sign (atomsOf rest)) (orsHold sign (orsOf rest)))
+  all-apart (atom a rest) = rw (all-apart rest) (and-assoc (placedHolds sign a) (listHolds sign (atomsOf rest)) (orsHold sign (orsOf rest)))
   all-apart (and kids rest) =
-      rw (all-apart kids, all-apart rest, every-append (atomHolds sign) (atomsOf kids) (atomsOf rest), every-append (someHold sign) (orsOf kids) (orsOf rest))
-      (and-four (atomsHold sign (atomsOf kids)) (orsHold sign (orsOf kids)) (atomsHold sign (atomsOf rest)) (orsHold sign (orsOf rest)))
-  all-apart (or kids rest) = rw (all-apart rest) (and-swap (someHold sign kids) (atomsHold sign (atomsOf rest)) (orsHold sign (orsOf rest)))
+      rw (all-apart kids, all-apart rest, every-append (placedHolds sign) (atomsOf kids) (atomsOf rest), every-append (somePartHolds sign) (orsOf kids) (orsOf rest))
+      (and-four (listHolds sign (atomsOf kids)) (orsHold sign (orsOf kids)) (listHolds sign (atomsOf rest)) (orsHold sign (orsOf rest)))
+  all-apart (or kids rest) = rw (all-apart rest) (and-swap (somePartHolds sign kids) (listHolds sign (atomsOf rest)) (orsHold sign (orsOf rest)))
 
-  or-parts-hold : (ors : List Formula) → allHold sign (orParts ors) ≡ orsHold sign ors
-  unfolding allHold orParts every
+  or-parts-hold : (ors : List Formula) → allPartsHold sign (orParts ors) ≡ orsHold sign ors
+  unfolding allHold eachAtom orParts every
   or-parts-hold [] = refl
   or-parts-hold (child ∷ later) = rw (or-parts-hold later)
 
   -- The same of atoms and ORs put together again (step 6).
-  pub parts-hold : (l : List Atom) (ors : List Formula) → allHold sign (parts l ors) ≡ atomsHold sign l && orsHold sign ors
-  unfolding allHold parts every
+  pub parts-hold : (l : List Placed) (ors : List Formula) → allPartsHold sign (parts l ors) ≡ listHolds sign l && orsHold sign ors
+  unfolding allHold eachAtom parts every
   parts-hold [] ors = or-parts-hold ors
-  parts-hold (a ∷ l) ors = rw (parts-hold l ors) (and-assoc (atomHolds sign a) (atomsHold sign l) (orsHold sign ors))
+  parts-hold (a ∷ l) ors = rw (parts-hold l ors) (and-assoc (placedHolds sign a) (listHolds sign l) (orsHold sign ors))
 
   -- ---- Complement and exchange.
 
   -- An atom with the complement of its set holds exactly if the atom does not.
-  pub complement-holds : (a : Atom) → atomHolds sign (complemented a) ≡ not (atomHolds sign a)
+  pub complement-holds : (a : Placed) → placedHolds sign (complemented a) ≡ not (placedHolds sign a)
   unfolding atomHolds complemented
   complement-holds a = has-complement (sign (a .polynomial)) (a .set)
 
   mutual
-    unfolding allHold dual
+    unfolding allHold eachAtom dual
 
     -- The complement of parts of an OR, as parts of an AND, holds exactly if they do not.
-    pub all-dual : (kids : Formula) → allHold sign (dual kids) ≡ not (someHold sign kids)
+    pub all-dual : (kids : Formula) → allPartsHold sign (dual kids) ≡ not (somePartHolds sign kids)
     all-dual end = refl
-    all-dual (atom a rest) = rw (complement-holds a, all-dual rest) (sym (not-or (atomHolds sign a) (someHold sign rest)))
-    all-dual (and kids rest) = rw (some-dual kids, all-dual rest) (sym (not-or (allHold sign kids) (someHold sign rest)))
-    all-dual (or kids rest) = rw (all-dual kids, all-dual rest) (sym (not-or (someHold sign kids) (someHold sign rest)))
+    all-dual (atom a rest) = rw (complement-holds a, all-dual rest) (sym (not-or (placedHolds sign a) (somePartHolds sign rest)))
+    all-dual (and kids rest) = rw (some-dual kids, all-dual rest) (sym (not-or (allPartsHold sign kids) (somePartHolds sign rest)))
+    all-dual (or kids rest) = rw (all-dual kids, all-dual rest) (sym (not-or (somePartHolds sign kids) (somePartHolds sign rest)))
 
     -- And the other way round.
-    pub some-dual : (kids : Formula) → someHold sign (dual kids) ≡ not (allHold sign kids)
+    pub some-dual : (kids : Formula) → somePartHolds sign (dual kids) ≡ not (allPartsHold sign kids)
     some-dual end = refl
-    some-dual (atom a rest) = rw (complement-holds a, some-dual rest) (sym (not-and (atomHolds sign a) (allHold sign rest)))
-    some-dual (and kids rest) = rw (some-dual kids, some-dual rest) (sym (not-and (allHold sign kids) (allHold sign rest)))
-    some-dual (or kids rest) = rw (all-dual kids, some-dual rest) (sym (not-and (someHold sign kids) (allHold sign rest)))
+    some-dual (atom a rest) = rw (complement-holds a, some-dual rest) (sym (not-and (placedHolds sign a) (allPartsHold sign rest)))
+    some-dual (and kids rest) = rw (some-dual kids, some-dual rest) (sym (not-and (allPartsHold sign kids) (allPartsHold sign rest)))
+    some-dual (or kids rest) = rw (all-dual kids, some-dual rest) (sym (not-and (somePartHolds sign kids) (allPartsHold sign rest)))

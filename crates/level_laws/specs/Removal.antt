@@ -7,11 +7,11 @@ use Prim.Native.Nat.{ℕ}
 use Rattle.rules.specs.Signs.{Sign}
 use Rattle.rules.specs.Polynomial.{Polynomial, Atom}
 use Rattle.rules.specs.Rounds.{run, says}
-use Rattle.rules.specs.Level.{keptUnless, implied, removeImplied}
+use Rattle.rules.specs.Level.{Placed, plain, plains, keptUnless, implied, removeImplied}
 use Rattle.rules.specs.Meaning.{atomHolds}
 use Rattle.sign_laws.specs.Booleans.{and-assoc, and-true, and-false}
 use Rattle.sign_laws.specs.Sets.{in-inside}
-use Rattle.level_laws.specs.Holding.{every, every-append, atomsHold, in-atom, one-atom}
+use Rattle.level_laws.specs.Holding.{every, every-append, atomsHold, placedHolds, listHolds, in-atom, plains-hold}
 use Rattle.level_laws.specs.Respects.{Respects}
 use Rattle.level_laws.specs.Rounds.{says-right}
 
@@ -27,17 +27,17 @@ module _ {sign : Polynomial → Sign} {n : ℕ} (ok : Respects sign n) where
   unfolding implied
   implied-holds others a e h = in-atom sign a (in-inside (says n (run n others) (a .polynomial)) (a .set) e (says-right ok others (a .polynomial) h))
 
-  keptUnless-keeps : (b : Bool) (kept : List Atom) (a : Atom) (later : List Atom) → implied n (kept ++ later) a ≡ b
-      → atomsHold sign (keptUnless b a kept) && atomsHold sign later ≡ atomsHold sign kept && (atomHolds sign a && atomsHold sign later)
-  unfolding keptUnless
-  keptUnless-keeps true kept a later w = leave-out (atomsHold sign kept) (atomHolds sign a) (atomsHold sign later)
-      (λ h. implied-holds (kept ++ later) a w (every-append (atomHolds sign) kept later ∙ h))
-  keptUnless-keeps false kept a later w = rw (every-append (atomHolds sign) kept (a ∷ []), one-atom sign a)
-      (sym (and-assoc (atomsHold sign kept) (atomHolds sign a) (atomsHold sign later)))
+  keptUnless-keeps : (b : Bool) (kept : List Placed) (a : Placed) (later : List Placed) → implied n (plains (kept ++ later)) (plain a) ≡ b
+      → listHolds sign (keptUnless b a kept) && listHolds sign later ≡ listHolds sign kept && (placedHolds sign a && listHolds sign later)
+  unfolding keptUnless every
+  keptUnless-keeps true kept a later w = leave-out (listHolds sign kept) (placedHolds sign a) (listHolds sign later)
+      (λ h. implied-holds (plains (kept ++ later)) (plain a) w (plains-hold sign (kept ++ later) ∙ every-append (placedHolds sign) kept later ∙ h))
+  keptUnless-keeps false kept a later w = rw (every-append (placedHolds sign) kept (a ∷ []), and-true (placedHolds sign a))
+      (sym (and-assoc (listHolds sign kept) (placedHolds sign a) (listHolds sign later)))
 
   -- Step 5 keeps the truth of the atoms, those that were kept so far and those to come.
-  pub removal-keeps : (kept l : List Atom) → atomsHold sign (removeImplied n kept l) ≡ atomsHold sign kept && atomsHold sign l
+  pub removal-keeps : (kept l : List Placed) → listHolds sign (removeImplied n kept l) ≡ listHolds sign kept && listHolds sign l
   unfolding removeImplied every
-  removal-keeps kept [] = sym (and-true (atomsHold sign kept))
-  removal-keeps kept (a ∷ later) = removal-keeps (keptUnless (implied n (kept ++ later) a) a kept) later
-      ∙ keptUnless-keeps (implied n (kept ++ later) a) kept a later refl
+  removal-keeps kept [] = sym (and-true (listHolds sign kept))
+  removal-keeps kept (a ∷ later) = removal-keeps (keptUnless (implied n (plains (kept ++ later)) (plain a)) a kept) later
+      ∙ keptUnless-keeps (implied n (plains (kept ++ later)) (plain a)) kept a later refl

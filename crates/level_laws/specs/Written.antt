@@ -3,12 +3,12 @@
 use mathlib.Core.Path.{_≡_, refl, sym, ap, ap₂, _∙_}
 use mathlib.Core.Bool.{Bool, true, false, _||_, false≢true}
 use mathlib.Core.List.{List, [], _∷_, _++_}
-use Prim.Native.Nat.{ℕ, suc}
+use Prim.Native.Nat.{ℕ, suc, _+_}
 use lib.ListN.{getD}
 use Rattle.rules.specs.Signs.{Sign, SignSet}
 use Rattle.rules.specs.Polynomial.{Polynomial, Atom, same}
-use Rattle.rules.specs.Formula.{end, atom, and, or, Node, leaf, allOf, anyOf, eachAtom, eachAtomOf, before, alone}
-use Rattle.rules.specs.Level.{Formula}
+use Rattle.rules.specs.Formula.{Parts, end, atom, and, or, Node, leaf, allOf, anyOf, eachAtom, eachAtomOf, before, alone, atoms}
+use Rattle.rules.specs.Level.{Placed, plain, placedFrom, placedTree}
 use Rattle.rules.specs.Block.{Block}
 use Rattle.rules.specs.Meaning.{holds}
 use Rattle.rules.specs.Answer.{lookedUp, formulaOf, knows, addedUnless, used, hereOr, numberIn, numbered, blockOf, simplified, newBlock}
@@ -55,7 +55,7 @@ added-knows true table p e = e
 added-knows false table p e = knows-last table p
 
 -- What a table knows, it knows when the parts have been walked.
-pub used-keeps : (table : List Polynomial) (kids : Formula) (p : Polynomial) → knows table p ≡ true → knows (used table kids) p ≡ true
+pub used-keeps : (table : List Polynomial) (kids : Parts Atom) (p : Polynomial) → knows table p ≡ true → knows (used table kids) p ≡ true
 unfolding used
 used-keeps table end p e = e
 used-keeps table (atom a rest) p e = used-keeps (addedUnless (knows table (a .polynomial)) (a .polynomial) table) rest p
@@ -75,7 +75,7 @@ module _ (table : List Polynomial) where
   atom-looked-up a e = ap (atomOf (a .set)) (number-found table (a .polynomial) e)
 
   -- A table that knows all that the parts use, beside what was used before them, gives the parts back.
-  parts-looked-up : (sofar : List Polynomial) (kids : Formula) → ((p : Polynomial) → knows (used sofar kids) p ≡ true → knows table p ≡ true)
+  parts-looked-up : (sofar : List Polynomial) (kids : Parts Atom) → ((p : Polynomial) → knows (used sofar kids) p ≡ true → knows table p ≡ true)
       → eachAtom (lookedUp table) (eachAtom (numbered table) kids) ≡ kids
   unfolding eachAtom used
   parts-looked-up sofar end h = refl
@@ -96,12 +96,27 @@ looked-up n (allOf kids) = ap allOf (parts-looked-up (used [] kids) [] kids (λ 
 looked-up n (anyOf kids) = ap anyOf (parts-looked-up (used [] kids) [] kids (λ p e. e))
 
 -- The new block of an answer holds the simplified formula.
-pub new-formula : (given : Block) → formulaOf (newBlock given) ≡ simplified given
+pub new-formula : (given : Block) → formulaOf (newBlock given) ≡ eachAtomOf plain (simplified given)
 unfolding newBlock
-new-formula given = looked-up (given .variables) (simplified given)
+new-formula given = looked-up (given .variables) (eachAtomOf plain (simplified given))
 
--- So it is true exactly when the given block is.
+-- Atoms with their places are the atoms.
+placedFrom-plain : (k : ℕ) (kids : Parts Atom) → eachAtom plain (placedFrom k kids) ≡ kids
+unfolding eachAtom placedFrom
+placedFrom-plain k end = refl
+placedFrom-plain k (atom a rest) = ap (atom a) (placedFrom-plain (1 + k) rest)
+placedFrom-plain k (and kids rest) = ap₂ and (placedFrom-plain k kids) (placedFrom-plain (k + atoms kids) rest)
+placedFrom-plain k (or kids rest) = ap₂ or (placedFrom-plain k kids) (placedFrom-plain (k + atoms kids) rest)
+
+pub placedTree-plain : (tree : Node Atom) → eachAtomOf plain (placedTree tree) ≡ tree
+unfolding eachAtomOf placedTree
+placedTree-plain (leaf a) = refl
+placedTree-plain (allOf kids) = ap allOf (placedFrom-plain 0 kids)
+placedTree-plain (anyOf kids) = ap anyOf (placedFrom-plain 0 kids)
+
+-- So the new block is true exactly when the given block is.
 pub newBlock-keeps : (given : Block) {sign : Polynomial → Sign} → Respects sign (given .variables)
     → holds sign (formulaOf (newBlock given)) ≡ holds sign (formulaOf given)
 unfolding simplified
-newBlock-keeps given {sign} ok = ap (holds sign) (new-formula given) ∙ simplify-keeps ok (formulaOf given)
+newBlock-keeps given {sign} ok =
+    ap (holds sign) (new-formula given) ∙ simplify-keeps ok (placedTree (formulaOf given)) ∙ ap (holds sign) (placedTree-plain (formulaOf given))

@@ -9,7 +9,8 @@ use lib.Dec.{ltb, lit≤}
 use lib.ListN.{length}
 use borrow.Author.Tests.{lt-ltb, le-ltb}
 use Rattle.rules.specs.Answer as book
-use Rattle.rules.specs.Answer.{written, filledPart, isRefusal, answer}
+use Rattle.rules.specs.Block.{readBlock}
+use Rattle.rules.specs.Answer.{written, filledPart, isRefusal, answer, placedAnswer, placesWritten}
 use Rattle.answer.specs.declared.Verdict.{Verdict}
 use Rattle.answer.specs.declared.Verdict.the-variants.{Formula, Always, Unsatisfiable}
 use Rattle.answer.specs.declared.Counts.{Counts}
@@ -19,6 +20,7 @@ use Rattle.answer.specs.Answered.{verdictOf, countsOf, answerOf, lengthIn}
 use Rattle.lift.specs.Bounds.{Bounded, by-number, by-block, answer-bounded}
 use Rattle.answer.specs.Entry.{Answers}
 use Rattle.lift.specs.Part.{part-length}
+use Rattle.lift.specs.Places.{PlacedAnswers, by-places}
 
 -- "a verdict (formula, always, unsatisfiable)", counted from 1
 unfoldable pub verdictNumber : book.Verdict → ℕ
@@ -50,6 +52,11 @@ ExportsCounts bytes before after r atoms-in atoms-out polynomials-in polynomials
     (r ≡ exported given) × (after ≡ written given before)
     × (atoms-in ≡ counted given .atoms-in) × (atoms-out ≡ counted given .atoms-out)
     × (polynomials-in ≡ counted given .polynomials-in) × (polynomials-out ≡ counted given .polynomials-out)
+
+abbrev pub ExportsPlaces : List ℕ → List ℕ → List ℕ → List ℕ → List ℕ → ℕ → Type 0
+ExportsPlaces bytes before after slice told r =
+    let given = placedAnswer (length before) (length slice) bytes in
+    (r ≡ exported given) × (after ≡ written given before) × (told ≡ placesWritten given (readBlock bytes) slice)
 
 -- ---- the same over what the first entry returns
 
@@ -98,6 +105,23 @@ module _ {bytes before after : List ℕ} {returned : Answer} (answers : Answers 
 
   pub counts-counted : countsOrZero returned ≡ countsOf (counted (answer (length before) bytes))
   counts-counted = ap countsOrZero (answers .returns) ∙ counts-answer (answer (length before) bytes)
+
+-- The same of the entry with places.
+length-bounded : (a : book.Answer) → Bounded a → lengthIn (answerOf a) < 65536
+unfolding answerOf
+length-bounded (book.refusal number) bounded = omega arith
+length-bounded (book.answered verdict bytes counts) (by-block head longest) = omega arith
+
+module _ {bytes before after slice told : List ℕ} {returned : Answer} (answers : PlacedAnswers bytes before after slice told returned) where
+  pub placed-length-short : lengthIn returned < 65536
+  unfolding answerOf
+  placed-length-short =
+      rw (answers .returns)
+      (by-places (λ (a : book.Answer). lengthIn (answerOf a) < 65536) (length before) (length slice) bytes (λ number. omega arith)
+      (length-bounded (answer (length before) bytes) (answer-bounded (length before) bytes)))
+
+  pub placed-number : numberIn returned ≡ exported (placedAnswer (length before) (length slice) bytes)
+  placed-number = ap numberIn (answers .returns) ∙ number-answer (placedAnswer (length before) (length slice) bytes)
 
 -- ---- what can be told from the number
 

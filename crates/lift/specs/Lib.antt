@@ -2,6 +2,7 @@ pub mod Refusals
 pub mod Entry
 pub mod Bounds
 pub mod Part
+pub mod Places
 pub mod Exported
 pub mod Lines
 pub mod OneResult

@@ -9,8 +9,9 @@ use Rattle.block.specs.Held.{outcomeOf}
 use Rattle.answer.specs.declared.Answer.{Answer}
 use Rattle.answer.specs.Entry.{Answers}
 use Rattle.lift.specs.Part.{Fills}
-use Rattle.lift.specs.Exported.{ExportsAnswer, ExportsLength, ExportsCounts}
+use Rattle.lift.specs.Exported.{ExportsAnswer, ExportsLength, ExportsCounts, ExportsPlaces}
 use Rattle.lift.specs.Lines.{Reports}
+use Rattle.lift.specs.Places.{PlacedAnswers}
 
 -- Two that are one third are each other.
 both : {A : Type 0} {a b c : A} → a ≡ c → b ≡ c → a ≡ b
@@ -29,6 +30,21 @@ one-answer bytes before left other a b =
     let returned = both (a .returns) (b .returns) in
     let output = both (a .output) (b .output) in
     λ i. record { returned = returned i; output = output i }
+
+-- `lift::placed`: the answer, the output and the slice of places.
+pub record LeftByPlaced : Type 0 where
+  pub returned : Answer
+  pub output : List ℕ
+  pub places : List ℕ
+
+pub one-placed : (bytes before slice : List ℕ) (left other : LeftByPlaced)
+    → PlacedAnswers bytes before (left .output) slice (left .places) (left .returned)
+    → PlacedAnswers bytes before (other .output) slice (other .places) (other .returned) → left ≡ other
+one-placed bytes before slice left other a b =
+    let returned = both (a .returns) (b .returns) in
+    let output = both (a .output) (b .output) in
+    let places = both (a .places) (b .places) in
+    λ i. record { returned = returned i; output = output i; places = places i }
 
 -- `lift::simplified`: the part's bytes and the place where it begins. (The output itself is spent: of the bytes past the part nothing is said.)
 pub record LeftBySimplified : Type 0 where
@@ -107,6 +123,21 @@ one-counted bytes before left other a b =
       polynomials-in = polynomials-in i;
       polynomials-out = polynomials-out i;
     }
+
+-- `placardpan_placed`: a number, the output and the slice of places.
+pub record LeftByExportedPlaces : Type 0 where
+  pub returned : ℕ
+  pub output : List ℕ
+  pub places : List ℕ
+
+pub one-exported-places : (bytes before slice : List ℕ) (left other : LeftByExportedPlaces)
+    → ExportsPlaces bytes before (left .output) slice (left .places) (left .returned)
+    → ExportsPlaces bytes before (other .output) slice (other .places) (other .returned) → left ≡ other
+one-exported-places bytes before slice left other a b =
+    let returned = both (a .0) (b .0) in
+    let output = both (a .1) (b .1) in
+    let places = both (a .2) (b .2) in
+    λ i. record { returned = returned i; output = output i; places = places i }
 
 -- ---- the reader
 

@@ -14,9 +14,10 @@ use Rattle.rules.specs.Bits.{open-bits}
 use Rattle.rules.specs.Block.{readBlock, open-block}
 use Rattle.rules.specs.Answer as book
 use Rattle.rules.specs.Answer.{written, filledPart, formulaOf, lookedUp, answer}
-use Rattle.rules.specs.Meaning.{monomialAt, valueBy, atomHolds, holds, wholeNumbers, degree, totalDegree, monomialOver, signOver, holdsOver}
-use Rattle.rules.specs.Demands.{SameLifts}
+use Rattle.rules.specs.Meaning.{monomialAt, valueBy, signAt, atomHolds, holds, holdsAt}
+use Rattle.rules.specs.Demands.{SameLifts, SameWholeLifts}
 use Rattle.rules.specs.Cases.{caseA, shortA, bytes-of-A}
+use Rattle.laws.specs.Answers.{at-whole-numbers}
 use Rattle.answer.specs.declared.Verdict.{Verdict}
 use Rattle.answer.specs.declared.Verdict.the-variants.{Always}
 use Rattle.answer.specs.declared.Counts.{Counts}
@@ -67,8 +68,9 @@ caseE = 0x10 ∷ 0x81 ∷ 0x01 ∷ 0x00 ∷ 0x10 ∷ 0x10 ∷ 0x00 ∷ 0x00 ∷ 
 
 -- At x = 0 it does not hold.
 not-always : (bytes : List ℕ) (counts : book.Counts) → SameLifts (readBlock caseE) (book.answered book.always bytes counts) → ⊥
-unfolding SameLifts open-signs open-polynomial open-formula open-bits open-block formulaOf lookedUp monomialAt valueBy atomHolds holds degree totalDegree monomialOver signOver holdsOver wholeNumbers caseE pow one
-not-always bytes counts same = true≢false (sym (same (wholeNumbers (pos 0 ∷ []) refl) .1 refl))
+unfolding SameWholeLifts open-signs open-polynomial open-formula open-bits open-block formulaOf lookedUp monomialAt valueBy signAt atomHolds holds holdsAt caseE pow one
+not-always bytes counts same =
+    true≢false (sym (at-whole-numbers (readBlock caseE) (book.answered book.always bytes counts) same (pos 0 ∷ []) refl .1 refl))
 
 -- Always "ALWAYS": demand 3 alone does not allow it here.
 pub no-always : {before after : List ℕ} {returned : Answer} → Answers caseE before after returned

@@ -3,12 +3,13 @@
 ghost use mathlib.Core.Path.{_≡_};
 ghost use Prim.Native.Nat.{_<_};
 ghost use Rattle.answer.specs.Answered.{lengthIn};
-ghost use Rattle.lift.specs.Exported.{packedOf, numberIn, countsOrZero, ExportsAnswer, ExportsLength, ExportsCounts};
+ghost use Rattle.lift.specs.Exported.{packedOf, numberIn, countsOrZero, ExportsAnswer, ExportsLength, ExportsCounts, ExportsPlaces};
 ghost use Rattle.lift.specs.Lines.{Reports};
 use crate::Answer;
 use crate::Counts;
 use crate::Verdict;
 use crate::length_in;
+use crate::placing::placed;
 use crate::report;
 use crate::simplify;
 
@@ -95,6 +96,15 @@ pub extern "C" fn placardpan_counted(
     *atoms_out = counts.atoms_out;
     *polynomials_in = counts.polynomials_in;
     *polynomials_out = counts.polynomials_out;
+    number_in(given)
+}
+
+// `placed`: the number as `placardpan_simplify` gives it, with refusal 18 if fewer than 255 places are lent; the places through the caller's slice.
+#[no_mangle]
+pub extern "C" fn placardpan_placed(input: &[u8], output: &mut [u8], places: &mut [u8]) -> u32
+    ensures { λ r. ⌜ ExportsPlaces (now (input .entry)) (now (output .entry)) (now (output .exit)) (now (places .entry)) (now (places .exit)) r ⌝ }
+{
+    let given = placed(input, output, places);
     number_in(given)
 }
 

@@ -1,6 +1,7 @@
 // The public entries: a lift condition block is read, simplified and written again; `report` tells the program's lines of it.
 // 01, "Refusal numbers": a refusal leaves before anything is written.
 ghost use mathlib.Core.Path.{_≡_};
+ghost use Prim.Native.Nat.{_≤_};
 ghost use lib.ListN.{length};
 ghost use denote.Ref.{ptr};
 ghost use Rattle.rules.specs.Block.{readBlock};
@@ -10,8 +11,10 @@ ghost use Rattle.answer.specs.Answered.{lengthIn};
 ghost use Rattle.answer.specs.Entry.{Answers};
 ghost use Rattle.lift.specs.Part.{Fills};
 ghost use Rattle.lift.specs.Lines.{Reports};
+ghost use Rattle.lift.specs.Places.{Places};
 
 mod exported; // the entries for C
+mod placing; // the entry with the places of the atoms
 
 pub use answer::Answer;
 pub use answer::Counts;
@@ -19,18 +22,16 @@ pub use answer::Verdict;
 use answer::answer_to;
 use block::Contents;
 use block::read_into;
+pub use placing::placed;
 use telling::tell_answer;
 use telling::tell_refusal;
 
-// Reads a block, simplifies it and writes the new block to the output's first bytes. Every input is answered or refused.
-pub fn simplify(input: &[u8], output: &mut [u8]) -> Answer
+// Reads a block and answers it, where the output has room for it and the slice for the places of its atoms.
+fn answered(input: &[u8], output: &mut [u8], places: &mut [u8]) -> Answer
+    requires { ⌜ (length (now input) ≤ length (now output)) × (255 ≤ length (now places)) ⌝ }
     ensures { λ r. ⌜ Answers (now (input .entry)) (now (output .entry)) (now (output .exit)) r
-        × SameLifts (readBlock (now (input .entry))) (answer (length (now (output .entry))) (now (input .entry)))
-        × NeverLonger (now (input .entry)) (answer (length (now (output .entry))) (now (input .entry))) ⌝ }
+        × Places (now (input .entry)) (length (now (output .entry))) (now (places .entry)) (now (places .exit)) ⌝ }
 {
-    if output.len() < input.len() {
-        return Answer::Refused(1);
-    }
     let mut coefficient = [0i32; 1024];
     let mut monomial = [0u64; 1024];
     let mut terms = [0u8; 64];
@@ -59,8 +60,22 @@ pub fn simplify(input: &[u8], output: &mut [u8]) -> Answer
             &mut terms,
             &mut token,
             output,
+            places,
         ),
     }
+}
+
+// Reads a block, simplifies it and writes the new block to the output's first bytes. Every input is answered or refused.
+pub fn simplify(input: &[u8], output: &mut [u8]) -> Answer
+    ensures { λ r. ⌜ Answers (now (input .entry)) (now (output .entry)) (now (output .exit)) r
+        × SameLifts (readBlock (now (input .entry))) (answer (length (now (output .entry))) (now (input .entry)))
+        × NeverLonger (now (input .entry)) (answer (length (now (output .entry))) (now (input .entry))) ⌝ }
+{
+    if output.len() < input.len() {
+        return Answer::Refused(1);
+    }
+    let mut places = [0u8; 255];
+    answered(input, output, &mut places)
 }
 
 // "A refusal returns its number and length 0"; an answer has its length.

@@ -1,5 +1,7 @@
 // The lines for a block on standard output: what the two programs share.
-// What is printed is `lift::report`'s text; that standard output takes it is no promise of ours.
+// What is printed is `lift::report`'s text, and with the argument `places` the places that `lift::placed` tells; that standard output takes it is no
+// promise of ours.
+use answer::Answer;
 use libc::STDOUT_FILENO;
 
 // The first bytes of the text.
@@ -13,4 +15,74 @@ fn print_first(text: &[u8], length: usize) {
 pub fn print_answer(input: &[u8], output: &mut [u8], text: &mut [u8]) {
     let length = lift::report(input, output, text);
     print_first(text, length);
+}
+
+// ---- the places of the atoms, 02 #105
+
+// Whether the first bytes of one slice are the other.
+fn begins(bytes: &[u8], length: usize, word: &[u8]) -> bool {
+    if length != word.len() {
+        return false;
+    }
+    if bytes.len() < length {
+        return false;
+    }
+    let mut i = 0;
+    while i < length {
+        let at = i;
+        i += 1;
+        if bytes[at] != word[at] {
+            return false;
+        }
+    }
+    true
+}
+
+// Whether the program's first argument is `places`.
+pub fn asked_for_places() -> bool {
+    let mut argument = [0u8; 16];
+    let length = os::arg(1, &mut argument);
+    begins(&argument, length, b"places")
+}
+
+fn wide(byte: u8) -> u64 {
+    byte as u64
+}
+
+// "`PLACES` and the places in decimal, one space apart"
+fn print_list(places: &[u8], count: usize) {
+    if places.len() < count {
+        return;
+    }
+    io::write_all(STDOUT_FILENO, b"PLACES");
+    let mut i = 0;
+    while i < count {
+        let place = places[i];
+        i += 1;
+        io::write_all(STDOUT_FILENO, b" ");
+        io::print_decimal(STDOUT_FILENO, wide(place));
+    }
+    io::write_all(STDOUT_FILENO, b"\n");
+}
+
+// Answers an input, with the output to work in, and prints the line of its places; nothing on refusal.
+fn print_places(input: &[u8], output: &mut [u8]) {
+    let mut places = [0u8; 255];
+    let answer = lift::placed(input, output, &mut places);
+    match answer {
+        Answer::Refused(_) => {}
+        Answer::Answered {
+            verdict: _,
+            length: _,
+            counts,
+        } => print_list(&places, counts.atoms_out),
+    }
+}
+
+// Answers an input and prints its lines, with that of its places if it was asked for.
+pub fn print_asked(input: &[u8], output: &mut [u8], text: &mut [u8], places: bool) {
+    print_answer(input, output, text);
+    if places {
+        print_places(input, output);
+    }
 }

@@ -8,8 +8,8 @@ use Prim.Native.Nat.{ℕ}
 use lib.Dec.{eqb}
 use lib.IntN.{ℤ}
 use Rattle.rules.specs.Signs.{empty, full, signOf, has}
-use Rattle.rules.specs.Polynomial.{Polynomial, Atom, Board, same, normal, constant}
-use Rattle.rules.specs.Level.{Tidied, broken, tidied, mergedIf, mergeInto, mergeConstant, mergeNormal, merge, keptIf, withoutFull, afterMerging, tidy}
+use Rattle.rules.specs.Polynomial.{Polynomial, Atom, Board, same, constant}
+use Rattle.rules.specs.Level.{Placed, plain, plains, normalPlaced, Tidied, broken, tidied, mergedIf, mergeInto, mergeConstant, mergeNormal, merge, keptIf, withoutFull, afterMerging, tidy}
 use Rattle.sign_laws.specs.Booleans.{never-true, never-both}
 use Rattle.sign_laws.specs.Lists.{Every, every-none, every}
 use Rattle.level_laws.specs.Same.{same-equal, same-itself}
@@ -70,51 +70,51 @@ module _ {n : ℕ} {board : Board} where
 
 -- ---- Step 2.
 
-mergeInto-other : {p : Polynomial} {a : Atom} {l : List Atom} → Other p a → Every (Other p) l → Every (Other p) (mergeInto a l)
+mergeInto-other : {p : Polynomial} (a : Placed) (l : List Placed) → Other p (plain a) → Every (Other p) (plains l) → Every (Other p) (plains (mergeInto a l))
 unfolding mergeInto mergedIf
-mergeInto-other k every-none = every k every-none
-mergeInto-other {p} {a} k (every {a = first} {l = later} h hs) = by-test (same (a .polynomial) (first .polynomial)) (mergeInto-other k hs)
+mergeInto-other a [] k hs = every k every-none
+mergeInto-other {p} a (first ∷ later) k (every h hs) = by-test (same (a .polynomial) (first .polynomial)) (mergeInto-other a later k hs)
   where
-    by-test : (b : Bool) → Every (Other p) (mergeInto a later) → Every (Other p) (mergedIf b a first later (mergeInto a later))
+    by-test : (b : Bool) → Every (Other p) (plains (mergeInto a later)) → Every (Other p) (plains (mergedIf b a first later (mergeInto a later)))
     by-test true merged = every (record { differs = h .differs }) hs
     by-test false merged = every h merged
 
-mergeInto-apart : (a : Atom) {l : List Atom} → Apart l → Apart (mergeInto a l)
+mergeInto-apart : (a : Placed) (l : List Placed) → Apart (plains l) → Apart (plains (mergeInto a l))
 unfolding mergeInto mergedIf
-mergeInto-apart a none-apart = apart every-none none-apart
-mergeInto-apart a (apart {a = first} {l = later} h hs) = by-test (same (a .polynomial) (first .polynomial)) refl (mergeInto-apart a hs)
+mergeInto-apart a [] h = apart every-none none-apart
+mergeInto-apart a (first ∷ later) (apart h hs) = by-test (same (a .polynomial) (first .polynomial)) refl (mergeInto-apart a later hs)
   where
-    by-test : (b : Bool) → same (a .polynomial) (first .polynomial) ≡ b → Apart (mergeInto a later) → Apart (mergedIf b a first later (mergeInto a later))
+    by-test : (b : Bool) → same (a .polynomial) (first .polynomial) ≡ b → Apart (plains (mergeInto a later)) → Apart (plains (mergedIf b a first later (mergeInto a later)))
     by-test true e merged = apart h hs
-    by-test false e merged = apart (mergeInto-other (other-back {b = first} (record { differs = e })) h) merged
+    by-test false e merged = apart (mergeInto-other a later (other-back {a = plain a} {b = plain first} (record { differs = e })) h) merged
 
 -- What is tidied has no polynomial twice.
 abbrev TidiedApart : Tidied → Type 0
 TidiedApart broken = Unit {0}
-TidiedApart (tidied l) = Apart l
+TidiedApart (tidied l) = Apart (plains l)
 
-merge-apart : (later : List Atom) {l : List Atom} → Apart l → TidiedApart (merge l later)
+merge-apart : (later l : List Placed) → Apart (plains l) → TidiedApart (merge l later)
 unfolding merge mergeNormal mergeConstant
-merge-apart [] h = h
-merge-apart (a ∷ later) {l} h = by-constant (constant (normal a .polynomial)) (λ m. merge-apart later {l = m})
+merge-apart [] l h = h
+merge-apart (a ∷ later) l h = by-constant (constant (normalPlaced a .polynomial)) (λ m. merge-apart later m)
   where
-    by-truth : (b : Bool) (more : List Atom → Tidied) → ((m : List Atom) → Apart m → TidiedApart (more m)) → TidiedApart (mergeConstant b l more)
+    by-truth : (b : Bool) (more : List Placed → Tidied) → ((m : List Placed) → Apart (plains m) → TidiedApart (more m)) → TidiedApart (mergeConstant b l more)
     by-truth true more k = k l h
     by-truth false more k = tt
 
-    by-constant : (o : Option ℤ) → ((m : List Atom) → Apart m → TidiedApart (merge m later))
-        → TidiedApart (mergeNormal o (normal a) l (λ (m : List Atom). merge m later))
-    by-constant none k = k (mergeInto (normal a) l) (mergeInto-apart (normal a) h)
-    by-constant (some z) k = by-truth (has (signOf z) (normal a .set)) (λ (m : List Atom). merge m later) k
+    by-constant : (o : Option ℤ) → ((m : List Placed) → Apart (plains m) → TidiedApart (merge m later))
+        → TidiedApart (mergeNormal o (normalPlaced a) l (λ (m : List Placed). merge m later))
+    by-constant none k = k (mergeInto (normalPlaced a) l) (mergeInto-apart (normalPlaced a) l h)
+    by-constant (some z) k = by-truth (has (signOf z) (normalPlaced a .set)) (λ (m : List Placed). merge m later) k
 
 abbrev TidiedOther : Polynomial → Tidied → Type 0
 TidiedOther p broken = Unit {0}
-TidiedOther p (tidied l) = Every (Other p) l
+TidiedOther p (tidied l) = Every (Other p) (plains l)
 
-withoutFull-other : {p : Polynomial} {l : List Atom} → Every (Other p) l → TidiedOther p (withoutFull l)
+withoutFull-other : {p : Polynomial} (l : List Placed) → Every (Other p) (plains l) → TidiedOther p (withoutFull l)
 unfolding withoutFull keptIf
-withoutFull-other every-none = every-none
-withoutFull-other {p} (every {a} {l} h hs) = by-tests (eqb (a .set) empty) (eqb (a .set) full) (withoutFull l) (withoutFull-other hs)
+withoutFull-other [] hs = every-none
+withoutFull-other {p} (a ∷ l) (every h hs) = by-tests (eqb (a .set) empty) (eqb (a .set) full) (withoutFull l) (withoutFull-other l hs)
   where
     by-tests : (b c : Bool) (rest : Tidied) → TidiedOther p rest → TidiedOther p (keptIf b c a rest)
     by-tests true c rest k = tt
@@ -122,11 +122,11 @@ withoutFull-other {p} (every {a} {l} h hs) = by-tests (eqb (a .set) empty) (eqb 
     by-tests false false broken k = tt
     by-tests false false (tidied m) k = every h k
 
-withoutFull-apart : {l : List Atom} → Apart l → TidiedApart (withoutFull l)
+withoutFull-apart : (l : List Placed) → Apart (plains l) → TidiedApart (withoutFull l)
 unfolding withoutFull keptIf
-withoutFull-apart none-apart = none-apart
-withoutFull-apart (apart {a} {l} h hs) =
-    by-tests (eqb (a .set) empty) (eqb (a .set) full) (withoutFull l) (withoutFull-other h) (withoutFull-apart hs)
+withoutFull-apart [] h = none-apart
+withoutFull-apart (a ∷ l) (apart h hs) =
+    by-tests (eqb (a .set) empty) (eqb (a .set) full) (withoutFull l) (withoutFull-other l h) (withoutFull-apart l hs)
   where
     by-tests : (b c : Bool) (rest : Tidied) → TidiedOther (a .polynomial) rest → TidiedApart rest → TidiedApart (keptIf b c a rest)
     by-tests true c rest k t = tt
@@ -135,10 +135,10 @@ withoutFull-apart (apart {a} {l} h hs) =
     by-tests false false (tidied m) k t = apart k t
 
 -- Step 2 leaves no polynomial twice.
-pub tidy-apart : (l : List Atom) {m : List Atom} → tidy l ≡ tidied m → Apart m
+pub tidy-apart : (l : List Placed) {m : List Placed} → tidy l ≡ tidied m → Apart (plains m)
 unfolding tidy afterMerging
-tidy-apart l e = subst TidiedApart e (by-outcome (merge [] l) (merge-apart l none-apart))
+tidy-apart l e = subst TidiedApart e (by-outcome (merge [] l) (merge-apart l [] none-apart))
   where
     by-outcome : (o : Tidied) → TidiedApart o → TidiedApart (afterMerging o)
     by-outcome broken h = tt
-    by-outcome (tidied k) h = withoutFull-apart h
+    by-outcome (tidied k) h = withoutFull-apart k h

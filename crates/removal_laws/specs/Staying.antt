@@ -2,16 +2,17 @@
 -- 01, "A level", step 5: "an atom is removed if what the other remaining atoms (rounds run afresh on them alone) say of it lies inside its carried set"
 use mathlib.Core.Path.{_≡_, refl, sym, ap, _∙_, subst}
 use mathlib.Core.Bool.{Bool, true, false, not, _&&_, false≢true}
-use mathlib.Core.List.{List, [], _∷_, _++_, append-assoc}
+use mathlib.Core.List.{List, [], _∷_, _++_, append-assoc, map-append}
 use mathlib.Core.Option.{Option, none, some}
 use Prim.Native.Nat.{ℕ}
 use Rattle.rules.specs.Signs.{inside}
 use Rattle.rules.specs.Polynomial.{Polynomial, Atom, byTerms, same, which}
 use Rattle.rules.specs.Rounds.{cutBy, State, settled, run, carried}
-use Rattle.rules.specs.Level.{keptUnless, implied, removeImplied, tidied, tidy}
+use Rattle.rules.specs.Level.{Placed, plain, plains, keptUnless, implied, removeImplied, tidied, tidy, carry}
 use Rattle.sign_laws.specs.Booleans.{and-first, and-second, never-true, never-both, not-true}
 use Rattle.sign_laws.specs.Lists.{Every, every-none, every}
 use Rattle.level_laws.specs.Same.{same-itself}
+use Rattle.level_laws.specs.Carried.{carried-plain}
 use Rattle.removal_laws.specs.Fewer.{inside-wider, Fewer, left-out, all-kept, fewer-append, fewer-both}
 use Rattle.removal_laws.specs.Settled.{run-settles}
 use Rattle.removal_laws.specs.Starts.{run-carries}
@@ -28,9 +29,10 @@ noVariable (some i) = false
 unfoldable pub staysBy : ℕ → State → Atom → Bool
 staysBy n st a = noVariable (which n (a .polynomial)) && not (inside (saidByOthers st (a .polynomial)) (a .set))
 
-unfoldable pub removeFaster : ℕ → State → List Atom → List Atom → List Atom
+unfoldable pub removeFaster : ℕ → State → List Placed → List Placed → List Placed
 removeFaster n st kept [] = kept
-removeFaster n st kept (a ∷ later) = removeFaster n st (keptUnless (not (staysBy n st a) && implied n (kept ++ later) a) a kept) later
+removeFaster n st kept (a ∷ later) =
+    removeFaster n st (keptUnless (not (staysBy n st (plain a)) && implied n (plains (kept ++ later)) (plain a)) a kept) later
 
 -- ---- On the way through the list: the atoms kept so far, and those to come.
 
@@ -54,6 +56,12 @@ remain-next true {kept} {a} {later} r = record {
 remain-next false {kept} {a} {later} r =
     let same : (kept ++ (a ∷ [])) ++ later ≡ kept ++ (a ∷ later) = append-assoc kept (a ∷ []) later in
     record { fewer = rw same (r .fewer); distinct = rw same (r .distinct) }
+
+-- The plain atoms of those that are kept.
+pub kept-plain : (out : Bool) (a : Placed) (kept : List Placed) → plains (keptUnless out a kept) ≡ keptUnless out (plain a) (plains kept)
+unfolding keptUnless
+kept-plain true a kept = refl
+kept-plain false a kept = map-append plain kept (a ∷ [])
 
 no-variable : (n : ℕ) (p : Polynomial) → noVariable (which n p) ≡ true → which n p ≡ none
 unfolding noVariable
@@ -82,23 +90,27 @@ module _ (n : ℕ) (l : List Atom) {st : State} (settles : run n l ≡ settled s
       let not-inside = not-true said (and-second no-var (not said) e) in
       never-true _ (λ i. never-both (inside-wider (a .set) (said-below st p) wider i) not-inside)
 
-  removes-from : (kept rest : List Atom) → Remain (carried n (st .board) l (st .atoms)) kept rest
+  removes-from : (kept rest : List Placed) → Remain (carried n (st .board) l (st .atoms)) (plains kept) (plains rest)
       → removeFaster n st kept rest ≡ removeImplied n kept rest
   unfolding removeFaster removeImplied
   removes-from kept [] r = refl
   removes-from kept (a ∷ later) r =
-      let out = implied n (kept ++ later) a in
-      rw (test-first (staysBy n st a) out (stays-unimplied r)) (removes-from (keptUnless out a kept) later (remain-next out r))
+      let out = implied n (plains (kept ++ later)) (plain a) in
+      let open-or-out : staysBy n st (plain a) ≡ true → out ≡ false
+      = λ e. rw (map-append plain kept later) (stays-unimplied r e) in
+      rw (test-first (staysBy n st (plain a)) out open-or-out)
+      (removes-from (keptUnless out a kept) later
+      (subst (λ (m : List Atom). Remain (carried n (st .board) l (st .atoms)) m (plains later)) (sym (kept-plain out a kept)) (remain-next out r)))
 
-  -- So step 5 with the test first removes what step 5 removes.
-  pub removes-the-same : Apart l
-      → removeFaster n st [] (carried n (st .board) l (st .atoms)) ≡ removeImplied n [] (carried n (st .board) l (st .atoms))
-  removes-the-same h = removes-from [] (carried n (st .board) l (st .atoms)) (remain-first (carries-apart (run-carries n l settles) h .1))
+  -- So step 5 with the test first removes what step 5 removes of the atoms with the carried sets, at whatever places.
+  pub removes-the-same : Apart l → (carrying : List Placed) → plains carrying ≡ carried n (st .board) l (st .atoms)
+      → removeFaster n st [] carrying ≡ removeImplied n [] carrying
+  removes-the-same h carrying e = removes-from [] carrying (rw e (remain-first (carries-apart (run-carries n l settles) h .1)))
 
-  -- And so it does after steps 2 and 3.
-  pub removes-the-same-tidied : (given : List Atom) → tidy given ≡ tidied l
-      → removeFaster n st [] (carried n (st .board) l (st .atoms)) ≡ removeImplied n [] (carried n (st .board) l (st .atoms))
-  removes-the-same-tidied given e = removes-the-same (tidy-apart given e)
+-- And so it does after steps 2 and 3.
+pub removes-the-same-tidied : (n : ℕ) (given l : List Placed) {st : State} → tidy given ≡ tidied l → run n (plains l) ≡ settled st
+    → let carrying = carry l (carried n (st .board) (plains l) (st .atoms)) in removeFaster n st [] carrying ≡ removeImplied n [] carrying
+removes-the-same-tidied n given l {st} e settles = removes-the-same n (plains l) settles (tidy-apart given e) _ (carried-plain n l st settles)
 
 -- ---- Where an atom stands among the settled atoms, the others are those before it and those after it.
 

@@ -8,8 +8,8 @@ use lib.Dec.{leb}
 use lib.IntN.{ℤ}
 use lib.ListN.{length, getD, drop}
 use Rattle.rules.specs.Polynomial.{Polynomial, Atom, normal, constant, same}
-use Rattle.rules.specs.Formula.{end, atom, and, or, Node, leaf, allOf, anyOf, isEnd, eachAtomOf, atoms, alone}
-use Rattle.rules.specs.Level.{Formula, simplify}
+use Rattle.rules.specs.Formula.{Parts, end, atom, and, or, Node, leaf, allOf, anyOf, isEnd, eachAtomOf, atoms, alone}
+use Rattle.rules.specs.Level.{Placed, plain, placedTree, places, simplify}
 use Rattle.rules.specs.Count.{mostRounds}
 use Rattle.rules.specs.Block.{NumberedAtom, Block, Reading, refused, read, readBlock, writeBlock}
 
@@ -29,7 +29,7 @@ unfoldable pub addedUnless : Bool → Polynomial → List Polynomial → List Po
 addedUnless true p table = table
 addedUnless false p table = table ++ (p ∷ [])
 
-unfoldable pub used : List Polynomial → Formula → List Polynomial
+unfoldable pub used : List Polynomial → Parts Atom → List Polynomial
 used table end = table
 used table (atom a rest) = used (addedUnless (knows table (a .polynomial)) (a .polynomial) table) rest
 used table (and kids rest) = used (used table kids) rest
@@ -57,7 +57,7 @@ unfoldable pub ifEnd : Bool → Verdict → Verdict
 ifEnd true verdict = verdict
 ifEnd false verdict = formula
 
-unfoldable pub verdictOf : Node Atom → Verdict
+unfoldable pub verdictOf : {A : Type 0} → Node A → Verdict
 verdictOf (leaf a) = formula
 verdictOf (allOf kids) = ifEnd (isEnd kids) always
 verdictOf (anyOf kids) = ifEnd (isEnd kids) unsatisfiable
@@ -112,12 +112,15 @@ unfoldable pub isRefusal : Answer → Bool
 isRefusal (refusal number) = true
 isRefusal (answered verdict bytes counts) = false
 
--- The simplified formula of a block, and the block it is written as.
-unfoldable pub simplified : Block → Node Atom
-simplified given = simplify (given .variables) (formulaOf given)
+-- The simplified formula of a block, its atoms with their places; the block it is written as; and the places of its atoms in reading order.
+unfoldable pub simplified : Block → Node Placed
+simplified given = simplify (given .variables) (placedTree (formulaOf given))
 
 unfoldable pub newBlock : Block → Block
-newBlock given = blockOf (given .variables) (simplified given)
+newBlock given = blockOf (given .variables) (eachAtomOf plain (simplified given))
+
+unfoldable pub newPlaces : Block → List ℕ
+newPlaces given = places (alone (simplified given))
 
 unfoldable pub answerTo : Reading Block → Answer
 answerTo (refused number) = refusal number
@@ -126,7 +129,7 @@ answerTo (read given stream) = answered (verdictOf (simplified given)) (writeBlo
 -- Request #108: "the largest number of rounds that one run of the rounds took"; a refusal has no run.
 unfoldable pub roundsOf : Reading Block → ℕ
 roundsOf (refused number) = 0
-roundsOf (read given stream) = mostRounds (given .variables) (formulaOf given)
+roundsOf (read given stream) = mostRounds (given .variables) (placedTree (formulaOf given))
 
 -- 1: "lent output shorter than lent input"; it is tried before all others.
 unfoldable pub unlessShort : Bool → Answer → Answer
@@ -136,7 +139,24 @@ unlessShort false answer = refusal 1
 unfoldable pub answer : ℕ → List ℕ → Answer
 answer room bytes = unlessShort (leb (length bytes) room) (answerTo (readBlock bytes))
 
+-- ---- 02, #105: "The places go to a lent slice of 255 bytes". "Refusals: 18 if that slice is shorter than 255, tried directly after 1."
+unfoldable pub unlessFew : Bool → Answer → Answer
+unlessFew true answer = answer
+unlessFew false answer = refusal 18
+
+unfoldable pub placedAnswer : ℕ → ℕ → List ℕ → Answer
+placedAnswer room few bytes = unlessShort (leb (length bytes) room) (unlessFew (leb 255 few) (answerTo (readBlock bytes)))
+
+-- "one for each atom of the answer in order, the others unchanged; on refusal all are"
+unfoldable pub readPlaces : Reading Block → List ℕ
+readPlaces (refused number) = []
+readPlaces (read given stream) = newPlaces given
+
+unfoldable pub placesWritten : Answer → Reading Block → List ℕ → List ℕ
+placesWritten (refusal number) reading slice = slice
+placesWritten (answered verdict bytes counts) reading slice = readPlaces reading ++ drop (length (readPlaces reading)) slice
+
 -- To unfold this is to unfold every definition of this file.
 unfoldable pub open-answer : Unit {0}
-unfolding lookedUp formulaOf knows addedUnless used hereOr numberIn numbered blockOf ifEnd verdictOf unlessConstant withoutConstants formsUsed countsOf written filledPart isRefusal simplified newBlock answerTo roundsOf unlessShort answer
+unfolding lookedUp formulaOf knows addedUnless used hereOr numberIn numbered blockOf ifEnd verdictOf unlessConstant withoutConstants formsUsed countsOf written filledPart isRefusal simplified newBlock newPlaces answerTo roundsOf unlessShort answer unlessFew placedAnswer readPlaces placesWritten
 open-answer = tt

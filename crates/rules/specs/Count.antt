@@ -5,41 +5,42 @@ use Prim.Native.Nat.{ℕ, zero, suc, _+_, max}
 use Rattle.rules.specs.Polynomial.{Atom}
 use Rattle.rules.specs.Rounds.{Outcome, contradiction, settled, begun, start, enough, run, carried}
 use Rattle.rules.specs.Formula.{end, atom, Node, leaf, allOf, anyOf}
-use Rattle.rules.specs.Level.{Formula, dual, atomsOf, orsOf, Entry, fails, joins, stays, enter, Walk, falls, still, moved, gather, Tidied, broken, tidied, tidy}
-use Rattle.rules.specs.Level.{sweep, keptUnless, implied, innerAll, andRule, orRule}
+use Rattle.rules.specs.Level.{Placed, plain, plains, Formula, dual, atomsOf, orsOf, Entry, fails, joins, stays, enter, Walk, falls, still, moved, gather, Tidied, broken, tidied, tidy}
+use Rattle.rules.specs.Level.{carry, sweep, keptUnless, implied, innerAll, andRule, orRule}
 
 -- "the number of rounds begun" in the run over a list
 unfoldable pub runCount : ℕ → List Atom → ℕ
 runCount n l = let st = start n l in begun n (enough st) st
 
 -- ---- Step 5: "rounds run afresh" on the other remaining atoms, for each atom in order.
-unfoldable pub removalCount : ℕ → List Atom → List Atom → ℕ
+unfoldable pub removalCount : ℕ → List Placed → List Placed → ℕ
 removalCount n kept [] = 0
-removalCount n kept (a ∷ later) = max (runCount n (kept ++ later)) (removalCount n (keptUnless (implied n (kept ++ later) a) a kept) later)
+removalCount n kept (a ∷ later) =
+    let others = plains (kept ++ later) in max (runCount n others) (removalCount n (keptUnless (implied n others (plain a)) a kept) later)
 
 -- ---- Steps 2 to 5 in a row: a node that is false has no further run. "If any did, go to 2": again counts from there.
 abbrev pub CountAgain : Type 0
-CountAgain = List Atom → List Formula → ℕ
+CountAgain = List Placed → List Formula → ℕ
 
-unfoldable pub sweepCount : ℕ → List Atom → Walk → CountAgain → ℕ
+unfoldable pub sweepCount : ℕ → List Placed → Walk → CountAgain → ℕ
 sweepCount n l falls again = 0
 sweepCount n l (still ors) again = removalCount n [] l
 sweepCount n l (moved new ors) again = again (l ++ new) ors
 
-unfoldable pub outcomeCount : ℕ → List Atom → Outcome → List Formula → CountAgain → ℕ
+unfoldable pub outcomeCount : ℕ → List Placed → Outcome → List Formula → CountAgain → ℕ
 outcomeCount n l contradiction ors again = 0
-outcomeCount n l (settled st) ors again = sweepCount n (carried n (st .board) l (st .atoms)) (sweep n st ors) again
+outcomeCount n l (settled st) ors again = sweepCount n (carry l (carried n (st .board) (plains l) (st .atoms))) (sweep n st ors) again
 
 unfoldable pub tidyCount : ℕ → Tidied → List Formula → CountAgain → ℕ
 tidyCount n broken ors again = 0
-tidyCount n (tidied l) ors again = max (runCount n l) (outcomeCount n l (run n l) ors again)
+tidyCount n (tidied l) ors again = max (runCount n (plains l)) (outcomeCount n l (run n (plains l)) ors again)
 
 -- At most k turns, as in Level; one more than the inner nodes of the children is enough: law `no-count-missing`.
-unfoldable pub settleCount : ℕ → ℕ → List Atom → List Formula → ℕ
+unfoldable pub settleCount : ℕ → ℕ → List Placed → List Formula → ℕ
 settleCount n zero l ors = 0
-settleCount n (suc k) l ors = tidyCount n (tidy l) ors (λ (m : List Atom) (later : List Formula). settleCount n k m later)
+settleCount n (suc k) l ors = tidyCount n (tidy l) ors (λ (m : List Placed) (later : List Formula). settleCount n k m later)
 
-unfoldable pub settledCount : ℕ → List Atom → List Formula → ℕ
+unfoldable pub settledCount : ℕ → List Placed → List Formula → ℕ
 settledCount n l ors = settleCount n (1 + innerAll ors) l ors
 
 -- ---- Step 1: the OR children, in order; "False: the node is false at once, later children untouched", so that these have none.
@@ -52,7 +53,7 @@ unfoldable pub gatherCount : (Formula → ℕ) → (Formula → Formula) → Lis
 gatherCount count rule [] = 0
 gatherCount count rule (child ∷ later) = max (count child) (unlessFails (enter (rule child)) (gatherCount count rule later))
 
-unfoldable pub gatheredCount : ℕ → List Atom → Walk → ℕ
+unfoldable pub gatheredCount : ℕ → List Placed → Walk → ℕ
 gatheredCount n l falls = 0
 gatheredCount n l (still ors) = settledCount n l ors
 gatheredCount n l (moved new ors) = settledCount n (l ++ new) ors
@@ -64,7 +65,7 @@ ruleCount n (suc d) kids =
     max (gatherCount (λ (child : Formula). ruleCount n d (dual child)) (orRule n d) (orsOf kids)) (gatheredCount n (atomsOf kids) (gather (orRule n d) (orsOf kids)))
 
 -- The whole tree. "A root atom is an AND of one."
-unfoldable pub mostRounds : ℕ → Node Atom → ℕ
+unfoldable pub mostRounds : ℕ → Node Placed → ℕ
 mostRounds n (leaf a) = ruleCount n 6 (atom a end)
 mostRounds n (allOf kids) = ruleCount n 6 kids
 mostRounds n (anyOf kids) = ruleCount n 6 (dual kids)

@@ -3,15 +3,15 @@
 -- The laws are in crate laws.
 use mathlib.Core.Path.{_≡_}
 use mathlib.Core.Bool.{Bool, true, false}
-use mathlib.Core.List.{List}
+use mathlib.Core.List.{List, []}
 use mathlib.Core.Option.{Option, none, some}
-use Prim.Native.Nat.{ℕ, _≤_}
+use Prim.Native.Nat.{ℕ, _<_, _≤_}
 use lib.IntN.{ℤ}
-use lib.ListN.{length}
+use lib.ListN.{length, getD}
+use Rattle.rules.specs.Polynomial.{Polynomial, Atom, normal}
+use Rattle.rules.specs.Formula.{Node, inOrder, alone}
 use Rattle.rules.specs.Block.{Block, Reading, refused, read, readBlock}
-use Rattle.rules.specs.Answer.{Answer, refusal, answered, formula, always, unsatisfiable, formulaOf}
-use Rattle.rules.specs.Polynomial.{Atom}
-use Rattle.rules.specs.Formula.{Node}
+use Rattle.rules.specs.Answer.{Answer, refusal, answered, formula, always, unsatisfiable, formulaOf, newBlock, newPlaces}
 use Rattle.rules.specs.Meaning.{Choice, holdsAt, holdsOver}
 
 -- Whether what was read holds, by some way to tell of a formula whether it does; none if it was refused.
@@ -46,3 +46,26 @@ unfoldable pub NeverLonger : List ℕ → Answer → Type 0
 NeverLonger given (refusal number) = Unit {0}
 NeverLonger given (answered verdict bytes counts) =
     (counts .atoms-out ≤ counts .atoms-in) × (counts .polynomials-out ≤ counts .polynomials-in) × (length bytes ≤ length given)
+
+-- ---- 02, #105: "The list of places in the answer has no repeats, and each names an input atom of the same normal polynomial."
+
+-- The atoms of a block's formula in reading order, and the normal form of the polynomial of the one at a place. (Past the end: no polynomial.)
+unfoldable pub atomsOf : Block → List Atom
+atomsOf block = inOrder (alone (formulaOf block))
+
+abbrev pub noAtom : Atom
+noAtom = record { polynomial = []; set = 0 }
+
+unfoldable pub formAtPlace : List Atom → ℕ → Polynomial
+formAtPlace l k = normal (getD l k noAtom) .polynomial
+
+-- As many places as atoms out; no repeats; the place at i is that of an input atom whose polynomial has the normal form of the answer's atom at i.
+pub record PlacesName (given new : List Atom) (places : List ℕ) : Type 0 where
+  pub many : length places ≡ length new
+  pub no-repeats : (i j : ℕ) → i < j → j < length places → getD places i 0 ≡ getD places j 0 → ⊥
+  pub of-input : (i : ℕ) → i < length places → getD places i 0 < length given
+  pub same-form : (i : ℕ) → i < length places → formAtPlace given (getD places i 0) ≡ getD new i noAtom .polynomial
+
+unfoldable pub PlacesTell : Reading Block → Type 0
+PlacesTell (refused number) = Unit {0}
+PlacesTell (read given stream) = PlacesName (atomsOf given) (atomsOf (newBlock given)) (newPlaces given)

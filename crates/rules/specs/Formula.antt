@@ -1,6 +1,7 @@
 -- 01, "What is built": "A formula is a tree of AND, OR and atoms." The tree of a block has atoms that name a polynomial by its number,
 -- the tree that is simplified has atoms with the polynomial itself: one kind of tree, over any kind of atom.
 use mathlib.Core.Bool.{Bool, true, false}
+use mathlib.Core.List.{List, [], _∷_, _++_}
 use Prim.Native.Nat.{ℕ, _+_}
 
 -- The parts of an AND or an OR, in order. "An AND with no children is true, an OR with none is false."
@@ -40,6 +41,13 @@ eachAtomOf f (leaf a) = leaf (f a)
 eachAtomOf f (allOf kids) = allOf (eachAtom f kids)
 eachAtomOf f (anyOf kids) = anyOf (eachAtom f kids)
 
+-- The atoms in reading order, parent before children.
+unfoldable pub inOrder : {A : Type 0} → Parts A → List A
+inOrder end = []
+inOrder (atom a rest) = a ∷ inOrder rest
+inOrder (and kids rest) = inOrder kids ++ inOrder rest
+inOrder (or kids rest) = inOrder kids ++ inOrder rest
+
 -- How many children, how many nodes ("tree nodes, atoms counted"), how many atoms.
 unfoldable pub children : {A : Type 0} → Parts A → ℕ
 children end = 0
@@ -65,5 +73,5 @@ alone node = before node end
 
 -- To unfold this is to unfold every definition of this file.
 unfoldable pub open-formula : Unit {0}
-unfolding before isEnd eachAtom eachAtomOf children nodes atoms alone
+unfolding before isEnd eachAtom eachAtomOf inOrder children nodes atoms alone
 open-formula = tt

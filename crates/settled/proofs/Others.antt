@@ -1,6 +1,6 @@
 -- What a state says of a polynomial by the others, and where its atom stands: the others are the atoms before it and those after it.
 -- So whether an atom stays, by what its slot holds; and step 5 with the test first is step 5.
-use mathlib.Core.Path.{_≡_, sym, _∙_, ap, subst}
+use mathlib.Core.Path.{_≡_, sym, _∙_, ap}
 use mathlib.Core.Bool.{Bool, true, false, not, _&&_}
 use mathlib.Core.List.{List, [], _∷_, _++_, append-nil}
 use Prim.Native.Nat.{ℕ, zero, suc, _+_, _-_, _<_, _≤_}
@@ -107,12 +107,8 @@ module _ (t : Table) (st : State) (a : Atom) {holds : Holds} (is : variableOf ho
 
 -- with the test first it is step 5
 pub test-first : {t : Table} {state : State} {list : Atoms} {r : Remaining} → CarriedFrom t state (atomsOf t list)
-    → RemainingOf t list (removeFaster (t .variables) (stateOf t state) [] (atomsOf t list)) r
-    → RemainingOf t list (removeImplied (t .variables) [] (atomsOf t list)) r
-test-first {t} {state} {list} {r} from =
-    let same : removeFaster (t .variables) (stateOf t state) [] (atomsOf t list) ≡ removeImplied (t .variables) [] (atomsOf t list) =
-    rw (from .atoms) (removes-the-same (t .variables) (from .given) (from .settles) (from .distinct)) in
-    subst (λ (l : List Atom). RemainingOf t list l r) same
+    → RemainingOf t list (removeFaster (t .variables) (stateOf t state) []) r → RemainingOf t list (removeImplied (t .variables) []) r
+test-first {t} from h = record { keep = λ l e. h .keep l e ∙ removes-the-same (t .variables) (from .given) (from .settles) (from .distinct) l (e ∙ from .atoms) }
 
 -- the settled atoms have no polynomial twice
 pub state-apart : {t : Table} {state : State} {l : List Atom} → CarriedFrom t state l → Apart (atomsOf t (state .atoms))

@@ -2,16 +2,15 @@
 use mathlib.Core.Path.{_≡_}
 use mathlib.Core.Bool.{Bool, true, false, not}
 use mathlib.Core.List.{List, [], _∷_}
-use Prim.Native.Nat.{ℕ, zero, suc, _+_, _≤_}
+use Prim.Native.Nat.{ℕ, suc, _+_, _≤_}
 use lib.ListN.{getD, set}
-use Rattle.rules.specs.Signs.{SignSet}
 use Rattle.rules.specs.Polynomial.{Atom}
 use Rattle.rules.specs.Rounds.{run, settled, carried}
-use Rattle.rules.specs.Level.{keptUnless}
+use Rattle.rules.specs.Level.{Placed, plains, keptUnless}
 use Rattle.removal_laws.specs.Apart.{Apart}
 use Rattle.terms.specs.View.{setsOf}
 use Rattle.table.specs.declared.Atoms.{Atoms}
-use Rattle.table.specs.Table.{Table, atomAt, atomsOf, many}
+use Rattle.table.specs.Table.{Table, atomAt, atomsOf}
 use Rattle.round.specs.declared.State.{State}
 use Rattle.round.specs.Views.{stateOf}
 use Rattle.settled.specs.declared.removal.Remaining.{Remaining}
@@ -24,17 +23,14 @@ pub record CarriedFrom (t : Table) (state : State) (l : List Atom) : Type 0 wher
   pub variables : state .board .variables ≡ t .variables
   pub atoms : l ≡ carried (t .variables) (setsOf (state .board)) given (atomsOf t (state .atoms))
 
-unfoldable pub consIf : Bool → Atom → List Atom → List Atom
-consIf true a l = a ∷ l
-consIf false a l = l
+-- What remains of a list, by a mark for each element, from mark i on.
+unfoldable pub keptWhen : {A : Type 0} → Bool → A → List A → List A
+keptWhen true a l = a ∷ l
+keptWhen false a l = l
 
--- the atoms at the places that are kept, of the k places from i on
-unfoldable pub keptFrom : Table → List ℕ → List SignSet → List Bool → ℕ → ℕ → List Atom
-keptFrom t numbers sets keep i zero = []
-keptFrom t numbers sets keep i (suc k) = consIf (getD keep i false) (atomAt t numbers sets i) (keptFrom t numbers sets keep (suc i) k)
-
-abbrev pub keptOf : Table → Atoms → List Bool → List Atom
-keptOf t list keep = keptFrom t (list .number) (list .set) keep 0 (many (list .count))
+unfoldable pub remaining : {A : Type 0} → List Bool → ℕ → List A → List A
+remaining keep i [] = []
+remaining keep i (a ∷ l) = keptWhen (getD keep i false) a (remaining keep (suc i) l)
 
 -- one atom more of the list, the one at i, unless it is out
 pub record KeptUnless (out : Bool) (kept : Remaining) (list : Atoms) (i : ℕ) (r : Remaining) : Type 0 where
@@ -42,7 +38,6 @@ pub record KeptUnless (out : Bool) (kept : Remaining) (list : Atoms) (i : ℕ) (
   pub atoms : (t : Table) → atomsOf t (r .atoms) ≡ keptUnless out (atomAt t (list .number) (list .set) i) (atomsOf t (kept .atoms))
   pub keep : r .keep ≡ set (kept .keep) i (not out)
 
--- the atoms that are said remain of the list, and it is told where in it they stand
-pub record RemainingOf (t : Table) (list : Atoms) (l : List Atom) (r : Remaining) : Type 0 where
-  pub atoms : atomsOf t (r .atoms) ≡ l
-  pub keep : keptOf t list (r .keep) ≡ l
+-- of the atoms of the list, at whatever places, those remain that are marked
+pub record RemainingOf (t : Table) (list : Atoms) (removes : List Placed → List Placed) (r : Remaining) : Type 0 where
+  pub keep : (l : List Placed) → plains l ≡ atomsOf t list → remaining (r .keep) 0 l ≡ removes l

@@ -177,7 +177,7 @@ fn remove(
         ⌜ Ready t (setsOf (state .board)) list (now sign) ⌝ }
     ensures { λ r.
         let t = lentTable (coefficient .entry) (monomial .entry) (terms .entry) variables in
-        ⌜ RemainingOf t list (removeFaster variables (stateOf t state) [] (atomsOf t list)) r ⌝ }
+        ⌜ RemainingOf t list (removeFaster variables (stateOf t state) []) r ⌝ }
 {
     let end = many(list.count);
     let mut kept = Remaining {
@@ -229,7 +229,7 @@ pub fn remove_implied(
         ⌜ Forms t × CarriedFrom t state (atomsOf t list) ⌝ }
     ensures { λ r.
         let t = lentTable (coefficient .entry) (monomial .entry) (terms .entry) variables in
-        ⌜ RemainingOf t list (removeImplied variables [] (atomsOf t list)) r ⌝ }
+        ⌜ RemainingOf t list (removeImplied variables []) r ⌝ }
 {
     let board = state.board;
     let atoms = state.atoms;

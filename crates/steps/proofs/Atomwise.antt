@@ -10,7 +10,6 @@ use lib.Dec.{eqb}
 use lib.ListN.{length, take, drop, getD, length-append}
 use lib.Seq.{drop-cons}
 use Rattle.rules.specs.Signs.{SignSet, empty, complement, intersect, inside}
-use Rattle.rules.specs.Polynomial.{Atom}
 use Rattle.rules.specs.Formula.{end, atom, and, or}
 use Rattle.rules.specs.Level.{Formula, complemented, dual, orParts, parts, unlessDropped, prunedIf, prune}
 use Rattle.sign_laws.specs.Sets.{intersect-below, complement-below}
@@ -20,12 +19,12 @@ use Rattle.round.specs.declared.State.{State}
 use Rattle.steps.specs.declared.sweeping.Cut.{Cut}
 use Rattle.steps.specs.declared.sweeping.Pruned.{Pruned}
 use Rattle.tape.specs.Row.{Lists}
-use Rattle.tape.specs.Token.{slot, atomOf, atomsIn}
+use Rattle.tape.specs.Token.{slot, place, atomOf, atomsIn}
 use Rattle.tape.specs.Tape.{Children, orsIn}
 use Rattle.round.specs.Views.{stateOf}
 use Rattle.steps.specs.Swept.{said, CutIs, unlessSo, PruneIs}
 use Rattle.tape.specs.Listing.{held-at}
-use Rattle.tape.specs.Entering.{complement-twice}
+use Rattle.tape.specs.Entering.{complement-twice, same-place}
 
 -- ---- one atom
 
@@ -38,10 +37,11 @@ cut-is t state token heard set cut kept left implied gone p q a b g k e =
     let kept-small : kept < 8 = rw k (complement-below cut) in
     let same-slot : left / 8 % 64 ≡ token / 8 % 64 = omega arith in
     let new-set : left % 8 ≡ complement cut = omega (arith, k) in
+    let same-origin : place left ≡ place token = ap place e ∙ same-place token (kept % 8) (omega arith) in
     record {
       implied = rw (sym p, sym q, a);
       gone = rw (sym p, sym q, sym b, g);
-      keeps = rw (same-slot, new-set, complement-twice cut small, sym q, sym p, sym b);
+      keeps = rw (same-slot, new-set, same-origin, complement-twice cut small, sym q, sym p, sym b);
     }
 
 -- ---- the loop over a child's atoms

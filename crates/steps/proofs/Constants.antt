@@ -10,8 +10,8 @@ use lib.Dec.{eqb}
 use lib.IntN.{ℤ, pos}
 use lib.ListN.{getD}
 use Rattle.rules.specs.Signs.{Sign, negative, nought, positive, SignSet, only, has, bit, inside, signOf, open-signs}
-use Rattle.rules.specs.Polynomial.{Atom, normal, onlyIf, constant}
-use Rattle.rules.specs.Level.{Tidied, broken, mergeInto, mergeConstant, mergeNormal}
+use Rattle.rules.specs.Polynomial.{onlyIf, constant}
+use Rattle.rules.specs.Level.{Placed, normalPlaced, Tidied, broken, mergeInto, mergeConstant, mergeNormal}
 use Rattle.table.specs.Table.{Table, formAt, Forms}
 use Rattle.table.specs.Constants.{many-terms, no-terms, one-term}
 use Rattle.steps.specs.declared.tidying.Truth.{Truth}
@@ -40,23 +40,19 @@ inside-only positive a = one (eqb (a / 1 % 2) 1)
 
 -- ---- what it makes of the atom
 
-decided : (b : Bool) (l : List Atom) (more : List Atom → Tidied) (merged : Tidied) → mergeConstant b l more ≡ afterTruth (truthIf b) merged (more l)
+decided : (b : Bool) (l : List Placed) (more : List Placed → Tidied) (merged : Tidied) → mergeConstant b l more ≡ afterTruth (truthIf b) merged (more l)
 unfolding mergeConstant afterTruth truthIf
 decided true l more merged = refl
 decided false l more merged = refl
 
 module _ {t : Table} (forms : Forms t) (x : ℕ) where
   -- an atom of the table is its own normal form
-  own : normal (atomOf t x) ≡ atomOf t x
-  unfolding atomOf
-  own = forms .own (slot x) (x % 8) (omega arith)
-
   is-open : constant (formAt t (slot x)) ≡ none → TruthIs t x Open
-  unfolding atomOf mergeNormal afterTruth
+  unfolding atomOf normalPlaced mergeNormal afterTruth
   is-open e = record { is = λ l more. rw (forms .own (slot x) (x % 8) (omega arith), e) }
 
   is-decided : (c : ℤ) (b : Bool) → constant (formAt t (slot x)) ≡ some c → b ≡ inside (only (signOf c)) (x % 8) → TruthIs t x (truthIf b)
-  unfolding atomOf mergeNormal
+  unfolding atomOf normalPlaced mergeNormal
   is-decided c b e d = record {
     is = λ l more. rw (forms .own (slot x) (x % 8) (omega arith), e, d ∙ inside-only (signOf c) (x % 8)) (decided (has (signOf c) (x % 8)) l more _);
   }

@@ -8,25 +8,27 @@ use native.Mathlib.Omega.{arith}
 use lib.ListN.{length, getD, drop, length-append}
 use Rattle.rules.specs.Polynomial.{Atom}
 use Rattle.rules.specs.Rounds.{State, Outcome, run, settled, carried}
-use Rattle.rules.specs.Level.{removeImplied}
+use Rattle.rules.specs.Level.{Placed, plains, carry, removeImplied}
 use Rattle.sign_laws.specs.Lists.{every-none, every}
+use Rattle.length_laws.specs.RoundsKeep.{AllSmall, carried-small}
 use Rattle.terms.specs.View.{setsOf}
 use Rattle.table.specs.declared.Atoms.{Atoms}
-use Rattle.table.specs.Table.{Table, formAt, many, atomAt, atomsFrom, atomsOf}
+use Rattle.table.specs.Table.{Table, many, atomsFrom, atomsOf}
 use Rattle.tape.specs.declared.rows.Row.{Row}
 use Rattle.round.specs.declared.State.{State as Left}
 use Rattle.rounds.specs.declared.Ran.{Ran}
 use Rattle.steps.specs.declared.carrying.Carrying.{Carrying}
 use Rattle.tape.specs.Row.{Lists}
-use Rattle.tape.specs.Token.{slot, atomOf, atomsIn}
+use Rattle.tape.specs.Token.{slot, place, atomOf, atomsIn}
+use Rattle.tape.specs.Entering.{same-place}
 use Rattle.round.specs.Views.{stateOf}
 use Rattle.settled.specs.declared.removal.Remaining.{Remaining}
 use Rattle.rounds.specs.Views.{ending, outcomeOf}
 use Rattle.rounds.specs.Run.{RunOf}
 use Rattle.settled.specs.Carried.{Carried}
-use Rattle.settled.specs.Remaining.{consIf, keptFrom, keptOf, RemainingOf}
-use Rattle.steps.specs.Carried.{withSets, keptWhen, remaining, Carries, Remains}
-use Rattle.steps.proofs.SmallSets.{AllSmall, carried-small, tokens-small}
+use Rattle.settled.specs.Remaining.{keptWhen, remaining, RemainingOf}
+use Rattle.steps.specs.Carried.{withSets, Carries, Remains}
+use Rattle.steps.proofs.SmallSets.{tokens-small}
 
 -- ---- tokens with other sets
 
@@ -57,28 +59,22 @@ unfolding withSets
 length-withSets sets i [] = refl
 length-withSets sets i (x ∷ l) = ap suc (length-withSets sets (suc i) l)
 
--- tokens whose slots have the forms of the numbers, with small sets, are the atoms of the numbers and sets
-with-sets-are : (t : Table) (l numbers old sets : List ℕ) (i : ℕ) → atomsFrom t numbers old i (length l) ≡ atomsIn t l → AllSmall (atomsFrom t numbers sets i (length l))
-    → atomsIn t (withSets sets i l) ≡ atomsFrom t numbers sets i (length l)
-unfolding withSets atomsFrom atomOf
-with-sets-are t [] numbers old sets i e every-none = refl
-with-sets-are t (x ∷ l) numbers old sets i e (every h hs) =
-    let form : formAt t (getD numbers i 0 % 64) ≡ formAt t (slot x) = ap (λ (a : Atom). a .polynomial) (heads e) in
-    let set-is : getD sets i 0 % 8 ≡ getD sets i 0 = omega (arith, h .bits) in
-    let same-slot : (x / 8 * 8 + getD sets i 0 % 8) / 8 % 64 ≡ slot x = omega arith in
-    let new-set : (x / 8 * 8 + getD sets i 0 % 8) % 8 ≡ getD sets i 0 = omega (arith, h .bits) in
-    ap₂ (λ (a : Atom) (m : List Atom). a ∷ m) (rw (same-slot, new-set, form)) (with-sets-are t l numbers old sets (suc i) (tails e) hs)
-  where
-    heads : {a b : Atom} {k m : List Atom} → a ∷ k ≡ b ∷ m → a ≡ b
-    heads e = cc
-
-    tails : {a b : Atom} {k m : List Atom} → a ∷ k ≡ b ∷ m → k ≡ m
-    tails e = cc
+-- tokens with small sets are the atoms that carry these sets, at their places
+carry-are : (t : Table) (l numbers sets : List ℕ) (i : ℕ) → AllSmall (atomsFrom t numbers sets i (length l))
+    → carry (atomsIn t l) (atomsFrom t numbers sets i (length l)) ≡ atomsIn t (withSets sets i l)
+unfolding withSets atomsFrom atomOf carry
+carry-are t [] numbers sets i every-none = refl
+carry-are t (x ∷ l) numbers sets i (every h hs) =
+    let v = x / 8 * 8 + getD sets i 0 % 8 in
+    let same-slot : slot v ≡ slot x = omega arith in
+    let new-set : v % 8 ≡ getD sets i 0 = omega (arith, h .bits) in
+    let same-origin : place v ≡ place x = same-place x (getD sets i 0 % 8) (omega arith) in
+    ap₂ (λ (a : Placed) (m : List Placed). a ∷ m) (rw (same-slot, new-set, same-origin)) (carry-are t l numbers sets (suc i) hs)
 
 -- ---- step 3
 
-module _ {t : Table} (l : List ℕ) {list : Atoms} (n : list .count ≡ length l) (few : length l ≤ 64) (same : atomsOf t list ≡ atomsIn t l) {ran : Ran} (o : RunOf t list ran) where
-  ran-is : run (t .variables) (atomsIn t l) ≡ ending (ran .contradiction) (stateOf t (ran .state))
+module _ {t : Table} (l : List ℕ) {list : Atoms} (n : list .count ≡ length l) (few : length l ≤ 64) (same : atomsOf t list ≡ plains (atomsIn t l)) {ran : Ran} (o : RunOf t list ran) where
+  ran-is : run (t .variables) (plains (atomsIn t l)) ≡ ending (ran .contradiction) (stateOf t (ran .state))
   ran-is = ap (run (t .variables)) (sym same) ∙ sym (o .outcome)
 
   settled-is : ran .contradiction ≡ false → run (t .variables) (atomsOf t list) ≡ settled (stateOf t (ran .state))
@@ -97,7 +93,6 @@ module _ {t : Table} (l : List ℕ) {list : Atoms} (n : list .count ≡ length l
   pub carries-on : ran .contradiction ≡ false → {cut : Atoms} → Carried t list (carried (t .variables) (setsOf (ran .state .board)) (atomsOf t list) (atomsOf t (ran .state .atoms))) cut
       → (row : Row) → Lists row (withSets (cut .set) 0 l) → Carries t l row (record { contradiction = false; state = ran .state })
   carries-on e {cut} c row h =
-      let many-is : many (list .count) ≡ length l = omega arith in
       let many-cut : many (cut .count) ≡ length l = omega (arith, c .count) in
       let small : AllSmall (atomsOf t cut) = rw (c .atoms) (carried-small (t .variables) (settled-is e) (rw same (tokens-small t l))) in
       record {
@@ -107,8 +102,8 @@ module _ {t : Table} (l : List ℕ) {list : Atoms} (n : list .count ≡ length l
         lists = h;
         same = length-withSets (cut .set) 0 l;
         carries = λ z.
-            rw (sym same) (sym (c .atoms) ∙ rw (many-cut, c .number)
-            (sym (with-sets-are t l (list .number) (list .set) (cut .set) 0 (rw many-is at same) (rw (many-cut, c .number) at small))));
+            ap (λ (m : List Atom). carry (atomsIn t l) (carried (t .variables) (setsOf (ran .state .board)) m (atomsOf t (ran .state .atoms)))) (sym same)
+            ∙ ap (carry (atomsIn t l)) (sym (c .atoms)) ∙ rw many-cut (carry-are t l (cut .number) (cut .set) 0 (rw many-cut at small));
       }
 
 -- ---- step 5
@@ -158,23 +153,11 @@ unfolding remaining
 length-remaining keep i [] = omega arith
 length-remaining keep i (x ∷ l) = omega (arith, length-kept (getD keep i false) x (remaining keep (suc i) l), length-remaining keep (suc i) l)
 
--- the engine keeps atoms by the same marks
-kept-from : (t : Table) (numbers sets : List ℕ) (keep : List Bool) (i k : ℕ) → keptFrom t numbers sets keep i k ≡ remaining keep i (atomsFrom t numbers sets i k)
-unfolding keptFrom remaining atomsFrom consIf keptWhen
-kept-from t numbers sets keep i zero = refl
-kept-from t numbers sets keep i (suc k) =
-    ap (consIf (getD keep i false) (atomAt t numbers sets i)) (kept-from t numbers sets keep (suc i) k) ∙ kept-either (getD keep i false) (atomAt t numbers sets i) (remaining keep (suc i) (atomsFrom t numbers sets (suc i) k))
-  where
-    kept-either : (b : Bool) (a : Atom) (l : List Atom) → consIf b a l ≡ keptWhen b a l
-    kept-either true a l = refl
-    kept-either false a l = refl
-
-pub remains : {t : Table} {l : List ℕ} (list : Atoms) → atomsOf t list ≡ atomsIn t l → {kept : Remaining} → RemainingOf t list (removeImplied (t .variables) [] (atomsOf t list)) kept
+pub remains : {t : Table} {l : List ℕ} (list : Atoms) → atomsOf t list ≡ plains (atomsIn t l) → {kept : Remaining} → RemainingOf t list (removeImplied (t .variables) []) kept
     → (row : Row) → Lists row (remaining (kept .keep) 0 l) → Remains t l row
-unfolding consIf keptWhen
 remains {t} {l} list same {kept} r row h = record {
   list = remaining (kept .keep) 0 l;
   lists = h;
   small = length-remaining (kept .keep) 0 l;
-  is = sym (map-remaining (atomOf t) (kept .keep) 0 l ∙ (rw same at (sym (kept-from t (list .number) (list .set) (kept .keep) 0 (many (list .count))) ∙ r .keep)));
+  is = sym (map-remaining (atomOf t) (kept .keep) 0 l ∙ r .keep (atomsIn t l) (sym same));
 }

@@ -9,6 +9,7 @@ use native.Mathlib.Omega.{arith}
 use lib.ListN.{length, drop, getD, set, length-set}
 use lib.Seq.{drop-cons, getD-set-same, getD-set-other}
 use Rattle.rules.specs.Polynomial.{Atom}
+use Rattle.rules.specs.Level.{plain, plains}
 use Rattle.table.specs.declared.Atoms.{Atoms}
 use Rattle.table.specs.Table.{Table, formAt, many, atomAt, atomsFrom, atomsOf}
 use Rattle.tape.specs.declared.rows.Row.{Row}
@@ -42,19 +43,19 @@ fill-turn {tokens} {numbers} {sets} {i} h k f = record {
 
 from-place : (t : Table) (l numbers sets : List ℕ) (i k : ℕ) → i + k ≡ length l
     → ((j : ℕ) → j < length l → getD numbers j 0 ≡ slot (getD l j 0)) → ((j : ℕ) → j < length l → getD sets j 0 ≡ getD l j 0 % 8)
-    → atomsFrom t numbers sets i k ≡ atomsIn t (drop i l)
+    → atomsFrom t numbers sets i k ≡ plains (atomsIn t (drop i l))
 unfolding atomsFrom atomOf
 from-place t l numbers sets i zero e n s = rw (rest-none l i (omega arith))
 from-place t l numbers sets i (suc k) e n s =
     rw (drop-cons l i 0 (omega arith))
     (ap₂ (λ (a : Atom) (m : List Atom). a ∷ m) first (from-place t l numbers sets (suc i) k (omega arith) n s))
   where
-    first : atomAt t numbers sets i ≡ atomOf t (getD l i 0)
+    first : atomAt t numbers sets i ≡ plain (atomOf t (getD l i 0))
     first = let z : getD numbers i 0 % 64 ≡ slot (getD l i 0) = omega (arith, n i (omega arith)) in rw (z, s i (omega arith))
 
 -- the numbers and sets of all places are the list's atoms
 pub fill-end : {row : Row} {numbers sets : List ℕ} {n : ℕ} → n ≡ row .count → n ≤ 64 → Filled (row .token) numbers sets n
-    → (t : Table) (l : List ℕ) → Lists row l → atomsFrom t numbers sets 0 (many n) ≡ atomsIn t l
+    → (t : Table) (l : List ℕ) → Lists row l → atomsFrom t numbers sets 0 (many n) ≡ plains (atomsIn t l)
 fill-end {row} {numbers} {sets} {n} e few f t l h =
     from-place t l numbers sets 0 (many n) (omega (arith, h .size)) (λ j k. f .number j (omega (arith, h .size)) ∙ ap slot (held-at h j k))
     (λ j k. f .set j (omega (arith, h .size)) ∙ ap (λ (x : ℕ). x % 8) (held-at h j k))

@@ -10,18 +10,18 @@ use lib.Dec.{eqb}
 use lib.ListN.{length, take, drop, getD, set, length-append, length-set}
 use lib.Seq.{take-suc, set-split, take-set-lt, take-all}
 use Rattle.rules.specs.Signs.{intersect}
-use Rattle.rules.specs.Polynomial.{Atom, same}
-use Rattle.rules.specs.Level.{mergedIf, mergeInto, merge, keptIf, withoutFull, afterMerging, tidy, Tidied as Outcome, broken, tidied}
+use Rattle.rules.specs.Polynomial.{same}
+use Rattle.rules.specs.Level.{Placed, withSet, mergedIf, mergeInto, merge, keptIf, withoutFull, afterMerging, tidy, Tidied as Outcome, broken, tidied}
 use Rattle.sign_laws.specs.Sets.{intersect-below}
 use Rattle.table.specs.Table.{Table, formAt, Forms}
 use Rattle.tape.specs.declared.rows.Row.{Row}
 use Rattle.steps.specs.declared.tidying.Truth.{Truth}
 use Rattle.steps.specs.declared.tidying.Truth.the-variants.{Open, True, False}
 use Rattle.tape.specs.Row.{Lists}
-use Rattle.tape.specs.Token.{slot, atomOf, atomsIn}
+use Rattle.tape.specs.Token.{slot, place, atomOf, atomsIn}
 use Rattle.steps.specs.Tidied.{tidiedOf, afterTruth, TruthIs, Absent, Apart, MergesInto, Merges, WithoutFull, Tidies}
 use Rattle.tape.specs.Listing.{held-at, rest-next, rest-none}
-use Rattle.tape.specs.Entering.{map-append}
+use Rattle.tape.specs.Entering.{map-append, same-place}
 use Rattle.steps.proofs.Slots.{absent-more, apart-more, apart-set, apart-front, apart-without, apart-few}
 
 -- ---- one atom into a list
@@ -60,7 +60,7 @@ module _ {t : Table} {x : ℕ} {row : Row} {l : List ℕ} {i : ℕ} (forms : For
       let g : take (i + 1) l ≡ take i l ++ (getD (row .token) i 0 ∷ []) = rw (add-one, held-at h i k) (take-suc l i 0 k) in
       record {
         is = rw (g, map-append (atomOf t) (take i l) (getD (row .token) i 0 ∷ []))
-            (p .is ∙ ap (λ (z : List Atom). atomsIn t (take i l) ++ z) f
+            (p .is ∙ ap (λ (z : List Placed). atomsIn t (take i l) ++ z) f
             ∙ sym (append-assoc (atomsIn t (take i l)) (atomOf t (getD (row .token) i 0) ∷ []) (mergeInto (atomOf t x) (atomsIn t (drop (i + 1) l)))));
         absent = rw g (absent-more (slot x) (take i l) (getD (row .token) i 0) other (p .absent));
       }
@@ -74,7 +74,8 @@ module _ {t : Table} {x : ℕ} {row : Row} {l : List ℕ} {i : ℕ} (forms : For
       let b : eqb (slot x) (slot u) ≡ true = eq-eqb _ _ (sym n) in
       let same-slot : slot v ≡ slot u = omega arith in
       let new-set : v % 8 ≡ s = omega arith in
-      let c : atomOf t v ≡ record { polynomial = atomOf t u .polynomial; set = intersect (atomOf t u .set) (atomOf t x .set) } = rw (same-slot, new-set, m) in
+      let same-origin : place v ≡ place u = ap place w ∙ same-place u (s % 8) (omega arith) in
+      let c : atomOf t v ≡ withSet (atomOf t u) (intersect (atomOf t u .set) (atomOf t x .set)) = rw (same-slot, new-set, same-origin, m) in
       let f : mergeInto (atomOf t x) (atomsIn t (drop i l)) ≡ atomOf t v ∷ atomsIn t (drop (suc i) l) = rw (← add-one i) (here ∙ rw (b, c)) in
       record {
         list = set l i v;
@@ -82,7 +83,7 @@ module _ {t : Table} {x : ℕ} {row : Row} {l : List ℕ} {i : ℕ} (forms : For
           is = rw (e, q) (take-set-lt (row .count) (row .token) i v (omega (arith, h .size)) ∙ ap (λ (z : List ℕ). set z i v) (h .is));
           size = omega (arith, length-set l i v, h .size);
         };
-        is = p .is ∙ ap (λ (z : List Atom). atomsIn t (take i l) ++ z) f
+        is = p .is ∙ ap (λ (z : List Placed). atomsIn t (take i l) ++ z) f
             ∙ sym (ap (atomsIn t) (set-split l i v k) ∙ map-append (atomOf t) (take i l) (v ∷ drop (suc i) l));
         apart = λ a. apart-set l i v k (same-slot ∙ ap slot (held-at h i k)) a;
       }
@@ -115,7 +116,7 @@ merge-end m = record { list = m .list; lists = m .lists; is = sym (m .is); apart
 module _ {t : Table} {all : List ℕ} {row : Row} {x : ℕ} {rest : List ℕ} (m : Merging t all row (x ∷ rest)) (r : Truth) (is-truth : TruthIs t x r) where
   next : merge (atomsIn t (m .list)) (atomsIn t (x ∷ rest)) ≡ afterTruth r (merge (mergeInto (atomOf t x) (atomsIn t (m .list))) (atomsIn t rest)) (merge (atomsIn t (m .list)) (atomsIn t rest))
   unfolding merge
-  next = is-truth .is (atomsIn t (m .list)) (λ (l : List Atom). merge l (atomsIn t rest))
+  next = is-truth .is (atomsIn t (m .list)) (λ (l : List Placed). merge l (atomsIn t rest))
 
   pub merge-false : r ≡ False → Merges t all row true
   unfolding afterTruth tidiedOf
@@ -127,11 +128,11 @@ module _ {t : Table} {all : List ℕ} {row : Row} {x : ℕ} {rest : List ℕ} (m
 
   pub merge-open : r ≡ Open → (longer : Row) → MergesInto t x (m .list) longer → Merging t all longer rest
   unfolding afterTruth
-  merge-open e longer p = record { list = p .list; lists = p .lists; is = ap (λ (l : List Atom). merge l (atomsIn t rest)) (sym (p .is)) ∙ sym (rw e at next) ∙ m .is; apart = p .apart (m .apart) }
+  merge-open e longer p = record { list = p .list; lists = p .lists; is = ap (λ (l : List Placed). merge l (atomsIn t rest)) (sym (p .is)) ∙ sym (rw e at next) ∙ m .is; apart = p .apart (m .apart) }
 
 -- ---- without the full ones
 
-front : List Atom → Outcome → Outcome
+front : List Placed → Outcome → Outcome
 front l broken = broken
 front l (tidied m) = tidied (l ++ m)
 
@@ -147,7 +148,7 @@ unfolding front
 front-nil broken = refl
 front-nil (tidied m) = refl
 
-front-kept : (l : List Atom) (a : Atom) (o : Outcome) → front l (keptIf false false a o) ≡ front (l ++ (a ∷ [])) o
+front-kept : (l : List Placed) (a : Placed) (o : Outcome) → front l (keptIf false false a o) ≡ front (l ++ (a ∷ [])) o
 unfolding front keptIf
 front-kept l a broken = refl
 front-kept l a (tidied m) = ap tidied (sym (append-assoc l (a ∷ []) m))

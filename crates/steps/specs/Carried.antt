@@ -1,11 +1,11 @@
 -- Steps 3 and 5 over tokens: the tokens with other sets, and what the two steps leave, in the book's values.
 use mathlib.Core.Path.{_≡_}
-use mathlib.Core.Bool.{Bool, true, false}
+use mathlib.Core.Bool.{false}
 use mathlib.Core.List.{List, [], _∷_}
 use Prim.Native.Nat.{ℕ, suc, _+_, _*_, _/_, _%_, _≤_}
 use lib.ListN.{length, getD}
 use Rattle.rules.specs.Rounds.{run, carried}
-use Rattle.rules.specs.Level.{removeImplied}
+use Rattle.rules.specs.Level.{plains, carry, removeImplied}
 use Rattle.terms.specs.View.{setsOf}
 use Rattle.table.specs.Table.{Table, atomsOf}
 use Rattle.tape.specs.declared.rows.Row.{Row}
@@ -22,30 +22,22 @@ unfoldable pub withSets : List ℕ → ℕ → List ℕ → List ℕ
 withSets sets i [] = []
 withSets sets i (x ∷ l) = (x / 8 * 8 + getD sets i 0 % 8) ∷ withSets sets (suc i) l
 
--- What remains of a list, by a mark for each element, from mark i on.
-unfoldable pub keptWhen : {A : Type 0} → Bool → A → List A → List A
-keptWhen true a l = a ∷ l
-keptWhen false a l = l
-
-unfoldable pub remaining : {A : Type 0} → List Bool → ℕ → List A → List A
-remaining keep i [] = []
-remaining keep i (a ∷ l) = keptWhen (getD keep i false) a (remaining keep (suc i) l)
-
 -- ---- The two steps.
 
 pub record Carries (t : Table) (l : List ℕ) (row : Row) (r : Carrying) : Type 0 where
-  pub is : run (t .variables) (atomsIn t l) ≡ ending (r .contradiction) (stateOf t (r .state))
+  pub is : run (t .variables) (plains (atomsIn t l)) ≡ ending (r .contradiction) (stateOf t (r .state))
   pub variables : r .state .board .variables ≡ t .variables
   pub list : List ℕ
   pub lists : Lists row list
   pub same : length list ≡ length l
-  pub carries : r .contradiction ≡ false → carried (t .variables) (setsOf (r .state .board)) (atomsIn t l) (atomsOf t (r .state .atoms)) ≡ atomsIn t list
+  pub carries : r .contradiction ≡ false
+      → carry (atomsIn t l) (carried (t .variables) (setsOf (r .state .board)) (plains (atomsIn t l)) (atomsOf t (r .state .atoms))) ≡ atomsIn t list
 
 -- What step 5 asks: the row lists what step 3 left beside the state.
 pub record LeftBy (t : Table) (state : State) (row : Row) : Type 0 where
   pub list : List ℕ
   pub lists : Lists row list
-  pub carries : CarriedFrom t state (atomsIn t list)
+  pub carries : CarriedFrom t state (plains (atomsIn t list))
 
 pub record Remains (t : Table) (l : List ℕ) (row : Row) : Type 0 where
   pub list : List ℕ

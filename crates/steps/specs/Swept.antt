@@ -16,7 +16,7 @@ use Rattle.tape.specs.declared.walks.Walked.{Walked}
 use Rattle.steps.specs.declared.sweeping.Cut.{Cut}
 use Rattle.steps.specs.declared.sweeping.Pruned.{Pruned}
 use Rattle.tape.specs.Row.{Lists}
-use Rattle.tape.specs.Token.{slot, atomOf, atomsIn}
+use Rattle.tape.specs.Token.{slot, place, atomOf, atomsIn}
 use Rattle.tape.specs.Tape.{Children, laid, orsIn}
 use Rattle.tape.specs.Walked.{Stands, afterwards, load}
 use Rattle.round.specs.Views.{stateOf}
@@ -37,7 +37,8 @@ said t state token = saysIn (t .variables) (stateOf t state) (formAt t (slot tok
 pub record CutIs (t : Table) (state : State) (token : ℕ) (r : Cut) : Type 0 where
   pub implied : inside (said t state token) (complement (token % 8)) ≡ r .implied
   pub gone : eqb (intersect (complement (token % 8)) (said t state token)) empty ≡ r .gone
-  pub keeps : complemented (atomOf t (r .token)) ≡ record { polynomial = formAt t (slot token); set = intersect (complement (token % 8)) (said t state token) }
+  pub keeps : complemented (atomOf t (r .token))
+      ≡ record { polynomial = formAt t (slot token); set = intersect (complement (token % 8)) (said t state token); place = place token }
 
 unfoldable pub unlessSo : Bool → Formula → Option Formula
 unlessSo true kids = none

@@ -5,8 +5,8 @@ use mathlib.Core.List.{List, [], _∷_}
 use Prim.Native.Nat.{ℕ, _%_, _≤_}
 use lib.Dec.{eqb}
 use lib.ListN.{length}
-use Rattle.rules.specs.Polynomial.{Atom, normal, constant}
-use Rattle.rules.specs.Level.{Tidied as Outcome, broken, tidied, mergeInto, mergeNormal, merge, withoutFull, tidy}
+use Rattle.rules.specs.Polynomial.{constant}
+use Rattle.rules.specs.Level.{Placed, normalPlaced, Tidied as Outcome, broken, tidied, mergeInto, mergeNormal, merge, withoutFull, tidy}
 use Rattle.table.specs.Table.{Table}
 use Rattle.tape.specs.declared.rows.Row.{Row}
 use Rattle.steps.specs.declared.tidying.Truth.{Truth}
@@ -14,7 +14,7 @@ use Rattle.steps.specs.declared.tidying.Truth.the-variants.{Open, True, 
 use Rattle.tape.specs.Row.{Lists}
 use Rattle.tape.specs.Token.{slot, atomOf, atomsIn}
 
-unfoldable pub tidiedOf : Bool → List Atom → Outcome
+unfoldable pub tidiedOf : Bool → List Placed → Outcome
 tidiedOf true l = broken
 tidiedOf false l = tidied l
 
@@ -30,8 +30,8 @@ afterTruth True merged without = without
 afterTruth False merged without = broken
 
 pub record TruthIs (t : Table) (token : ℕ) (r : Truth) : Type 0 where
-  pub is : (l : List Atom) (more : List Atom → Outcome)
-      → mergeNormal (constant (normal (atomOf t token) .polynomial)) (normal (atomOf t token)) l more ≡ afterTruth r (more (mergeInto (atomOf t token) l)) (more l)
+  pub is : (l : List Placed) (more : List Placed → Outcome)
+      → mergeNormal (constant (normalPlaced (atomOf t token) .polynomial)) (normalPlaced (atomOf t token)) l more ≡ afterTruth r (more (mergeInto (atomOf t token) l)) (more l)
 
 -- ---- Slots: no token of the list names the slot k; no two name the same.
 

@@ -6,6 +6,7 @@ ghost use mathlib.Core.List.{List};
 ghost use Prim.Native.Nat.{ℕ, _+_, _*_, _/_, _%_, _<_, _≤_};
 ghost use lib.ListN.{length};
 ghost use Rattle.rules.specs.Signs.{inside};
+ghost use Rattle.rules.specs.Level.{plains};
 ghost use Rattle.table.specs.Table.{Table, Forms, atomsOf};
 ghost use Rattle.tape.specs.Row.{rowOf, Lists, Ahead};
 ghost use Rattle.tape.specs.Token.{slot, atomsIn};
@@ -174,7 +175,7 @@ pub fn tidy(
 // After step 2 each slot stands at most once, so at most 64 atoms are left.
 pub fn atoms_in(list: &[u32], n: usize) -> Atoms
     requires { ⌜ (n ≤ length (now list)) × (n ≤ 64) ⌝ }
-    ensures { λ r. ⌜ (r .count ≡ n) × ((t : Table) (l : List ℕ) → Lists (rowOf (now (list .entry)) n) l → atomsOf t r ≡ atomsIn t l) ⌝ }
+    ensures { λ r. ⌜ (r .count ≡ n) × ((t : Table) (l : List ℕ) → Lists (rowOf (now (list .entry)) n) l → atomsOf t r ≡ plains (atomsIn t l)) ⌝ }
 {
     let mut atoms = Atoms {
         count: n,

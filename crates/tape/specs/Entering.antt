@@ -7,9 +7,8 @@ use native.Mathlib.Omega.{arith}
 use lib.ListN.{length, take, drop, getD, length-append}
 use lib.Seq.{take-at, drop-at, take-all, drop-drop}
 use Rattle.rules.specs.Signs.{Sign, negative, nought, positive, SignSet, has, setOf, complement}
-use Rattle.rules.specs.Polynomial.{Atom}
 use Rattle.rules.specs.Formula.{end, atom, and, or, isEnd}
-use Rattle.rules.specs.Level.{Formula, complemented, dual, atomsOf, orsOf, orParts, parts, Entry, fails, joins, stays, joinsIf, enter, Walk, falls, still, moved}
+use Rattle.rules.specs.Level.{Placed, Formula, complemented, dual, atomsOf, orsOf, orParts, parts, Entry, fails, joins, stays, joinsIf, enter, Walk, falls, still, moved}
 use Rattle.sign_laws.specs.Booleans.{not-not}
 use Rattle.sign_laws.specs.Sets.{setOf-has, has-complement, complement-below}
 use Rattle.table.specs.Table.{Table}
@@ -17,7 +16,7 @@ use Rattle.tape.specs.declared.rows.Row.{Row}
 use Rattle.tape.specs.declared.walks.Level.{Level}
 use Rattle.tape.specs.declared.walks.Walked.{Walked}
 use Rattle.tape.specs.Row.{Lists}
-use Rattle.tape.specs.Token.{atomOf, atomsIn, opposite}
+use Rattle.tape.specs.Token.{place, atomOf, atomsIn, opposite}
 use Rattle.tape.specs.Tape.{Children, none, child, laid, also, orsIn}
 use Rattle.tape.specs.Walked.{Shows, walkOf, Stands, afterwards, Goes, oneIf, room, load, sizeOf}
 use Rattle.tape.specs.Listing.{held-at, laid-also, laid-child}
@@ -41,6 +40,10 @@ complement-twice s h = rw (back negative, back nought, back positive) (setOf-has
     back : (x : Sign) → not (has x (complement s)) ≡ has x s
     back x = ap not (has-complement x s) ∙ not-not (has x s)
 
+-- another set leaves the place as it is
+pub same-place : (x s : ℕ) → s < 8 → place (x / 8 * 8 + s) ≡ place x
+same-place x s h = let e : (x / 8 * 8 + s) / 512 ≡ x / 512 = omega arith in rw e
+
 -- the opposite token is the complemented atom, and that complemented the atom again
 pub opposite-is : (t : Table) (x : ℕ) → atomOf t (opposite x) ≡ complemented (atomOf t x)
 unfolding atomOf complemented
@@ -48,7 +51,8 @@ opposite-is t x =
     let small : complement (x % 8) < 8 = complement-below (x % 8) in
     let a : opposite x / 8 % 64 ≡ x / 8 % 64 = omega arith in
     let b : opposite x % 8 ≡ complement (x % 8) = omega arith in
-    rw (a, b)
+    let c : place (opposite x) ≡ place x = same-place x (complement (x % 8)) small in
+    rw (a, b, c)
 
 pub complemented-twice : (t : Table) (x : ℕ) → complemented (complemented (atomOf t x)) ≡ atomOf t x
 unfolding atomOf complemented
@@ -71,17 +75,17 @@ dual-twice t l children = atoms-twice t l (orsIn t children) (ors-twice t childr
 
 -- ---- the parts of a level, taken apart again
 
-ors-of-parts : (l : List Atom) (ors : List Formula) → orsOf (parts l ors) ≡ ors
+ors-of-parts : (l : List Placed) (ors : List Formula) → orsOf (parts l ors) ≡ ors
 unfolding orsOf parts orParts
 ors-of-parts [] [] = refl
 ors-of-parts [] (kids ∷ ors) = ap (λ (z : List Formula). kids ∷ z) (ors-of-parts [] ors)
 ors-of-parts (a ∷ l) ors = ors-of-parts l ors
 
-atoms-of-parts : (l : List Atom) (ors : List Formula) → atomsOf (parts l ors) ≡ l
+atoms-of-parts : (l : List Placed) (ors : List Formula) → atomsOf (parts l ors) ≡ l
 unfolding atomsOf parts orParts
 atoms-of-parts [] [] = refl
 atoms-of-parts [] (kids ∷ ors) = atoms-of-parts [] ors
-atoms-of-parts (a ∷ l) ors = ap (λ (z : List Atom). a ∷ z) (atoms-of-parts l ors)
+atoms-of-parts (a ∷ l) ors = ap (λ (z : List Placed). a ∷ z) (atoms-of-parts l ors)
 
 -- ---- which entry a level is
 
@@ -142,7 +146,7 @@ head-of head l own e h = record { atoms = omega arith; inner = omega arith }
 
 -- ---- a walk and an entry
 
-module _ (new l : List Atom) (ors more : List Formula) where
+module _ (new l : List Placed) (ors more : List Formula) where
   walk-fails : (f m : Bool) → afterwards (walkOf f m new ors) fails ≡ falls
   unfolding afterwards walkOf
   walk-fails true m = refl
@@ -231,7 +235,7 @@ module _ {t : Table} {w : Walked} {walk : Walk} (s : Stands t w walk) where
   pub goes-atom : (x : ℕ) (new : Row) → Lists new (s .new ++ (opposite x ∷ [])) → Goes t w walk 1 (walked (w .falls) true new (w .ors)) (joins (complemented (atomOf t x) ∷ []) [])
   unfolding orsIn
   goes-atom x new h =
-      goes-as refl (ap (λ (a : Atom). joins (a ∷ []) []) (opposite-is t x))
+      goes-as refl (ap (λ (a : Placed). joins (a ∷ []) []) (opposite-is t x))
       (goes-joins (opposite x ∷ []) none 1 new (w .ors) h (rw (laid-also (s .children) none, append-nil (laid (s .children))) (s .lies)) (omega arith) (λ k i. omega arith))
 
   pub goes-spliced : (l : List ℕ) (own : Children) (row : Row) → Lists row (laid (child l own none)) → (a : ℕ) → a ≡ length l → (new ors : Row)

@@ -1,19 +1,23 @@
--- Tokens. An atom's is slot * 8 + set, below 2 ^ 9; the bits from 2 ^ 9 up to 2 ^ 24 are free, and every function carries them along.
+-- Tokens. An atom's is place * 512 + slot * 8 + set, below 2 ^ 24. A place is below 254, so that the bits from 2 ^ 17 on are free.
 use mathlib.Core.List.{List, map}
 use Prim.Native.Nat.{ℕ, _+_, _*_, _/_, _%_}
 use Rattle.rules.specs.Signs.{complement}
-use Rattle.rules.specs.Polynomial.{Atom}
+use Rattle.rules.specs.Level.{Placed}
 use Rattle.table.specs.Table.{Table, formAt}
 
 -- The slot of the table that an atom's token names.
 abbrev pub slot : ℕ → ℕ
 slot t = t / 8 % 64
 
--- The atom of a token.
-unfoldable pub atomOf : Table → ℕ → Atom
-atomOf table t = record { polynomial = formAt table (slot t); set = t % 8 }
+-- The place of the input atom that it comes from.
+abbrev pub place : ℕ → ℕ
+place t = t / 512 % 32768
 
-abbrev pub atomsIn : Table → List ℕ → List Atom
+-- The atom of a token.
+unfoldable pub atomOf : Table → ℕ → Placed
+atomOf table t = record { polynomial = formAt table (slot t); set = t % 8; place = place t }
+
+abbrev pub atomsIn : Table → List ℕ → List Placed
 atomsIn table l = map (atomOf table) l
 
 -- The token with the complemented set.

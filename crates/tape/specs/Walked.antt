@@ -3,8 +3,7 @@ use mathlib.Core.Path.{_≡_}
 use mathlib.Core.Bool.{Bool, true, false}
 use mathlib.Core.List.{List, [], _∷_, _++_}
 use Prim.Native.Nat.{ℕ, _+_, _<_, _≤_}
-use Rattle.rules.specs.Polynomial.{Atom}
-use Rattle.rules.specs.Level.{Formula, parts, Entry, fails, joins, stays, Walk, falls, still, moved}
+use Rattle.rules.specs.Level.{Placed, Formula, parts, Entry, fails, joins, stays, Walk, falls, still, moved}
 use Rattle.table.specs.Table.{Table}
 use Rattle.tape.specs.declared.walks.Level.{Level}
 use Rattle.tape.specs.declared.walks.Walked.{Walked}
@@ -26,7 +25,7 @@ sizeOf level = level .atoms .count + level .ors .count
 
 -- ---- A walk.
 
-unfoldable pub walkOf : Bool → Bool → List Atom → List Formula → Walk
+unfoldable pub walkOf : Bool → Bool → List Placed → List Formula → Walk
 walkOf true some-moved new ors = falls
 walkOf false true new ors = moved new ors
 walkOf false false new ors = still ors

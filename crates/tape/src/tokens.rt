@@ -1,5 +1,5 @@
-// Tokens of a tree. An atom's token is the slot of its polynomial in the table, times 8, and its sign set; the bits from 2 ^ 9 up to 2 ^ 24 are
-// free for what is to be told of an atom, and every function carries them along unchanged.
+// Tokens of a tree. An atom's token is its place times 512, the slot of its polynomial in the table times 8, and its sign set; it lies below 2 ^ 24.
+// Every function carries the place along unchanged (02, #105).
 ghost use mathlib.Core.Path.{_≡_};
 ghost use Prim.Native.Nat.{_+_, _*_, _/_, _%_};
 ghost use Rattle.tape.specs.Token.{slot, opposite as oppositeOf};

@@ -1,11 +1,11 @@
 -- `answer_to` meets its contract: what each step ensures is what the next one asks, and at the end the book's answer.
 use borrow.Author.Needs.{needs}
-use mathlib.Core.Path.{_≡_, refl, sym, _∙_}
+use mathlib.Core.Path.{_≡_, refl, sym, _∙_, subst}
 use mathlib.Core.List.{List}
 use Prim.Native.Nat.{ℕ}
 use native.Mathlib.Omega.{arith}
 use lib.ListN.{length}
-use Rattle.rules.specs.Formula.{Node, eachAtomOf}
+use Rattle.rules.specs.Formula.{Node}
 use Rattle.rules.specs.Block.{NumberedAtom}
 use Rattle.rules.specs.Answer.{newBlock}
 use Rattle.block.specs.declared.Held.{Held}
@@ -13,12 +13,12 @@ use Rattle.block.specs.Held.{heldBy, BlockRoom}
 use Rattle.writer.specs.Written.{Writable}
 use Rattle.forms.specs.declared.WorkingTable.{WorkingTable}
 use Rattle.forms.specs.Working.{workingBy, tableOf, blank}
-use Rattle.level.specs.Tree.{Simplified}
+use Rattle.level.specs.Tree.{TreeHeld, Simplified}
 use Rattle.used.specs.Tape.{Holds}
-use Rattle.answer.specs.Tapes.{tokenOf}
+use Rattle.answer.specs.Tapes.{tokenTree}
 use Rattle.answer.specs.Entry.{Accepted}
-use Rattle.answer.specs.Way.{Prepared, asks-table, asks-room, counts-tokens, prepares, asks-tree, asks-atoms, counts-row}
-use Rattle.answer.specs.Way.{simplerTree, simpler-holds, newHeld, collects, writes, answers}
+use Rattle.answer.specs.Way.{Prepared, asks-table, asks-room, counts-tokens, prepares, asks-tree, asks-atoms, counts-row, counts-few}
+use Rattle.answer.specs.Way.{simplerTree, simpler-holds, newHeld, collects, writes, answers, places-told}
 use Rattle.answer.proofs.answer_to.Statement.{statement}
 use Rattle.answer.proofs.answer_to.Tie as tie
 
@@ -32,16 +32,25 @@ ReadFrom bytes s = Accepted bytes (held s) (length (s .args .output .now))
 -- ---- the calls, each seen from the next
 
 abbrev start : tie.After-work → tie.Start
-start c = c .before .before .before .before .before .before .before .before .before .before .before .before .before
+start c = c .before .before .before .before .before .before .before .before .before .before .before .before .before .before
 
 abbrev working : tie.After-normal-tokens → tie.After-work
 working c = c .before .before .before .before .before .before .before .before .before
 
+abbrev normal-of : tie.After-give → tie.After-normal-tokens
+normal-of c = c .before .before .before .before .before .before .before .before .before .before
+
+abbrev giving : tie.After-simplified → tie.After-give
+giving c = c .before .before .before .before .before .before .before
+
 abbrev normalising : tie.After-simplified → tie.After-normal-tokens
-normalising c = c .before .before .before .before .before .before .before .before .before .before .before .before .before
+normalising c = normal-of (giving c)
+
+abbrev telling-of : tie.After-plain-tokens → tie.After-tell
+telling-of c = c .before .before .before .before
 
 abbrev simplifying : tie.After-plain-tokens → tie.After-simplified
-simplifying c = c .before .before .before .before
+simplifying c = telling-of c .before .before .before .before .before
 
 abbrev plaining : tie.After-collect → tie.After-plain-tokens
 plaining c = c .before .before .before .before .before .before .before .before .before .before .before .before
@@ -58,11 +67,23 @@ module _ (c : tie.After-normal-tokens) {bytes : List ℕ} (accepted : ReadFrom b
   prepared : Prepared (accepted .given) (held (start (working c))) (table (working c)) (c .normal-tokens .last .0)
   prepared = prepares accepted (table (working c)) (working c .work .ensures) (c .normal-tokens .last .0) (c .normal-tokens .ensures)
 
+module _ (c : tie.After-give) {bytes : List ℕ} (accepted : ReadFrom bytes (start (working (normal-of c)))) where
+  -- with places,
+  placed : TreeHeld (c .give .last .0) (start (working (normal-of c)) .args .root) (tokenTree (prepared (normal-of c) accepted .tree))
+  placed =
+      let s = start (working (normal-of c)) in
+      subst (λ (l : List ℕ). TreeHeld l (s .args .root) (tokenTree (prepared (normal-of c) accepted .tree))) (sym (c .give .ensures))
+      (asks-tree (prepared (normal-of c) accepted))
+
+  -- as long as what was read,
+  long : length (c .give .last .0) ≡ length (start (working (normal-of c)) .args .token .now)
+  long = c .give .kept .0 ∙ normal-of c .normal-tokens .kept .0
+
 module _ (c : tie.After-simplified) {bytes : List ℕ} (accepted : ReadFrom bytes (start (working (normalising c)))) where
   -- simplified,
   simpler : Simplified (tableOf (start (working (normalising c)) .args .variables) (table (working (normalising c))))
-      (eachAtomOf tokenOf (prepared (normalising c) accepted .tree)) (c .simplified .result)
-  simpler = c .simplified .ensures (eachAtomOf tokenOf (prepared (normalising c) accepted .tree)) (asks-tree (prepared (normalising c) accepted))
+      (tokenTree (prepared (normalising c) accepted .tree)) (c .simplified .result)
+  simpler = c .simplified .ensures (tokenTree (prepared (normalising c) accepted .tree)) (placed (giving c) accepted)
 
   abbrev tree : Node NumberedAtom
   tree = simplerTree (prepared (normalising c) accepted) (c .simplified .result) simpler
@@ -77,6 +98,9 @@ module _ (c : tie.After-plain-tokens) {bytes : List ℕ} (accepted : ReadFrom by
 module _ (c : tie.After-collect) where
   abbrev simplified-at : tie.After-simplified
   simplified-at = simplifying (plaining c)
+
+  abbrev given-at : tie.After-give
+  given-at = giving simplified-at
 
   abbrev normal-at : tie.After-normal-tokens
   normal-at = normalising simplified-at
@@ -93,19 +117,20 @@ module _ (c : tie.After-collect) where
   module _ {bytes : List ℕ} (accepted : ReadFrom bytes first) where
     -- and collected to the new block,
     new-is : new ≡ newHeld (first .args .output .now) accepted (prepared normal-at accepted) (simplified-at .simplified .result) (simpler simplified-at accepted)
+        (given-at .give .last .0)
     new-is =
         collects (first .args .output .now) accepted (prepared normal-at accepted) (simplified-at .simplified .result) (simpler simplified-at accepted)
-        (c .collect .ensures (tree simplified-at accepted) (holds (plaining c) accepted))
+        (given-at .give .last .0) (c .collect .ensures (tree simplified-at accepted) (holds (plaining c) accepted))
 
     -- which can be written.
     new-writable : Writable new (length (first .args .output .now)) (newBlock (accepted .given))
     new-writable =
-        writes (first .args .output .now) accepted (prepared normal-at accepted) (simplified-at .simplified .result) (simpler simplified-at accepted) new new-is
-        (normal-at .normal-tokens .kept .0)
+        writes (first .args .output .now) accepted (prepared normal-at accepted) (simplified-at .simplified .result) (simpler simplified-at accepted)
+        (given-at .give .last .0) new new-is (long given-at accepted)
 
     new-room : BlockRoom (new .coefficient) (new .monomial) (new .terms) (new .token)
     new-room =
-        let room = asks-room accepted (normal-at .normal-tokens .last .0) (normal-at .normal-tokens .kept .0) in
+        let room = asks-room accepted (given-at .give .last .0) (long given-at accepted) in
         let kept = c .collect .kept .1 .1 .1 .1 .1 .1 in
         record {
           coefficients = omega (arith, room .coefficients, kept .0);
@@ -118,65 +143,80 @@ module _ (c : tie.After-collect) where
 
 work-requires : tie.Need-work-requires
 unfolding blank
-work-requires c κs = (asks-table (c .before .before .before .before .before .before .before .before .before .before .before .before .pre .accepted), refl)
+work-requires c κs = (asks-table (c .before .before .before .before .before .before .before .before .before .before .before .before .before .pre .0 .accepted), refl)
 
 normal-tokens-requires : tie.Need-normal-tokens-requires
-normal-tokens-requires c κs = let here = c .before .before .before .before .before .before .before .before in (counts-tokens (start here .pre .accepted), search needs, search needs)
+normal-tokens-requires c κs = let here = c .before .before .before .before .before .before .before .before in (counts-tokens (start here .pre .0 .accepted), search needs, search needs)
 
 atoms-requires : tie.Need-atoms-requires
-atoms-requires c κs = let here = c .before .before .before in asks-atoms (prepared here (start (working here) .pre .accepted))
+atoms-requires c κs = let here = c .before .before .before in asks-atoms (prepared here (start (working here) .pre .0 .accepted))
 
 forms-used-requires : tie.Need-forms-used-requires
 forms-used-requires c κs =
     let here = c .before .before .before .before .before .before .before in
     let forms = working here .work .ensures .forms in
-    (omega (arith, forms .monomials), omega (arith, forms .counts), asks-atoms (prepared here (start (working here) .pre .accepted)))
+    (omega (arith, forms .monomials), omega (arith, forms .counts), asks-atoms (prepared here (start (working here) .pre .0 .accepted)))
+
+give-requires : tie.Need-give-requires
+give-requires c κs =
+    let here = c .before .before .before .before .before .before .before .before .before in
+    let accepted = start (working here) .pre .0 .accepted in
+    (omega (arith, counts-tokens accepted, here .normal-tokens .kept .0), prepared here accepted .holds .few)
 
 -- ---- the simplified tape
 
 simplified-requires : tie.Need-simplified-requires
 simplified-requires c κs =
-    let here = c .before .before .before .before .before .before .before .before .before .before .before .before in
-    let ready = prepared here (start (working here) .pre .accepted) in
-    (working here .work .ensures .forms, (eachAtomOf tokenOf (ready .tree), asks-tree ready))
+    let here = c .before .before .before .before .before .before in
+    let accepted = start (working (normal-of here)) .pre .0 .accepted in
+    (working (normal-of here) .work .ensures .forms, (tokenTree (prepared (normal-of here) accepted .tree), placed here accepted))
+
+tell-requires : tie.Need-tell-requires
+tell-requires c κs =
+    let here = c .before .before .before .before in
+    let accepted = start (working (normalising here)) .pre .0 .accepted in
+    let ready = prepared (normalising here) accepted in (
+      counts-row ready (here .simplified .result) (simpler here accepted),
+      omega (arith, counts-few ready (here .simplified .result) (simpler here accepted), start (working (normalising here)) .pre .1),
+    )
 
 plain-tokens-requires : tie.Need-plain-tokens-requires
 plain-tokens-requires c κs =
-    let here = c .before .before .before in
-    let accepted = start (working (normalising here)) .pre .accepted in
+    let here = c .before .before .before .before .before .before .before .before in
+    let accepted = start (working (normalising here)) .pre .0 .accepted in
     counts-row (prepared (normalising here) accepted) (here .simplified .result) (simpler here accepted)
 
 atoms-requires-2 : tie.Need-atoms-requires-2
 atoms-requires-2 c κs =
     let here = c .before .before in
-    let accepted = start (working (normalising (simplifying here))) .pre .accepted in
+    let accepted = start (working (normalising (simplifying here))) .pre .0 .accepted in
     record { tree = tree (simplifying here) accepted; holds = holds here accepted }
 
 -- ---- the new block
 
 lends-coefficients : tie.Need-slice-aggregate-collect
-lends-coefficients c = let here = c .before .before .before .before .before .before .before .before in sym (working (normalising here) .work .ensures .forms .coefficients)
+lends-coefficients c = sym (working (normalising (simplifying (c .before .before .before .before))) .work .ensures .forms .coefficients)
 
 lends-monomials : tie.Need-slice-aggregate-collect-2
-lends-monomials c = let here = c .before .before .before .before .before .before .before .before .before in sym (working (normalising here) .work .ensures .forms .monomials)
+lends-monomials c = sym (working (normalising (simplifying (c .before .before .before .before .before))) .work .ensures .forms .monomials)
 
 lends-counts : tie.Need-slice-aggregate-collect-3
-lends-counts c = let here = c .before .before .before .before .before .before .before .before .before .before in sym (working (normalising here) .work .ensures .forms .counts)
+lends-counts c = sym (working (normalising (simplifying (c .before .before .before .before .before .before))) .work .ensures .forms .counts)
 
 collect-requires : tie.Need-collect-requires
 collect-requires c κs =
     let here = c .before .before .before .before .before .before .before .before .before .before .before in
     let normal = normalising (simplifying here) in
-    let accepted = start (working normal) .pre .accepted in (
+    let accepted = start (working normal) .pre .0 .accepted in (
       working normal .work .ensures .forms,
       record { tree = tree (simplifying here) accepted; holds = holds here accepted },
-      asks-room accepted (normal .normal-tokens .last .0) (normal .normal-tokens .kept .0),
+      asks-room accepted (giving (simplifying here) .give .last .0) (long (giving (simplifying here)) accepted),
     )
 
 write-requires : tie.Need-write-requires
 write-requires c κs =
     let here = c .before .before .before .before .before .before .before .before .before .before .before .before .before in
-    let accepted = first here .pre .accepted in
+    let accepted = first here .pre .0 .accepted in
     (new-room here accepted, record { block = newBlock (accepted .given); writable = new-writable here accepted })
 
 same-coefficients : tie.Need-same-length
@@ -191,7 +231,10 @@ same-counts c = c .before .before .before .before .before .before .before .befor
 same-tokens : tie.Need-same-length-4
 same-tokens c =
     let here = c .before .before .before .before .before .before .before .before .before .before .before .before .before .before .before .before in
-    here .collect .kept .1 .1 .1 .1 .1 .1 .1 .1 .1 .0 ∙ normal-at here .normal-tokens .kept .0
+    here .collect .kept .1 .1 .1 .1 .1 .1 .1 .1 .1 .0 ∙ given-at here .give .kept .0 ∙ normal-at here .normal-tokens .kept .0
+
+same-places : tie.Need-same-length-6
+same-places c = telling-of (plaining (c .before .before .before .before .before .before .before .before .before .before .before .before .before .before .before .before)) .tell .kept .1 .1 .0
 
 returns : tie.Need-returns
 returns c bytes accepted =
@@ -200,21 +243,27 @@ returns c bytes accepted =
     let here = c .before .before .before .before .before .before .before .before .before .before .before .before .before .before .before .before in
     let counting = here .before .before .before .before .before .before .before .before .before .atoms2 in
     let simplified = simplified-at here in
-    let counted = simplified .before .before .before .before .before .before .before .before .before .atoms in
-    let uses = simplified .before .before .before .before .before .forms-used in
+    let counted = giving simplified .before .before .before .before .before .before .atoms in
+    let uses = giving simplified .before .before .forms-used in
+    let told = telling-of (plaining here) .tell in
     let ready = prepared (normal-at here) accepted in
     let worked = working (normal-at here) in
     let written = writing .ensures _ (new-writable here accepted) in
-    answers (first here .args .output .now) accepted ready (simplified .simplified .result) (simpler simplified accepted) (new here) (new-is here accepted)
-    (writing .last .1 .1 .1 .1 .1 .1 .1 .1 .0) (counted .result) (counting .result) (uses .result) (writing .result) (telling .result)
-    (written .0) (written .1) (counted .ensures (ready .tree) (ready .holds)) (counting .ensures (tree simplified accepted) (holds (plaining here) accepted))
-    (uses .ensures (first here .args .variables) (table worked .coefficient) (ready .tree) (worked .work .ensures .forms) (ready .holds)) (telling .ensures)
+    let tape = given-at here .give .last .0 in (
+      answers (first here .args .output .now) accepted ready (simplified .simplified .result) (simpler simplified accepted) tape (new here) (new-is here accepted)
+          (writing .last .1 .1 .1 .1 .1 .1 .1 .1 .0) (counted .result) (counting .result) (uses .result) (writing .result) (telling .result) (written .0) (written .1)
+          (counted .ensures (ready .tree) (ready .holds)) (counting .ensures (tree simplified accepted) (holds (plaining here) accepted))
+          (uses .ensures (first here .args .variables) (table worked .coefficient) (ready .tree) (worked .work .ensures .forms) (ready .holds)) (telling .ensures),
+      places-told (first here .args .output .now) accepted ready (simplified .simplified .result) (simpler simplified accepted) tape
+          (first here .args .places .now) (told .last .1 .1 .0) (told .ensures),
+    )
 
 pub answer-to-spec : {M : Type 1} → statement M
 answer-to-spec =
     tie.close
     (tie.spec (λ c. search needs) (λ c. search needs) (λ c. search needs) (λ c. search needs) (λ c. search needs) work-requires
-    (λ c. search needs) (λ c. search needs) normal-tokens-requires atoms-requires (λ c. search needs) (λ c. search needs) forms-used-requires
-    (λ c. search needs) (λ c. search needs) (λ c. search needs) simplified-requires (λ c. search needs) plain-tokens-requires (λ c. search needs) atoms-requires-2
+    (λ c. search needs) (λ c. search needs) normal-tokens-requires atoms-requires (λ c. search needs) (λ c. search needs) forms-used-requires give-requires
+    (λ c. search needs) (λ c. search needs) (λ c. search needs) simplified-requires (λ c. search needs) tell-requires
+    (λ c. search needs) plain-tokens-requires (λ c. search needs) atoms-requires-2
     lends-coefficients lends-monomials lends-counts (λ c. search needs) collect-requires (λ c κs. search needs) write-requires
-    same-coefficients same-monomials same-counts same-tokens (λ c. search needs) returns)
+    same-coefficients same-monomials same-counts same-tokens (λ c. search needs) same-places returns)

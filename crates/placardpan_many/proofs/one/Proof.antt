@@ -5,14 +5,14 @@ use borrow.Author.Needs.{needs}
 use Rattle.placardpan_many.proofs.one.Statement.{statement}
 use Rattle.placardpan_many.proofs.one.Tie as tie
 
-slice-aggregate-print-answer : tie.Need-slice-aggregate-print-answer
-slice-aggregate-print-answer c =
+slice-aggregate-print-asked : tie.Need-slice-aggregate-print-asked
+slice-aggregate-print-asked c =
     let read = c .before .before .before .before .before .next in
     sym (length-take-le (read .result .length) (read .last .0) (read .ensures .0))
 
 pub one-spec : {M : Type 1} → statement M
 one-spec =
     tie.close
-    (tie.spec (λ c κs. search needs) (λ c. search needs) (λ c. search needs) slice-aggregate-print-answer (λ c κs. search needs) (λ c. search needs)
+    (tie.spec (λ c κs. search needs) (λ c. search needs) (λ c. search needs) slice-aggregate-print-asked (λ c κs. search needs) (λ c. search needs)
     (λ c. search needs) (λ c κs. search needs) (λ c. search needs) (λ c. search needs) (λ c. search needs) (λ c. search needs) (λ c. search needs)
     (λ c. search needs) (λ c. search needs) (λ c. search needs) (λ c. search needs))
