@@ -28,7 +28,8 @@ pub data PairsWithin (n : ℕ) : ℕ → List Pair → Type 0 where
   no-pairs : {least : ℕ} → PairsWithin n least []
   pairs : {least : ℕ} {p : Pair} {ps : List Pair} → PairWithin n least p → PairsWithin n (suc (p .variable)) ps → PairsWithin n least (p ∷ ps)
 
-from-less : {n least : ℕ} {ps : List Pair} (fewer : ℕ) → fewer ≤ least → PairsWithin n least ps → PairsWithin n fewer ps
+-- Pairs that rise from one number on rise from any smaller one on.
+pub from-less : {n least : ℕ} {ps : List Pair} (fewer : ℕ) → fewer ≤ least → PairsWithin n least ps → PairsWithin n fewer ps
 from-less fewer h no-pairs = no-pairs
 from-less {n} fewer h (pairs {p = p} first others) =
     let further : PairWithin n fewer p =

@@ -83,7 +83,7 @@ no-longer edition a b fewer-bits fewer-nodes fewer-atoms = rw (length-body editi
 
 -- ---- The limits.
 
-atoms-at-most : (parts : Parts NumberedAtom) → atoms parts ≤ nodes parts
+pub atoms-at-most : (parts : Parts NumberedAtom) → atoms parts ≤ nodes parts
 unfolding atoms nodes
 atoms-at-most end = omega arith
 atoms-at-most (atom a rest) = omega (arith, atoms-at-most rest)
@@ -95,23 +95,23 @@ unfoldable pub mostBits : Edition → ℕ
 mostBits edition1 = 96
 mostBits edition2 = 165
 
-term-at-most : (edition : Edition) (n : ℕ) (t : Term) → n ≤ 16 → length (writeTerm edition n t) ≤ mostBits edition
+pub term-at-most : (edition : Edition) (n : ℕ) (t : Term) → n ≤ 16 → length (writeTerm edition n t) ≤ mostBits edition
 unfolding writeExponents mostBits
 term-at-most edition1 n t few = rw (length-term edition1 n t, length-field) (omega arith)
 term-at-most edition2 n t few =
     rw (length-term edition2 n t, length-append, length-field, length-pairs) (omega (arith, pairs-at-most n (t .monomial)))
 
-terms-at-most : (edition : Edition) (n : ℕ) (p : Polynomial) → n ≤ 16 → length (writeTerms edition n p) ≤ length p * mostBits edition
+pub terms-at-most : (edition : Edition) (n : ℕ) (p : Polynomial) → n ≤ 16 → length (writeTerms edition n p) ≤ length p * mostBits edition
 unfolding writeTerms
 terms-at-most edition n [] few = omega arith
 terms-at-most edition n (t ∷ ts) few = rw (length-append) (omega (arith, term-at-most edition n t few, terms-at-most edition n ts few))
 
-polynomial-at-most : (edition : Edition) (n : ℕ) (p : Polynomial) → n ≤ 16 → length p ≤ 16 → polynomialBits edition n p ≤ 5 + 16 * mostBits edition
+pub polynomial-at-most : (edition : Edition) (n : ℕ) (p : Polynomial) → n ≤ 16 → length p ≤ 16 → polynomialBits edition n p ≤ 5 + 16 * mostBits edition
 unfolding writePolynomial
 polynomial-at-most edition n p few terms =
     rw (length-append, length-field) (omega (arith, terms-at-most edition n p few, mul-le-mul-right (mostBits edition) terms))
 
-table-at-most : (edition : Edition) (n : ℕ) (table : List Polynomial) → n ≤ 16 → TableWithin n table
+pub table-at-most : (edition : Edition) (n : ℕ) (table : List Polynomial) → n ≤ 16 → TableWithin n table
     → length (writeTable edition n table) ≤ length table * (5 + 16 * mostBits edition)
 unfolding writeTable
 table-at-most edition n [] few within = omega arith
