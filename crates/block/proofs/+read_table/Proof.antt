@@ -15,7 +15,7 @@ use Rattle.block.proofs.+read_table.{statement}
 use Rattle.block.proofs.+read_table.Tie.{close}
 
 abbrev μ-table : Measures 4 table-kinds.ps ℕ
-μ-table κs a = a .1 .1 .1 .1 .1 .1 .1 .0 - a .1 .1 .1 .1 .1 .1 .0
+μ-table κs a = a .1 .1 .1 .1 .1 .1 .1 .1 .0 - a .1 .1 .1 .1 .1 .1 .1 .0
 
 abbrev table-at : ℕ → In 4 table-kinds.ps
 table-at t = and 4 table-kinds.ps (is 4 table-kinds.ps μ-table t) table.Pre
@@ -25,7 +25,7 @@ table-below t = and 4 table-kinds.ps (falls 4 table-kinds.ps _<_ μ-table t) tab
 
 pub +read-table-spec : {M : Type 1} → statement M
 +read-table-spec = close μ-table λ t. table-lts.spec (polynomial-reads.Asked, polynomial-reads.Learnt, table-below t, table.Post) (table-at t) table.Post
-    (λ c. table-done _ _ _ (c .before .before .before .before .pre .1 .0) (c .if1 .taken))
+    (λ c. table-done _ _ _ _ (c .before .before .before .before .pre .1 .0) (c .if1 .taken))
     (λ c κs. omega arith)
     (λ c. search needs) (λ c. search needs) (λ c. omega arith)
     (λ c κs.
@@ -48,7 +48,7 @@ pub +read-table-spec : {M : Type 1} → statement M
     (λ c. c .before .before .before .before .before .before .before .before .read-polynomial .kept .1 .1 .1 .0)
     (λ c.
     let first = c .before .before .before .before .before .before .before .before in
-    table-refused _ _ _ (omega arith) (first .before .before .before .before .if1 .left) (first .read-polynomial .ensures) (c .before .step .given .1))
+    table-refused _ _ _ _ (omega arith) (first .before .before .before .before .if1 .left) (first .read-polynomial .ensures) (c .before .step .given .1))
     (λ c. let others = c .before .before .before .before .before in others .read-table .kept .1 .0
     ∙ others .before .before .before .before .before .before .before .before .before .before .before .before .read-polynomial .kept .1 .0)
     (λ c. let others = c .before .before .before .before .before in others .read-table .kept .1 .1 .0
@@ -60,5 +60,5 @@ pub +read-table-spec : {M : Type 1} → statement M
     let chosen = others .before .before .before .before .before in
     let first = chosen .before .before .before .before .before .before .before in
     let tested = first .before .before .before .before in
-    table-read _ _ _ (tested .before .before .before .before .pre .1 .2) (tested .if1 .left) (first .read-polynomial .ensures) (chosen .step2 .given .1)
+    table-read _ _ _ _ (tested .before .before .before .before .pre .1 .2) (tested .if1 .left) (first .read-polynomial .ensures) (chosen .step2 .given .1)
     (others .read-table .ensures))
