@@ -46,8 +46,25 @@ fn with_part(byte: u8, room: usize, count: usize, v: u64) -> u8
     (x / above * above + own * below + x % below) as u8
 }
 
-// The field of k bits at the bit `at`.
-pub fn get(src: &[u8], at: usize, k: usize) -> u64
+// Four bytes from one on, as a word.
+fn four(src: &[u8], i: usize) -> u64
+    requires { ⌜ i + 4 ≤ length (now src) ⌝ }
+    ensures { λ r. ⌜ r ≡ value (take 32 (drop (8 * i) (unpack (now (src .entry))))) ⌝ }
+{
+    let two = (wide(src[i]) << 8) + wide(src[i + 1]);
+    let three = (two << 8) + wide(src[i + 2]);
+    (three << 8) + wide(src[i + 3])
+}
+
+// Eight bytes from one on, as a word.
+fn eight(src: &[u8], i: usize) -> u64
+    requires { ⌜ i + 8 ≤ length (now src) ⌝ }
+    ensures { λ r. ⌜ r ≡ value (take 64 (drop (8 * i) (unpack (now (src .entry))))) ⌝ }
+{
+    (four(src, i) << 32) + four(src, i + 4)
+}
+
+fn by_bytes(src: &[u8], at: usize, k: usize) -> u64
     requires { ⌜ (k ≤ 64) × (at + k ≤ 8 * length (now src)) ⌝ }
     ensures { λ r. ⌜ r ≡ value (take k (drop at (unpack (now (src .entry))))) ⌝ }
 {
@@ -63,6 +80,31 @@ pub fn get(src: &[u8], at: usize, k: usize) -> u64
         room = 8;
     }
     sofar
+}
+
+fn by_word(src: &[u8], at: usize, k: usize) -> u64
+    requires { ⌜ (k ≤ 56) × (0 < k) × (at + k ≤ 8 * length (now src)) × (8 ≤ length (now src)) ⌝ }
+    ensures { λ r. ⌜ r ≡ value (take k (drop at (unpack (now (src .entry))))) ⌝ }
+{
+    let first = least(at / 8, src.len() - 8);
+    (eight(src, first) << (at - 8 * first)) >> (64 - k)
+}
+
+// The field of k bits at the bit `at`.
+pub fn get(src: &[u8], at: usize, k: usize) -> u64
+    requires { ⌜ (k ≤ 64) × (at + k ≤ 8 * length (now src)) ⌝ }
+    ensures { λ r. ⌜ r ≡ value (take k (drop at (unpack (now (src .entry))))) ⌝ }
+{
+    if src.len() < 8 {
+        return by_bytes(src, at, k);
+    }
+    if k == 0 {
+        return 0;
+    }
+    if k <= 56 {
+        return by_word(src, at, k);
+    }
+    (by_word(src, at, k - 32) << 32) + by_word(src, at + (k - 32), 32)
 }
 
 // Stores the last k bits of v at the bit `at`; every other bit keeps its value.
