@@ -129,34 +129,30 @@ fn read_terms(
     n: usize,
     k: usize,
     count: u64,
-    first: bool,
     above: u64,
 ) -> Step
     requires { ⌜ Inside (now src) place × (n ≤ 16) × (k + count ≤ length (now coefficient)) × (k + count ≤ length (now monomial)) × (count ≤ 16) ⌝ }
     ensures { λ r. ⌜ Reads (now (src .entry)) (readTerms count n (ceiling first n above) (streamAt (now (src .entry)) place))
         (TermsStored place k (now (coefficient .entry)) (now (coefficient .exit)) (now (monomial .entry)) (now (monomial .exit))) r ⌝ }
 {
-    if count == 0 {
-        return Step::Read(place);
-    }
-    let step = read_term(src, coefficient, monomial, place, n, k, first, above);
-    match step {
-        Step::Refused(number) => Step::Refused(number),
-        Step::Read(after) => {
-            let exponents = monomial[k];
-            read_terms(
-                src,
-                coefficient,
-                monomial,
-                after,
-                n,
-                k + 1,
-                count - 1,
-                false,
-                exponents,
-            )
+    let mut next = place;
+    let mut top = above;
+    let mut i: u64 = 0;
+    while i < count {
+        let at = k + i as usize;
+        let step = read_term(src, coefficient, monomial, next, n, at, i == 0, top);
+        i += 1;
+        match step {
+            Step::Refused(number) => {
+                return Step::Refused(number);
+            }
+            Step::Read(after) => {
+                next = after;
+                top = monomial[at];
+            }
         }
     }
+    Step::Read(next)
 }
 
 // A polynomial of n variables, stored as number i.
@@ -191,7 +187,7 @@ fn read_polynomial(
         at: at + 5,
         allowed: place.allowed,
     };
-    read_terms(src, coefficient, monomial, first, n, 16 * i, count, true, 0)
+    read_terms(src, coefficient, monomial, first, n, 16 * i, count, 0)
 }
 
 // The polynomials from number i on, up to number m.
@@ -211,14 +207,21 @@ fn read_table(
         (TableStored place i (now (coefficient .entry)) (now (coefficient .exit)) (now (monomial .entry)) (now (monomial .exit))
         (now (counts .entry)) (now (counts .exit))) r ⌝ }
 {
-    if i == m {
-        return Step::Read(place);
+    let mut next = place;
+    let mut j = i;
+    while j < m {
+        let step = read_polynomial(src, coefficient, monomial, counts, next, n, j);
+        j += 1;
+        match step {
+            Step::Refused(number) => {
+                return Step::Refused(number);
+            }
+            Step::Read(after) => {
+                next = after;
+            }
+        }
     }
-    let step = read_polynomial(src, coefficient, monomial, counts, place, n, i);
-    match step {
-        Step::Refused(number) => Step::Refused(number),
-        Step::Read(after) => read_table(src, coefficient, monomial, counts, after, n, i + 1, m),
-    }
+    Step::Read(next)
 }
 
 // ---- the tree
@@ -323,14 +326,21 @@ fn read_parts(
     ensures { λ r. ⌜ Reads (now (src .entry)) (readParts (readNode nesting m parent) children (streamAt (now (src .entry)) place))
         (PartsStored place count (now (token .entry)) (now (token .exit))) r ⌝ }
 {
-    if children == 0 {
-        return Step::Read(place);
+    let mut next = place;
+    let mut i: u64 = 0;
+    while i < children {
+        i += 1;
+        let step = read_node(src, token, next, count, nesting, parent, m);
+        match step {
+            Step::Refused(number) => {
+                return Step::Refused(number);
+            }
+            Step::Read(after) => {
+                next = after;
+            }
+        }
     }
-    let step = read_node(src, token, place, count, nesting, parent, m);
-    match step {
-        Step::Refused(number) => Step::Refused(number),
-        Step::Read(after) => read_parts(src, token, after, count, nesting, parent, m, children - 1),
-    }
+    Step::Read(next)
 }
 
 // "At the end 14, then 15."
