@@ -104,7 +104,8 @@ fn read_term(
     if left(src, place) < 32 + 4 * n {
         return Step::Refused(6);
     }
-    let magnitude = get(src, at + 1, 31);
+    let word = get(src, at, 32);
+    let magnitude = word % 2147483648;
     if magnitude == 0 {
         return Step::Refused(8);
     }
@@ -112,7 +113,7 @@ fn read_term(
     if !falls(exponents, first, above) {
         return Step::Refused(9);
     }
-    coefficient[k] = coefficient_of(get(src, at, 1), magnitude);
+    coefficient[k] = coefficient_of(word / 2147483648, magnitude);
     monomial[k] = exponents;
     Step::Read(Place {
         at: at + (32 + 4 * n),
