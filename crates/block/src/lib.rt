@@ -129,27 +129,27 @@ fn read_terms(
     place: Place,
     n: usize,
     k: usize,
-    count: u64,
-    above: u64,
+    count: usize,
 ) -> Step
     requires { ⌜ Inside (now src) place × (n ≤ 16) × (k + count ≤ length (now coefficient)) × (k + count ≤ length (now monomial)) × (count ≤ 16) ⌝ }
-    ensures { λ r. ⌜ Reads (now (src .entry)) (readTerms count n (ceiling first n above) (streamAt (now (src .entry)) place))
+    ensures { λ r. ⌜ Reads (now (src .entry)) (readTerms count n (2 ^ (4 * n)) (streamAt (now (src .entry)) place))
         (TermsStored place k (now (coefficient .entry)) (now (coefficient .exit)) (now (monomial .entry)) (now (monomial .exit))) r ⌝ }
 {
     let mut next = place;
-    let mut top = above;
-    let mut i: u64 = 0;
+    let mut first = true;
+    let mut above: u64 = 0;
+    let mut i = 0;
     while i < count {
-        let at = k + i as usize;
-        let step = read_term(src, coefficient, monomial, next, n, at, i == 0, top);
-        i += 1;
+        let step = read_term(src, coefficient, monomial, next, n, k + i, first, above);
         match step {
             Step::Refused(number) => {
                 return Step::Refused(number);
             }
             Step::Read(after) => {
                 next = after;
-                top = monomial[at];
+                first = false;
+                above = monomial[k + i];
+                i += 1;
             }
         }
     }
@@ -188,10 +188,10 @@ fn read_polynomial(
         at: at + 5,
         allowed: place.allowed,
     };
-    read_terms(src, coefficient, monomial, first, n, 16 * i, count, 0)
+    read_terms(src, coefficient, monomial, first, n, 16 * i, count as usize)
 }
 
-// The polynomials from number i on, up to number m.
+// The table of m polynomials.
 fn read_table(
     src: &[u8],
     coefficient: &mut [i32],
@@ -199,26 +199,25 @@ fn read_table(
     counts: &mut [u8],
     place: Place,
     n: usize,
-    i: usize,
     m: usize,
 ) -> Step
-    requires { ⌜ Inside (now src) place × (n ≤ 16) × (i ≤ m) × (m ≤ 64)
+    requires { ⌜ Inside (now src) place × (n ≤ 16) × (m ≤ 64)
         × (16 * m ≤ length (now coefficient)) × (16 * m ≤ length (now monomial)) × (m ≤ length (now counts)) ⌝ }
-    ensures { λ r. ⌜ Reads (now (src .entry)) (readTable (m - i) n (streamAt (now (src .entry)) place))
-        (TableStored place i (now (coefficient .entry)) (now (coefficient .exit)) (now (monomial .entry)) (now (monomial .exit))
+    ensures { λ r. ⌜ Reads (now (src .entry)) (readTable m n (streamAt (now (src .entry)) place))
+        (TableStored place 0 (now (coefficient .entry)) (now (coefficient .exit)) (now (monomial .entry)) (now (monomial .exit))
         (now (counts .entry)) (now (counts .exit))) r ⌝ }
 {
     let mut next = place;
-    let mut j = i;
-    while j < m {
-        let step = read_polynomial(src, coefficient, monomial, counts, next, n, j);
-        j += 1;
+    let mut i = 0;
+    while i < m {
+        let step = read_polynomial(src, coefficient, monomial, counts, next, n, i);
         match step {
             Step::Refused(number) => {
                 return Step::Refused(number);
             }
             Step::Read(after) => {
                 next = after;
+                i += 1;
             }
         }
     }
@@ -328,9 +327,9 @@ fn read_parts(
         (PartsStored place count (now (token .entry)) (now (token .exit))) r ⌝ }
 {
     let mut next = place;
-    let mut i: u64 = 0;
-    while i < children {
-        i += 1;
+    let mut left = children;
+    while 0 < left {
+        left -= 1;
         let step = read_node(src, token, next, count, nesting, parent, m);
         match step {
             Step::Refused(number) => {
@@ -481,7 +480,6 @@ fn read_body(
         terms,
         start,
         variables,
-        0,
         polynomials,
     );
     match step {
