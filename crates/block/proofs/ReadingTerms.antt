@@ -160,27 +160,27 @@ module _ {bytes : List ℕ} (n k count : ℕ) {start : Place} {cs₀ : List ℤ}
       record { inside = inside; coefficients = refl; monomials = refl; whole = λ {cs₂} {ms₂} {step} rest. rw (all, none) at rest }
 
   module _ {i : ℕ} {place : Place} {first : Bool} {above : ℕ} {cs : List ℤ} {ms : List ℕ} (l : TermsLeft bytes n k count start cs₀ ms₀ i place first above cs ms)
-      where
-    pub terms-end : count ≤ i → Reads bytes (readTerms count n (2 ^ (4 * n)) (streamAt bytes start)) (TermsStored start k cs₀ cs ms₀ ms) (Read place)
-    terms-end h = l .whole (terms-done (count - i) n (ceiling first n above) (l .inside) (omega arith))
+    where
+      pub terms-end : count ≤ i → Reads bytes (readTerms count n (2 ^ (4 * n)) (streamAt bytes start)) (TermsStored start k cs₀ cs ms₀ ms) (Read place)
+      terms-end h = l .whole (terms-done (count - i) n (ceiling first n above) (l .inside) (omega arith))
 
-    module _ {cs₁ : List ℤ} {ms₁ : List ℕ} {step : Step} (more : i < count)
-        (one : Reads bytes (readTerm n (ceiling first n above) (streamAt bytes place)) (TermStored place (k + i) cs cs₁ ms ms₁) step) where
-      pub terms-stop : {number : ℕ} → step ≡ Refused number → {cs₂ : List ℤ} {ms₂ : List ℕ}
-          → Reads bytes (readTerms count n (2 ^ (4 * n)) (streamAt bytes start)) (TermsStored start k cs₀ cs₂ ms₀ ms₂) (Refused number)
-      terms-stop e = l .whole (terms-refused (count - i) n (ceiling first n above) (omega arith) one e)
+      module _ {cs₁ : List ℤ} {ms₁ : List ℕ} {step : Step} (more : i < count)
+          (one : Reads bytes (readTerm n (ceiling first n above) (streamAt bytes place)) (TermStored place (k + i) cs cs₁ ms ms₁) step) where
+        pub terms-stop : {number : ℕ} → step ≡ Refused number → {cs₂ : List ℤ} {ms₂ : List ℕ}
+            → Reads bytes (readTerms count n (2 ^ (4 * n)) (streamAt bytes start)) (TermsStored start k cs₀ cs₂ ms₀ ms₂) (Refused number)
+        terms-stop e = l .whole (terms-refused (count - i) n (ceiling first n above) (omega arith) one e)
 
-      pub terms-go-on : {after : Place} {exponents : ℕ} → step ≡ Read after → length cs₁ ≡ length cs → length ms₁ ≡ length ms → k + i < length ms
-          → exponents ≡ getD ms₁ (k + i) 0 → TermsLeft bytes n k count start cs₀ ms₀ (i + 1) after false exponents cs₁ ms₁
-      terms-go-on {after} {exponents} e c m h x =
-          let fewer : count - (i + 1) ≡ count - i - 1 = omega arith in
-          let next : k + (i + 1) ≡ k + i + 1 = omega arith in
-          record {
-            inside = inside-after one e;
-            coefficients = c ∙ l .coefficients;
-            monomials = m ∙ l .monomials;
-            whole = λ {cs₂} {ms₂} {step} rest. l .whole (terms-read (count - i) n (ceiling first n above) (omega arith) one e h x (rw (fewer, next) at rest));
-          }
+        pub terms-go-on : {after : Place} {exponents : ℕ} → step ≡ Read after → length cs₁ ≡ length cs → length ms₁ ≡ length ms → k + i < length ms
+            → exponents ≡ getD ms₁ (k + i) 0 → TermsLeft bytes n k count start cs₀ ms₀ (i + 1) after false exponents cs₁ ms₁
+        terms-go-on {after} {exponents} e c m h x =
+            let fewer : count - (i + 1) ≡ count - i - 1 = omega arith in
+            let next : k + (i + 1) ≡ k + i + 1 = omega arith in
+            record {
+              inside = inside-after one e;
+              coefficients = c ∙ l .coefficients;
+              monomials = m ∙ l .monomials;
+              whole = λ {cs₂} {ms₂} {step} rest. l .whole (terms-read (count - i) n (ceiling first n above) (omega arith) one e h x (rw (fewer, next) at rest));
+            }
 
 -- As many terms are read as were asked for.
 pub length-terms : (count n above : ℕ) (s : Stream) (ts : Polynomial) (s₁ : Stream) → readTerms count n above s ≡ read ts s₁ → length ts ≡ count
