@@ -2,25 +2,38 @@
 use mathlib.Core.Path.{_≡_, refl, sym, ap, _∙_}
 use mathlib.Core.Bool.{Bool, true, false, not, _||_}
 use mathlib.Core.List.{List, [], _∷_}
-use Prim.Native.Nat.{ℕ, zero, suc, _+_, _-_, _*_, _^_, _≤_, _<_}
+use Prim.Native.Nat.{ℕ, zero, suc, _+_, _-_, _*_, _/_, _%_, _^_, _≤_, _<_}
 use native.Mathlib.Numerals.{add-one}
 use native.Mathlib.Omega.{arith}
 use lib.Dec.{ltb}
 use lib.IntN.{ℤ}
 use lib.ListN.{length, drop, getD, set}
+use lib.Pow.{high, low}
 use lib.Seq.{drop-drop, getD-set-same}
 use borrow.Author.Tests.{lt-ltb, le-leb, lt-leb, not-true, not-false}
 use Rattle.rules.specs.Bits.{unpack}
 use Rattle.rules.specs.Polynomial.{Term, Polynomial}
 use Rattle.rules.specs.Block.{Edition, edition1, Stream, Reading, read, require, afterwards, signed, firstBits, readExponents, readTerm, readTerms}
+use Rattle.bits.proofs.Bytes.{length-unpack, value-take-add}
 use Rattle.bits.proofs.Fields.{value-take-lt}
 use Rattle.block.specs.Steps.{streamAt, Inside, Left, Reads, ceiling, TermStored, TermsStored}
 use Rattle.block.specs.declared.Place.{Place}
 use Rattle.block.specs.declared.Step.{Step}
 use Rattle.block.specs.declared.Step.the-variants.{Refused, Read}
-use Rattle.block.proofs.Steps.{fieldAt, further, refuses, reads, same-reading, refuses-first, follows, turned-into, both-read}
+use Rattle.block.proofs.Steps.{fieldAt, further, refuses, reads, inside-after, same-reading, refuses-first, follows, turned-into, both-read}
 
 -- ---- a term
+
+-- The first 32 bits at once are the minus bit and the magnitude.
+module _ (bytes : List ℕ) (at : ℕ) (inside : at + 32 ≤ 8 * length bytes) {word : ℕ} (w : word ≡ fieldAt bytes at 32) where
+  both-parts : word ≡ fieldAt bytes at 1 * 2 ^ 31 + fieldAt bytes (at + 1) 31
+  both-parts = w ∙ value-take-add (unpack bytes) at 1 31 (rw length-unpack inside)
+
+  pub minus-in-word : word / 2147483648 ≡ fieldAt bytes at 1
+  minus-in-word = rw both-parts (high (fieldAt bytes at 1) 31 (value-take-lt 31 (drop (at + 1) (unpack bytes))))
+
+  pub magnitude-in-word : word % 2147483648 ≡ fieldAt bytes (at + 1) 31
+  magnitude-in-word = rw both-parts (low (fieldAt bytes at 1) 31 (value-take-lt 31 (drop (at + 1) (unpack bytes))))
 
 module _ (bytes : List ℕ) (place : Place) (n above : ℕ) {rest : ℕ} (l : Left bytes place rest) (long : 32 + 4 * n ≤ rest) where
   by-fields : let magnitude = fieldAt bytes (place .at + 1) 31 in let exponents = fieldAt bytes (place .at + 32) (4 * n) in
@@ -100,17 +113,17 @@ terms-next edition zero n above s h = absurd (h refl)
 terms-next edition (suc count) n above s h = let e : suc count - 1 ≡ count = omega arith in rw e
 
 module _ (edition : Edition) (count n above : ℕ) {bytes : List ℕ} {place : Place} {k : ℕ} {cs : List ℤ} {ms : List ℕ} where
-  pub terms-done : Inside bytes place → count ≡ 0 → Reads bytes (readTerms edition count n above (streamAt bytes place)) (TermsStored place k cs cs ms ms) (Read place)
+  terms-done : Inside bytes place → count ≡ 0 → Reads bytes (readTerms edition count n above (streamAt bytes place)) (TermsStored place k cs cs ms ms) (Read place)
   unfolding readTerms
   terms-done inside z = reads [] (rw z) inside (record { allows = refl; coefficient = refl; monomial = refl })
 
   module _ {cs₁ : List ℤ} {ms₁ : List ℕ} {step : Step} (some : count ≡ 0 → ⊥)
       (first : Reads bytes (readTerm edition n above (streamAt bytes place)) (TermStored place k cs cs₁ ms ms₁) step) where
-    pub terms-refused : {number : ℕ} → step ≡ Refused number → {cs₂ : List ℤ} {ms₂ : List ℕ}
+    terms-refused : {number : ℕ} → step ≡ Refused number → {cs₂ : List ℤ} {ms₂ : List ℕ}
         → Reads bytes (readTerms edition count n above (streamAt bytes place)) (TermsStored place k cs cs₂ ms ms₂) (Refused number)
     terms-refused e = same-reading (terms-next edition count n above (streamAt bytes place) some) (refuses-first (restOfTerms edition (count - 1) n) first e)
 
-    pub terms-read : {after : Place} {exponents : ℕ} {cs₂ : List ℤ} {ms₂ : List ℕ} {next : Step} → step ≡ Read after → k < length ms → exponents ≡ getD ms₁ k 0
+    terms-read : {after : Place} {exponents : ℕ} {cs₂ : List ℤ} {ms₂ : List ℕ} {next : Step} → step ≡ Read after → k < length ms → exponents ≡ getD ms₁ k 0
         → Reads bytes (readTerms edition (count - 1) n (ceiling false n exponents) (streamAt bytes after)) (TermsStored after (k + 1) cs₁ cs₂ ms₁ ms₂) next
         → Reads bytes (readTerms edition count n above (streamAt bytes place)) (TermsStored place k cs cs₂ ms ms₂) next
     unfolding ceiling
@@ -128,6 +141,47 @@ module _ (edition : Edition) (count n above : ℕ) {bytes : List ℕ} {place : P
               coefficient = l .coefficient ∙ rw (add-one k, s .coefficient);
               monomial = l .monomial ∙ rw (add-one k, s .monomial);
             })
+
+-- What is left of the terms after i of them: as the rest is read, so is the whole.
+pub record TermsLeft (edition : Edition) (bytes : List ℕ) (n k count : ℕ) (start : Place) (cs₀ : List ℤ) (ms₀ : List ℕ) (i : ℕ) (place : Place) (first : Bool) (above : ℕ)
+    (cs : List ℤ) (ms : List ℕ) : Type 0 where
+  pub inside : Inside bytes place
+  pub coefficients : length cs ≡ length cs₀
+  pub monomials : length ms ≡ length ms₀
+  pub whole : {cs₂ : List ℤ} {ms₂ : List ℕ} {step : Step}
+      → Reads bytes (readTerms edition (count - i) n (ceiling first n above) (streamAt bytes place)) (TermsStored place (k + i) cs cs₂ ms ms₂) step
+      → Reads bytes (readTerms edition count n (2 ^ (4 * n)) (streamAt bytes start)) (TermsStored start k cs₀ cs₂ ms₀ ms₂) step
+
+module _ (edition : Edition) {bytes : List ℕ} (n k count : ℕ) {start : Place} {cs₀ : List ℤ} {ms₀ : List ℕ} where
+  pub terms-begin : Inside bytes start → TermsLeft edition bytes n k count start cs₀ ms₀ 0 start true 0 cs₀ ms₀
+  unfolding ceiling
+  terms-begin inside =
+      let none : k + 0 ≡ k = omega arith in
+      let all : count - 0 ≡ count = omega arith in
+      record { inside = inside; coefficients = refl; monomials = refl; whole = λ {cs₂} {ms₂} {step} rest. rw (all, none) at rest }
+
+  module _ {i : ℕ} {place : Place} {first : Bool} {above : ℕ} {cs : List ℤ} {ms : List ℕ} (l : TermsLeft edition bytes n k count start cs₀ ms₀ i place first above cs ms)
+    where
+      pub terms-end : count ≤ i → Reads bytes (readTerms edition count n (2 ^ (4 * n)) (streamAt bytes start)) (TermsStored start k cs₀ cs ms₀ ms) (Read place)
+      terms-end h = l .whole (terms-done edition (count - i) n (ceiling first n above) (l .inside) (omega arith))
+
+      module _ {cs₁ : List ℤ} {ms₁ : List ℕ} {step : Step} (more : i < count)
+          (one : Reads bytes (readTerm edition n (ceiling first n above) (streamAt bytes place)) (TermStored place (k + i) cs cs₁ ms ms₁) step) where
+        pub terms-stop : {number : ℕ} → step ≡ Refused number → {cs₂ : List ℤ} {ms₂ : List ℕ}
+            → Reads bytes (readTerms edition count n (2 ^ (4 * n)) (streamAt bytes start)) (TermsStored start k cs₀ cs₂ ms₀ ms₂) (Refused number)
+        terms-stop e = l .whole (terms-refused edition (count - i) n (ceiling first n above) (omega arith) one e)
+
+        pub terms-go-on : {after : Place} {exponents : ℕ} → step ≡ Read after → length cs₁ ≡ length cs → length ms₁ ≡ length ms → k + i < length ms
+            → exponents ≡ getD ms₁ (k + i) 0 → TermsLeft edition bytes n k count start cs₀ ms₀ (i + 1) after false exponents cs₁ ms₁
+        terms-go-on {after} {exponents} e c m h x =
+            let fewer : count - (i + 1) ≡ count - i - 1 = omega arith in
+            let next : k + (i + 1) ≡ k + i + 1 = omega arith in
+            record {
+              inside = inside-after one e;
+              coefficients = c ∙ l .coefficients;
+              monomials = m ∙ l .monomials;
+              whole = λ {cs₂} {ms₂} {step} rest. l .whole (terms-read edition (count - i) n (ceiling first n above) (omega arith) one e h x (rw (fewer, next) at rest));
+            }
 
 -- As many terms are read as were asked for.
 pub length-terms : (edition : Edition) (count n above : ℕ) (s : Stream) (ts : Polynomial) (s₁ : Stream) → readTerms edition count n above s ≡ read ts s₁

@@ -108,7 +108,8 @@ fn read_term(
     if left(src, place) < 32 + 4 * n {
         return Step::Refused(6);
     }
-    let magnitude = get(src, at + 1, 31);
+    let word = get(src, at, 32);
+    let magnitude = word % 2147483648;
     if magnitude == 0 {
         return Step::Refused(8);
     }
@@ -116,7 +117,7 @@ fn read_term(
     if !falls(exponents, first, above) {
         return Step::Refused(9);
     }
-    coefficient[k] = coefficient_of(get(src, at, 1), magnitude);
+    coefficient[k] = coefficient_of(word / 2147483648, magnitude);
     monomial[k] = exponents;
     Step::Read(Place {
         at: at + (32 + 4 * n),
@@ -231,36 +232,41 @@ fn read_terms(
     edition: u64,
     n: usize,
     k: usize,
-    count: u64,
-    first: bool,
-    above: u64,
+    count: usize,
 ) -> Step
     requires { ⌜ Inside (now src) place × (n ≤ 16) × (k + count ≤ length (now coefficient)) × (k + count ≤ length (now monomial)) × (count ≤ 16) ⌝ }
-    ensures { λ r. ⌜ Reads (now (src .entry)) (readTerms (editionOf edition) count n (ceiling first n above) (streamAt (now (src .entry)) place))
+    ensures { λ r. ⌜ Reads (now (src .entry)) (readTerms (editionOf edition) count n (2 ^ (4 * n)) (streamAt (now (src .entry)) place))
         (TermsStored place k (now (coefficient .entry)) (now (coefficient .exit)) (now (monomial .entry)) (now (monomial .exit))) r ⌝ }
 {
-    if count == 0 {
-        return Step::Read(place);
-    }
-    let step = read_term_in(src, coefficient, monomial, place, edition, n, k, first, above);
-    match step {
-        Step::Refused(number) => Step::Refused(number),
-        Step::Read(after) => {
-            let exponents = monomial[k];
-            read_terms(
-                src,
-                coefficient,
-                monomial,
-                after,
-                edition,
-                n,
-                k + 1,
-                count - 1,
-                false,
-                exponents,
-            )
+    let mut next = place;
+    let mut first = true;
+    let mut above: u64 = 0;
+    let mut i = 0;
+    while i < count {
+        let step = read_term_in(
+            src,
+            coefficient,
+            monomial,
+            next,
+            edition,
+            n,
+            k + i,
+            first,
+            above,
+        );
+        match step {
+            Step::Refused(number) => {
+                return Step::Refused(number);
+            }
+            Step::Read(after) => {
+                next = after;
+                first = false;
+                above = monomial[k + i];
+                i += 1;
+            }
         }
     }
+    Step::Read(next)
 }
 
 // A polynomial of n variables, stored as number i.
@@ -296,10 +302,19 @@ fn read_polynomial(
         at: at + 5,
         allowed: place.allowed,
     };
-    read_terms(src, coefficient, monomial, first, edition, n, 16 * i, count, true, 0)
+    read_terms(
+        src,
+        coefficient,
+        monomial,
+        first,
+        edition,
+        n,
+        16 * i,
+        count as usize,
+    )
 }
 
-// The polynomials from number i on, up to number m.
+// The table of m polynomials.
 fn read_table(
     src: &[u8],
     coefficient: &mut [i32],
@@ -308,23 +323,29 @@ fn read_table(
     place: Place,
     edition: u64,
     n: usize,
-    i: usize,
     m: usize,
 ) -> Step
-    requires { ⌜ Inside (now src) place × (n ≤ 16) × (i ≤ m) × (m ≤ 64)
+    requires { ⌜ Inside (now src) place × (n ≤ 16) × (m ≤ 64)
         × (16 * m ≤ length (now coefficient)) × (16 * m ≤ length (now monomial)) × (m ≤ length (now counts)) ⌝ }
-    ensures { λ r. ⌜ Reads (now (src .entry)) (readTable (editionOf edition) (m - i) n (streamAt (now (src .entry)) place))
-        (TableStored place i (now (coefficient .entry)) (now (coefficient .exit)) (now (monomial .entry)) (now (monomial .exit))
+    ensures { λ r. ⌜ Reads (now (src .entry)) (readTable (editionOf edition) m n (streamAt (now (src .entry)) place))
+        (TableStored place 0 (now (coefficient .entry)) (now (coefficient .exit)) (now (monomial .entry)) (now (monomial .exit))
         (now (counts .entry)) (now (counts .exit))) r ⌝ }
 {
-    if i == m {
-        return Step::Read(place);
+    let mut next = place;
+    let mut i = 0;
+    while i < m {
+        let step = read_polynomial(src, coefficient, monomial, counts, next, edition, n, i);
+        match step {
+            Step::Refused(number) => {
+                return Step::Refused(number);
+            }
+            Step::Read(after) => {
+                next = after;
+                i += 1;
+            }
+        }
     }
-    let step = read_polynomial(src, coefficient, monomial, counts, place, edition, n, i);
-    match step {
-        Step::Refused(number) => Step::Refused(number),
-        Step::Read(after) => read_table(src, coefficient, monomial, counts, after, edition, n, i + 1, m),
-    }
+    Step::Read(next)
 }
 
 // ---- the tree
@@ -429,14 +450,21 @@ fn read_parts(
     ensures { λ r. ⌜ Reads (now (src .entry)) (readParts (readNode nesting m parent) children (streamAt (now (src .entry)) place))
         (PartsStored place count (now (token .entry)) (now (token .exit))) r ⌝ }
 {
-    if children == 0 {
-        return Step::Read(place);
+    let mut next = place;
+    let mut left = children;
+    while 0 < left {
+        left -= 1;
+        let step = read_node(src, token, next, count, nesting, parent, m);
+        match step {
+            Step::Refused(number) => {
+                return Step::Refused(number);
+            }
+            Step::Read(after) => {
+                next = after;
+            }
+        }
     }
-    let step = read_node(src, token, place, count, nesting, parent, m);
-    match step {
-        Step::Refused(number) => Step::Refused(number),
-        Step::Read(after) => read_parts(src, token, after, count, nesting, parent, m, children - 1),
-    }
+    Step::Read(next)
 }
 
 // "At the end 14, then 15."
@@ -597,7 +625,6 @@ fn read_body(
         start,
         edition,
         variables,
-        0,
         polynomials,
     );
     match step {
