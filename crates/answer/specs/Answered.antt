@@ -11,7 +11,7 @@ use borrow.Author.Tests.{le-leb, lt-leb, ne-eqb}
 use Rattle.rules.specs.Polynomial.{Atom}
 use Rattle.rules.specs.Formula.{Parts, end, atom, and, or, Node, leaf, allOf, anyOf, eachAtom, eachAtomOf, isEnd, alone, atoms, nodes, open-formula}
 use Rattle.rules.specs.Level.{plain}
-use Rattle.rules.specs.Block.{NumberedAtom, Block, Stream, refused, read, readBlock, writeBlock, blockLength}
+use Rattle.rules.specs.Block.{NumberedAtom, Block, Stream, refused, read, headEdition, readBlock, writeBlock, blockLength}
 use Rattle.rules.specs.Answer as book
 use Rattle.rules.specs.Answer.{used, numbered, blockOf, written, simplified, newBlock, answerTo, unlessShort}
 use Rattle.block_laws.specs.Sizes.{length-block}
@@ -63,15 +63,17 @@ module _ (room : ℕ) (bytes : List ℕ) (enough : length bytes ≤ room) where
 
   -- and what it accepts is answered with the new block.
   pub answer-accepted : {given : Block} {stream : Stream} → readBlock bytes ≡ read given stream
-      → book.answer room bytes ≡ book.answered (book.verdictOf (simplified given)) (writeBlock (newBlock given)) (book.countsOf given (newBlock given))
+      → book.answer room bytes ≡ book.answered (book.verdictOf (simplified given)) (writeBlock (headEdition bytes) (newBlock given))
+      (book.countsOf given (newBlock given))
   unfolding book.answer unlessShort answerTo
   answer-accepted e = rw (le-leb (length bytes) room enough, e)
 
 -- What is left in the output for an accepted block.
 pub answer-written : (room : ℕ) (bytes : List ℕ) → length bytes ≤ room → {given : Block} {stream : Stream} → readBlock bytes ≡ read given stream
-    → (output : List ℕ) → written (book.answer room bytes) output ≡ writeBlock (newBlock given) ++ drop (blockLength (newBlock given)) output
+    → (output : List ℕ) → written (book.answer room bytes) output
+    ≡ writeBlock (headEdition bytes) (newBlock given) ++ drop (blockLength (headEdition bytes) (newBlock given)) output
 unfolding written
-answer-written room bytes enough {given} accepted output = rw (answer-accepted room bytes enough accepted, length-block (newBlock given))
+answer-written room bytes enough {given} accepted output = rw (answer-accepted room bytes enough accepted, length-block (headEdition bytes) (newBlock given))
 
 -- ---- the verdict, from the new block's arrays
 

@@ -8,7 +8,7 @@ use lib.ListN.{length}
 use Rattle.rules.specs.Polynomial.{Atom, normal}
 use Rattle.rules.specs.Formula.{Node, alone, eachAtomOf}
 use Rattle.rules.specs.Level.{placedTree, simplify}
-use Rattle.rules.specs.Block.{Block, Stream, read, readBlock, blockLength}
+use Rattle.rules.specs.Block.{Block, Stream, read, headEdition, readBlock, blockLength}
 use Rattle.rules.specs.Limits.{BlockWithin}
 use Rattle.rules.specs.Answer.{lookedUp, formulaOf, used, withoutConstants, formsUsed, simplified, newBlock}
 use Rattle.block_laws.specs.Blocks.{block-accepted, accepted-within}
@@ -38,6 +38,8 @@ module _ (given : Block) (within : BlockWithin given) (w : WorkingTable)
 pub new-writable : (bytes : List ℕ) {given : Block} {stream : Stream} → readBlock bytes ≡ read given stream → BlockWithin (newBlock given)
 new-writable bytes {given} accepted = new-within given (accepted-within bytes accepted)
 
--- and finds room wherever the bytes that were read do.
-pub new-room : (bytes : List ℕ) {given : Block} {stream : Stream} → readBlock bytes ≡ read given stream → blockLength (newBlock given) ≤ length bytes
-new-room bytes {given} accepted = omega (arith, never-longer given (accepted-within bytes accepted) .bytes, block-accepted bytes accepted .long)
+-- and finds room wherever the bytes that were read do, in their edition.
+pub new-room : (bytes : List ℕ) {given : Block} {stream : Stream} → readBlock bytes ≡ read given stream
+    → blockLength (headEdition bytes) (newBlock given) ≤ length bytes
+new-room bytes {given} accepted =
+    omega (arith, never-longer (headEdition bytes) given (accepted-within bytes accepted) .bytes, block-accepted bytes accepted .long)

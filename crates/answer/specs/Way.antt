@@ -11,11 +11,12 @@ use lib.Seq.{sets, sets-eq, length-sets, take-at}
 use Rattle.rules.specs.Polynomial.{Atom}
 use Rattle.rules.specs.Formula.{Node, eachAtomOf, alone, atoms, nodes}
 use Rattle.rules.specs.Level.{Placed, plain as withoutPlace, placedTree, places, simplify}
-use Rattle.rules.specs.Block.{NumberedAtom, Block, writeBlock, blockLength}
+use Rattle.rules.specs.Block.{NumberedAtom, Block, Edition, editionNumber, editionOf, headEdition, writeBlock, blockLength}
 use Rattle.rules.specs.Limits.{PartsWithin, BlockWithin}
 use Rattle.rules.specs.Answer as book
 use Rattle.rules.specs.Answer.{lookedUp, formulaOf, used, withoutConstants, formsUsed, numbered, blockOf, simplified, newBlock, newPlaces, readPlaces}
 use Rattle.rules.specs.Demands.{atomsOf}
+use Rattle.block_laws.specs.Head.{edition-back}
 use Rattle.block_laws.specs.Blocks.{accepted-within}
 use Rattle.block_laws.specs.Sizes.{length-block}
 use Rattle.length_laws.specs.Blocks.{in-order-many}
@@ -56,7 +57,7 @@ pub record Prepared (given : Block) (held : Held) (w : WorkingTable) (token : Li
   pub counted : atoms (alone tree) ≡ atoms (alone (given .tree))
   pub uses : withoutConstants (used [] (alone (eachAtomOf (inSlot (tableOf (held .variables) w)) tree))) ≡ formsUsed (formulaOf given)
 
-module _ {bytes : List ℕ} {held : Held} {room : ℕ} (accepted : Accepted bytes held room) where
+module _ {bytes : List ℕ} {edition : ℕ} {held : Held} {room : ℕ} (accepted : Accepted bytes edition held room) where
   within : BlockWithin (accepted .given)
   within = accepted-within bytes (accepted .accepted)
 
@@ -165,7 +166,7 @@ module _ {given : Block} {held : Held} {w : WorkingTable} {token : List ℕ} (pr
 
 -- ---- the new block
 
-module _ {bytes : List ℕ} (before : List ℕ) {held : Held} (accepted : Accepted bytes held (length before)) {w : WorkingTable} {token : List ℕ}
+module _ {bytes : List ℕ} {edition : ℕ} (before : List ℕ) {held : Held} (accepted : Accepted bytes edition held (length before)) {w : WorkingTable} {token : List ℕ}
     (prepared : Prepared (accepted .given) held w token) (r : Tree)
     (simpler : Simplified (tableOf (held .variables) w) (tokenTree (prepared .tree)) r) (tape : List ℕ) where
   same-variables : held .variables ≡ accepted .given .variables
@@ -187,14 +188,20 @@ module _ {bytes : List ℕ} (before : List ℕ) {held : Held} (accepted : Accept
       ap (λ (kind : ℕ). heldBy (held .variables) m kind (r .tokens .count) cs ms ts new) (sym (simpler-kind prepared r simpler)) ∙ is
       ∙ ap₂ (λ (n : ℕ) (tree : Node Atom). heldOver (held .coefficient) (held .monomial) (held .terms) tape (blockOf n tree)) same-variables (simpler-is prepared r simpler)
 
-  -- which can be written.
-  pub writes : (new : Held) → new ≡ newHeld → length tape ≡ length (held .token) → Writable new (length before) (newBlock (accepted .given))
+  -- The number is that of the edition that was read.
+  own-edition : editionOf edition ≡ headEdition bytes
+  own-edition = ap editionOf (accepted .in-edition) ∙ edition-back (headEdition bytes)
+
+  -- which can be written, in the edition that was read.
+  pub writes : (new : Held) → new ≡ newHeld → length tape ≡ length (held .token) → Writable edition new (length before) (newBlock (accepted .given))
   writes new is same =
       let table = asks-table accepted in
-      subst (λ (h : Held). Writable h (length before) (newBlock (accepted .given))) (sym is)
+      let known : edition ≡ editionNumber (editionOf edition) = accepted .in-edition ∙ ap editionNumber (sym own-edition) in
+      let room : blockLength (editionOf edition) (newBlock (accepted .given)) ≤ length before
+      = rw own-edition (omega (arith, new-room bytes (accepted .accepted), accepted .enough)) in
+      subst (λ (h : Held). Writable edition h (length before) (newBlock (accepted .given))) (sym is)
       (writable (newBlock (accepted .given)) (new-writable bytes (accepted .accepted)) (held .coefficient) (held .monomial) (held .terms) tape
-      (table .coefficients) (table .monomials) (table .counts) (same ∙ tape-long accepted) (length before)
-      (omega (arith, new-room bytes (accepted .accepted), accepted .enough)))
+      (table .coefficients) (table .monomials) (table .counts) (same ∙ tape-long accepted) edition (length before) known room)
 
   new-atoms : atoms (alone (simplerTree prepared r simpler)) ≡ atoms (alone (newBlock (accepted .given) .tree))
   unfolding newBlock blockOf
@@ -239,7 +246,8 @@ module _ {bytes : List ℕ} (before : List ℕ) {held : Held} (accepted : Accept
 
   -- So what is returned and written is the book's answer.
   pub answers : (new : Held) → new ≡ newHeld → (after : List ℕ) (atoms-in atoms-out polynomials-in size : ℕ) (verdict : Verdict)
-      → size ≡ blockLength (newBlock (accepted .given)) → after ≡ sets before 0 (writeBlock (newBlock (accepted .given)))
+      → size ≡ blockLength (editionOf edition) (newBlock (accepted .given))
+      → after ≡ sets before 0 (writeBlock (editionOf edition) (newBlock (accepted .given)))
       → atoms-in ≡ atoms (alone (prepared .tree)) → atoms-out ≡ atoms (alone (simplerTree prepared r simpler))
       → polynomials-in ≡ length (withoutConstants (used [] (alone (eachAtomOf (inSlot (tableOf (held .variables) w)) (prepared .tree))))) → verdict ≡ verdictFrom (new .root) (new .tokens)
       → Answers bytes before after (Answered verdict size (record {
@@ -253,17 +261,18 @@ module _ {bytes : List ℕ} (before : List ℕ) {held : Held} (accepted : Accept
       let given = accepted .given in
       let told : verdict ≡ verdictOf (book.verdictOf (simplified given))
       = verdict-is ∙ ap (λ (h : Held). verdictFrom (h .root) (h .tokens)) new-is ∙ sym (new-verdict given) in
-      let long : size ≡ length (writeBlock (newBlock given)) = size-is ∙ sym (length-block (newBlock given)) in
+      let own : Edition = headEdition bytes in
+      let wrote : List ℕ = writeBlock own (newBlock given) in
+      let long : size ≡ length wrote = rw own-edition at size-is ∙ sym (length-block own (newBlock given)) in
       let before-in : atoms-in ≡ atoms (alone (given .tree)) = in-is ∙ prepared .counted in
       let before-out : atoms-out ≡ atoms (alone (newBlock given .tree)) = out-is ∙ new-atoms in
       let forms-in : polynomials-in ≡ length (formsUsed (formulaOf given)) = uses-is ∙ ap length (prepared .uses) in
       let table-out : new .polynomials ≡ length (newBlock given .table) = ap (λ (h : Held). h .polynomials) new-is in
-      let fits : length (writeBlock (newBlock given)) ≤ length before
-      = omega (arith, new-room bytes (accepted .accepted), accepted .enough, length-block (newBlock given)) in
-      let stored : sets before 0 (writeBlock (newBlock given)) ≡ writeBlock (newBlock given) ++ drop (length (writeBlock (newBlock given))) before
-      = rw (zero-add (length (writeBlock (newBlock given)))) at (sets-eq (writeBlock (newBlock given)) before 0 (omega arith)) in
+      let fits : length wrote ≤ length before = omega (arith, new-room bytes (accepted .accepted), accepted .enough, length-block own (newBlock given)) in
+      let stored : sets before 0 wrote ≡ wrote ++ drop (length wrote) before
+      = rw (zero-add (length wrote)) at (sets-eq wrote before 0 (omega arith)) in
       record {
         returns = rw (answer-accepted (length before) bytes (accepted .enough) (accepted .accepted), told, long, before-in, before-out, forms-in, table-out);
-        output = after-is ∙ stored ∙ ap (λ (k : ℕ). writeBlock (newBlock given) ++ drop k before) (length-block (newBlock given))
+        output = rw own-edition at after-is ∙ stored ∙ ap (λ (k : ℕ). wrote ++ drop k before) (length-block own (newBlock given))
             ∙ sym (answer-written (length before) bytes (accepted .enough) (accepted .accepted) before);
       }

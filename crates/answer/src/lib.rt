@@ -74,8 +74,10 @@ fn plain_tokens(token: &mut [u32], count: usize)
     }
 }
 
-// The answer to what was read, and the places of its atoms in the lent slice. The arrays that hold it are filled anew with what is written.
+// The answer to what was read, in the edition of what was read, and the places of its atoms in the lent slice. The arrays that hold it are filled
+// anew with what is written.
 pub fn answer_to(
+    edition: u64,
     variables: usize,
     polynomials: usize,
     root: u8,
@@ -87,10 +89,10 @@ pub fn answer_to(
     output: &mut [u8],
     places: &mut [u8],
 ) -> Answer
-    requires { ⌜ AcceptedSome (heldBy variables polynomials root count (now coefficient) (now monomial) (now terms) (now token)) (length (now output))
+    requires { ⌜ AcceptedSome edition (heldBy variables polynomials root count (now coefficient) (now monomial) (now terms) (now token)) (length (now output))
         × (255 ≤ length (now places)) ⌝ }
     ensures { λ r. ⌜ ((bytes : List ℕ)
-        → Accepted bytes (heldBy variables polynomials root count (now (coefficient .entry)) (now (monomial .entry)) (now (terms .entry)) (now (token .entry)))
+        → Accepted bytes edition (heldBy variables polynomials root count (now (coefficient .entry)) (now (monomial .entry)) (now (terms .entry)) (now (token .entry)))
         (length (now (output .entry))) → Answers bytes (now (output .entry)) (now (output .exit)) r × TellsPlaces bytes (now (places .entry)) (now (places .exit))) ⌝ }
 {
     let mut form_coefficient = [0i32; 1280];
@@ -149,6 +151,7 @@ pub fn answer_to(
         polynomials_out: new_polynomials,
     };
     let length = write(
+        edition,
         variables,
         new_polynomials,
         new_root,

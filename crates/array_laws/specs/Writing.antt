@@ -10,7 +10,7 @@ use lib.ListN.{length, getD, drop, length-drop}
 use lib.Seq.{sets, sets-eq, getD-drop, drop-drop, drop-at}
 use Rattle.rules.specs.Polynomial.{Polynomial}
 use Rattle.rules.specs.Formula.{Parts, end, atom, and, or, Node, leaf, allOf, anyOf, alone, children, nodes, open-formula}
-use Rattle.rules.specs.Block.{NumberedAtom, Block, blockLength}
+use Rattle.rules.specs.Block.{NumberedAtom, Block, editionNumber, editionOf, blockLength}
 use Rattle.rules.specs.Limits.{PartsWithin, BlockWithin}
 use Rattle.terms.specs.View.{termAt, termsFrom}
 use Rattle.block.specs.Held.{tokens, kindOf, heldOver}
@@ -129,6 +129,7 @@ module _ (block : Block) (within : BlockWithin block) where
           (within .polynomials) (within .tree) (tape-starts token tape);
     }
 
-    -- so that it can be written where there is room for it.
-    pub writable : (size : ℕ) → blockLength block ≤ size → Writable (heldOver cs ms ts token block) size block
-    writable size room = record { holds = stored-holds; within = within; room = room }
+    -- so that it can be written, in an edition, where there is room for it.
+    pub writable : (edition size : ℕ) → edition ≡ editionNumber (editionOf edition) → blockLength (editionOf edition) block ≤ size
+        → Writable edition (heldOver cs ms ts token block) size block
+    writable edition size known room = record { known = known; holds = stored-holds; within = within; room = room }

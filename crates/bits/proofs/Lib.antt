@@ -3,3 +3,4 @@ pub mod Fields
 pub mod Bytes
 pub mod Packing
 mod Turns
+mod Words

@@ -1,6 +1,7 @@
 mod Signed
 pub mod Steps
 pub mod ReadingTerms
+pub mod ReadingPairs
 pub mod ReadingTable
 pub mod ReadingTree
 pub mod ReadingEnd

@@ -22,7 +22,7 @@ use Rattle.block.specs.declared.Opening.{Opening}
 use Rattle.block.specs.declared.Opening.the-variants.{Refused as NoNode, Atom, Join}
 use Rattle.block.specs.declared.Step.{Step}
 use Rattle.block.specs.declared.Step.the-variants.{Refused, Read}
-use Rattle.block.proofs.Steps.{fieldAt, refuses, reads, same-reading, refuses-first, follows, turned-into, both-read}
+use Rattle.block.proofs.Steps.{fieldAt, refuses, reads, inside-after, same-reading, refuses-first, follows, turned-into, both-read}
 
 -- ---- what a node begins with
 
@@ -242,17 +242,17 @@ parts-next one zero s h = absurd (h refl)
 parts-next one (suc children) s h = let e : suc children - 1 ≡ children = omega arith in rw e
 
 module _ (one : Stream → Reading (Node NumberedAtom)) (children : ℕ) {bytes : List ℕ} {place : Place} {count : ℕ} {token : List ℕ} where
-  pub parts-done : Inside bytes place → children ≡ 0 → Reads bytes (readParts one children (streamAt bytes place)) (PartsStored place count token token) (Read place)
+  parts-done : Inside bytes place → children ≡ 0 → Reads bytes (readParts one children (streamAt bytes place)) (PartsStored place count token token) (Read place)
   unfolding readParts tokens
   parts-done inside z = reads end (rw z) inside (record { stored = refl; counted = omega arith })
 
   module _ {token₁ : List ℕ} {step : Step} (some : children ≡ 0 → ⊥) (first : Reads bytes (one (streamAt bytes place)) (NodeStored place count token token₁) step)
     where
-      pub parts-refused : {number : ℕ} → step ≡ Refused number → {token₂ : List ℕ}
+      parts-refused : {number : ℕ} → step ≡ Refused number → {token₂ : List ℕ}
           → Reads bytes (readParts one children (streamAt bytes place)) (PartsStored place count token token₂) (Refused number)
       parts-refused e = same-reading (parts-next one children (streamAt bytes place) some) (refuses-first (restOfParts one (children - 1)) first e)
 
-      pub parts-read : {after : Place} {token₂ : List ℕ} {next : Step} → step ≡ Read after → place .allowed ≤ count
+      parts-read : {after : Place} {token₂ : List ℕ} {next : Step} → step ≡ Read after → place .allowed ≤ count
           → Reads bytes (readParts one (children - 1) (streamAt bytes after)) (PartsStored after count token₁ token₂) next
           → Reads bytes (readParts one children (streamAt bytes place)) (PartsStored place count token token₂) next
       parts-read {after} e le rest =
@@ -266,7 +266,39 @@ module _ (one : Stream → Reading (Node NumberedAtom)) (children : ℕ) {bytes 
           })))
 
 -- The places that a node's step leaves allowed.
-pub allowed-after : {bytes : List ℕ} {place : Place} {count : ℕ} {token token₁ : List ℕ} {reading : Reading (Node NumberedAtom)} {step : Step} {after : Place}
+allowed-after : {bytes : List ℕ} {place : Place} {count : ℕ} {token token₁ : List ℕ} {reading : Reading (Node NumberedAtom)} {step : Step} {after : Place}
     → Reads bytes reading (NodeStored place count token token₁) step → step ≡ Read after → after .allowed ≤ place .allowed
 unfolding Does
 allowed-after h e = omega (arith, (rw e at h) .does .3 .counted)
+
+-- What is left of an AND's or OR's children: as those that are left are read, so are all of them.
+pub record PartsLeft (one : Stream → Reading (Node NumberedAtom)) (bytes : List ℕ) (count children : ℕ) (start : Place) (token₀ : List ℕ) (left : ℕ) (place : Place)
+    (token : List ℕ) : Type 0 where
+  pub inside : Inside bytes place
+  pub allows : place .allowed ≤ count
+  pub tape : length token ≡ length token₀
+  pub whole : {token₂ : List ℕ} {step : Step} → Reads bytes (readParts one left (streamAt bytes place)) (PartsStored place count token token₂) step
+      → Reads bytes (readParts one children (streamAt bytes start)) (PartsStored start count token₀ token₂) step
+
+module _ (one : Stream → Reading (Node NumberedAtom)) {bytes : List ℕ} {count children : ℕ} {start : Place} {token₀ : List ℕ} where
+  pub parts-begin : Inside bytes start → start .allowed ≤ count → PartsLeft one bytes count children start token₀ children start token₀
+  parts-begin inside allows = record { inside = inside; allows = allows; tape = refl; whole = λ {token₂} {step} rest. rest }
+
+  module _ {left : ℕ} {place : Place} {token : List ℕ} (l : PartsLeft one bytes count children start token₀ left place token) where
+    pub parts-end : left ≤ 0 → Reads bytes (readParts one children (streamAt bytes start)) (PartsStored start count token₀ token) (Read place)
+    parts-end h = l .whole (parts-done one left (l .inside) (omega arith))
+
+    module _ {token₁ : List ℕ} {step : Step} (more : 0 < left) (first : Reads bytes (one (streamAt bytes place)) (NodeStored place count token token₁) step) where
+      pub parts-stop : {number : ℕ} → step ≡ Refused number → {token₂ : List ℕ}
+          → Reads bytes (readParts one children (streamAt bytes start)) (PartsStored start count token₀ token₂) (Refused number)
+      parts-stop e = l .whole (parts-refused one left (omega arith) first e)
+
+      pub parts-go-on : {after : Place} → step ≡ Read after → length token₁ ≡ length token
+          → PartsLeft one bytes count children start token₀ (left - 1) after token₁
+      parts-go-on {after} e t =
+          record {
+            inside = inside-after first e;
+            allows = omega (arith, allowed-after first e, l .allows);
+            tape = t ∙ l .tape;
+            whole = λ {token₂} {step} rest. l .whole (parts-read one left (omega arith) first e (l .allows) rest);
+          }

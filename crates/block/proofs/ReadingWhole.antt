@@ -7,7 +7,7 @@ use lib.IntN.{ℤ, pos}
 use lib.ListN.{length, replicate}
 use lib.Seq.{sets}
 use Rattle.rules.specs.Formula.{alone, nodes}
-use Rattle.rules.specs.Block.{Block, refused, afterwards, readTable, readBody, readBlock}
+use Rattle.rules.specs.Block.{Block, editionOf, refused, afterwards, readTable, readBody, readBlock}
 use Rattle.block.specs.Held.{slots, tokens, kindOf, nothing, heldBy, heldOver, heldOf, outcomeOf}
 use Rattle.block.specs.Steps.{streamAt, Does, Reads, TableStored, readTree, RootOf, RootFound, HeadHeld, ContentsOf, ContentsFound}
 use Rattle.block.specs.declared.Held.{Held}
@@ -34,15 +34,15 @@ held-same : (block : Block) (cs : List ℤ) (ms ts token : List ℕ) {n m kind c
     → heldBy n m kind count cs′ ms′ ts′ token′ ≡ heldOver cs ms ts token block
 held-same block cs ms ts token e₁ e₂ e₃ e₄ e₅ e₆ e₇ e₈ = rw (e₁, e₂, e₃, e₄, e₅, e₆, e₇, e₈)
 
-module _ {bytes : List ℕ} {n m count : ℕ} (head : HeadHeld bytes n m count) {cs cs′ : List ℤ} {ms ms′ ts ts′ : List ℕ} {step : Step}
-    (table : Reads bytes (readTable (m - 0) n (streamAt bytes (record { at = 40; allowed = count })))
+module _ {bytes : List ℕ} {edition n m count : ℕ} (head : HeadHeld bytes edition n m count) {cs cs′ : List ℤ} {ms ms′ ts ts′ : List ℕ} {step : Step}
+    (table : Reads bytes (readTable (editionOf edition) m n (streamAt bytes (record { at = 40; allowed = count })))
     (TableStored (record { at = 40; allowed = count }) 0 cs cs′ ms ms′ ts ts′) step) where
   abbrev start : Place
   start = record { at = 40; allowed = count }
 
-  by-table : readBlock bytes ≡ afterwards (readTable (m - 0) n (streamAt bytes start)) (λ ps s. readTree n m ps s)
+  by-table : readBlock bytes ≡ afterwards (readTable (editionOf edition) m n (streamAt bytes start)) (λ ps s. readTree n m ps s)
   unfolding readBody
-  by-table = let e : m - 0 ≡ m = omega arith in rw e (head .reading)
+  by-table = head .reading
 
   pub table-refuses : {number : ℕ} → step ≡ Refused number → readBlock bytes ≡ refused number
   unfolding Does afterwards
@@ -65,7 +65,7 @@ module _ {bytes : List ℕ} {n m count : ℕ} (head : HeadHeld bytes n m count) 
       all-stored f =
           let d = (rw e at table) .does in
           let t = (rw f at tree) .found in
-          let many : length (d .0) ≡ m = length-table (m - 0) n (streamAt bytes start) (d .0) (streamAt bytes after) (d .1) ∙ omega arith in
+          let many : length (d .0) ≡ m = length-table (editionOf edition) m n (streamAt bytes start) (d .0) (streamAt bytes after) (d .1) in
           let from : count - after .allowed ≡ 0 = omega (arith, d .3 .allows) in
           let block : Block = record { variables = n; table = d .0; tree = t .tree } in
           record {

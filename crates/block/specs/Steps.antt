@@ -9,12 +9,15 @@ use lib.Seq.{sets}
 use Rattle.rules.specs.Polynomial.{Term, Polynomial}
 use Rattle.rules.specs.Bits.{unpack}
 use Rattle.rules.specs.Formula.{Parts, Node, leaf, alone, nodes}
-use Rattle.rules.specs.Block.{NumberedAtom, Block, Stream, Reading, refused, read, afterwards, readParts, readNode, joined, readEnd, readBody, readBlock}
+use Rattle.rules.specs.Block.{NumberedAtom, Block, edition2, editionOf, Stream, Reading, refused, read, afterwards, readExponents}
+use Rattle.rules.specs.Block.{readParts, readNode, joined, readEnd, readBody, readBlock}
 use Rattle.block.specs.Held.{slots, tokens, kindOf, heldBy, heldOver}
 use Rattle.block.specs.declared.Held.{Held}
 use Rattle.block.specs.declared.Place.{Place}
 use Rattle.block.specs.declared.Step.{Step}
 use Rattle.block.specs.declared.Step.the-variants.{Refused, Read}
+use Rattle.block.specs.declared.Exponents.{Exponents}
+use Rattle.block.specs.declared.Exponents.the-variants.{Refused as NoExponents, Number}
 use Rattle.block.specs.declared.Head.{Head}
 use Rattle.block.specs.declared.Head.the-variants.{Refused as NoHead, Numbers}
 use Rattle.block.specs.declared.Opening.{Opening}
@@ -52,6 +55,19 @@ pub record Reads {A : Type 0} (bytes : List ℕ) (reading : Reading A) (Stored :
 unfoldable pub ceiling : Bool → ℕ → ℕ → ℕ
 ceiling true n above = 2 ^ (4 * n)
 ceiling false n above = above
+
+-- The exponents of edition 2 are what the book reads: one number of n variables, and the place behind its pairs.
+pub record PairsRead (bytes : List ℕ) (place : Place) (n exponents behind : ℕ) : Type 0 where
+  pub reading : readExponents edition2 n (streamAt bytes place) ≡ read exponents (streamAt bytes (record { at = behind; allowed = place .allowed }))
+  pub inside : Inside bytes (record { at = behind; allowed = place .allowed })
+  pub small : exponents < 2 ^ (4 * n)
+
+unfoldable pub ExponentsOf : List ℕ → Place → ℕ → Exponents → Type 0
+ExponentsOf bytes place n (NoExponents number) = readExponents edition2 n (streamAt bytes place) ≡ refused number
+ExponentsOf bytes place n (Number exponents behind) = PairsRead bytes place n exponents behind
+
+pub record ExponentsFound (bytes : List ℕ) (place : Place) (n : ℕ) (exponents : Exponents) : Type 0 where
+  pub found : ExponentsOf bytes place n exponents
 
 -- A step leaves as many nodes allowed as before, and stores in the arrays of terms: one term at the place k,
 pub record TermStored (place : Place) (k : ℕ) (coefficients coefficients′ : List ℤ) (monomials monomials′ : List ℕ) (term : Term) (after : Place) : Type 0 where
@@ -149,8 +165,8 @@ pub record RootFound (bytes : List ℕ) (place : Place) (count m : ℕ) (token t
   pub found : RootOf bytes place count m token token′ root
 
 -- The head is as the book wants it: the rest decides.
-pub record HeadHeld (bytes : List ℕ) (n m count : ℕ) : Type 0 where
-  pub reading : readBlock bytes ≡ readBody n m (streamAt bytes (record { at = 40; allowed = count }))
+pub record HeadHeld (bytes : List ℕ) (edition n m count : ℕ) : Type 0 where
+  pub reading : readBlock bytes ≡ readBody (editionOf edition) n m (streamAt bytes (record { at = 40; allowed = count }))
   pub inside : Inside bytes (record { at = 40; allowed = count })
   pub variables : n ≤ 16
   pub polynomials : m ≤ 64
@@ -158,7 +174,7 @@ pub record HeadHeld (bytes : List ℕ) (n m count : ℕ) : Type 0 where
 
 unfoldable pub HeadOf : List ℕ → Head → Type 0
 HeadOf bytes (NoHead number) = readBlock bytes ≡ refused number
-HeadOf bytes (Numbers variables polynomials nodes) = HeadHeld bytes variables polynomials nodes
+HeadOf bytes (Numbers edition variables polynomials nodes) = HeadHeld bytes edition variables polynomials nodes
 
 pub record HeadFound (bytes : List ℕ) (head : Head) : Type 0 where
   pub found : HeadOf bytes head

@@ -5,11 +5,15 @@ ghost use mathlib.Core.Path.{_≡_};
 ghost use Prim.Native.Nat.{_+_, _-_, _*_, _^_, _≤_, _<_};
 ghost use lib.Dec.{ltb};
 ghost use lib.ListN.{length};
-ghost use Rattle.rules.specs.Block.{Block, signed, readTerm, readTerms, readPolynomial, readTable, readNode, readParts, readEnd, readBlock};
+ghost use Rattle.rules.specs.Block.{Block, edition1, edition2, editionNumber, editionOf, headEdition, signed, readTerm, readTerms};
+ghost use Rattle.rules.specs.Block.{readPolynomial, readTable, readNode, readParts, readEnd, readBlock};
 ghost use Rattle.block.specs.Held.{nothing, BlockRoom, outcomeOf};
 ghost use Rattle.block.specs.Steps.{streamAt, Inside, Left, Reads, ceiling, TermStored, TermsStored, PolynomialStored, TableStored};
-ghost use Rattle.block.specs.Steps.{Opened, NodeStored, PartsStored, Ends, RootFound, HeadHeld, HeadFound, ContentsFound};
+ghost use Rattle.block.specs.Steps.{ExponentsFound, Opened, NodeStored, PartsStored, Ends, RootFound, HeadHeld, HeadFound, ContentsFound};
 use bits::get;
+use pairs::above_zero;
+use pairs::monomial_of;
+use pairs::rise;
 
 // What a block holds, in arrays that are 0 wherever nothing is stored.
 pub struct Held {
@@ -85,7 +89,7 @@ fn falls(exponents: u64, first: bool, above: u64) -> bool
     if first { true } else { exponents < above }
 }
 
-// A term of n variables, stored at the place k.
+// A term of n variables in edition 1, stored at the place k: "n exponents of 4 bits".
 fn read_term(
     src: &[u8],
     coefficient: &mut [i32],
@@ -97,14 +101,15 @@ fn read_term(
     above: u64,
 ) -> Step
     requires { ⌜ Inside (now src) place × (n ≤ 16) × (k < length (now coefficient)) × (k < length (now monomial)) ⌝ }
-    ensures { λ r. ⌜ Reads (now (src .entry)) (readTerm n (ceiling first n above) (streamAt (now (src .entry)) place))
+    ensures { λ r. ⌜ Reads (now (src .entry)) (readTerm edition1 n (ceiling first n above) (streamAt (now (src .entry)) place))
         (TermStored place k (now (coefficient .entry)) (now (coefficient .exit)) (now (monomial .entry)) (now (monomial .exit))) r ⌝ }
 {
     let at = place.at;
     if left(src, place) < 32 + 4 * n {
         return Step::Refused(6);
     }
-    let magnitude = get(src, at + 1, 31);
+    let word = get(src, at, 32);
+    let magnitude = word % 2147483648;
     if magnitude == 0 {
         return Step::Refused(8);
     }
@@ -112,12 +117,110 @@ fn read_term(
     if !falls(exponents, first, above) {
         return Step::Refused(9);
     }
-    coefficient[k] = coefficient_of(get(src, at, 1), magnitude);
+    coefficient[k] = coefficient_of(word / 2147483648, magnitude);
     monomial[k] = exponents;
     Step::Read(Place {
         at: at + (32 + 4 * n),
         allowed: place.allowed,
     })
+}
+
+// What the pairs of a term are: a refusal's number, or the exponents as one number and the bit behind the pairs.
+enum Exponents {
+    Refused(u8),
+    Number { exponents: u64, behind: usize },
+}
+
+// The exponents of a term in edition 2, from its pair count on: "21, 6 for the pairs, 22, 23".
+fn read_pairs(src: &[u8], place: Place, n: usize) -> Exponents
+    requires { ⌜ Inside (now src) place × (place .at + 5 ≤ 8 * length (now src)) × (n ≤ 16) ⌝ }
+    ensures { λ r. ⌜ ExponentsFound (now (src .entry)) place n r ⌝ }
+{
+    let at = place.at;
+    let count = get(src, at, 5) as usize;
+    if n < count {
+        return Exponents::Refused(21);
+    }
+    if left(src, place) < 5 + 8 * count {
+        return Exponents::Refused(6);
+    }
+    if !rise(src, at + 5, n, count, 0) {
+        return Exponents::Refused(22);
+    }
+    if !above_zero(src, at + 5, count) {
+        return Exponents::Refused(23);
+    }
+    let exponents = monomial_of(src, at + 5, n, count);
+    Exponents::Number {
+        exponents,
+        behind: at + (5 + 8 * count),
+    }
+}
+
+// A term of n variables in edition 2, stored at the place k: "6 as far as the pair count, 8, 21, 6 for the pairs, 22, 23, 9".
+fn read_paired_term(
+    src: &[u8],
+    coefficient: &mut [i32],
+    monomial: &mut [u64],
+    place: Place,
+    n: usize,
+    k: usize,
+    first: bool,
+    above: u64,
+) -> Step
+    requires { ⌜ Inside (now src) place × (n ≤ 16) × (k < length (now coefficient)) × (k < length (now monomial)) ⌝ }
+    ensures { λ r. ⌜ Reads (now (src .entry)) (readTerm edition2 n (ceiling first n above) (streamAt (now (src .entry)) place))
+        (TermStored place k (now (coefficient .entry)) (now (coefficient .exit)) (now (monomial .entry)) (now (monomial .exit))) r ⌝ }
+{
+    let at = place.at;
+    if left(src, place) < 37 {
+        return Step::Refused(6);
+    }
+    let magnitude = get(src, at + 1, 31);
+    if magnitude == 0 {
+        return Step::Refused(8);
+    }
+    let count = Place {
+        at: at + 32,
+        allowed: place.allowed,
+    };
+    let found = read_pairs(src, count, n);
+    match found {
+        Exponents::Refused(number) => Step::Refused(number),
+        Exponents::Number { exponents, behind } => {
+            if !falls(exponents, first, above) {
+                return Step::Refused(9);
+            }
+            coefficient[k] = coefficient_of(get(src, at, 1), magnitude);
+            monomial[k] = exponents;
+            Step::Read(Place {
+                at: behind,
+                allowed: place.allowed,
+            })
+        }
+    }
+}
+
+// A term of n variables in an edition, stored at the place k.
+fn read_term_in(
+    src: &[u8],
+    coefficient: &mut [i32],
+    monomial: &mut [u64],
+    place: Place,
+    edition: u64,
+    n: usize,
+    k: usize,
+    first: bool,
+    above: u64,
+) -> Step
+    requires { ⌜ Inside (now src) place × (n ≤ 16) × (k < length (now coefficient)) × (k < length (now monomial)) ⌝ }
+    ensures { λ r. ⌜ Reads (now (src .entry)) (readTerm (editionOf edition) n (ceiling first n above) (streamAt (now (src .entry)) place))
+        (TermStored place k (now (coefficient .entry)) (now (coefficient .exit)) (now (monomial .entry)) (now (monomial .exit))) r ⌝ }
+{
+    if edition < 2 {
+        return read_term(src, coefficient, monomial, place, n, k, first, above);
+    }
+    read_paired_term(src, coefficient, monomial, place, n, k, first, above)
 }
 
 // So many terms, one after the other, stored from the place k on.
@@ -126,37 +229,44 @@ fn read_terms(
     coefficient: &mut [i32],
     monomial: &mut [u64],
     place: Place,
+    edition: u64,
     n: usize,
     k: usize,
-    count: u64,
-    first: bool,
-    above: u64,
+    count: usize,
 ) -> Step
     requires { ⌜ Inside (now src) place × (n ≤ 16) × (k + count ≤ length (now coefficient)) × (k + count ≤ length (now monomial)) × (count ≤ 16) ⌝ }
-    ensures { λ r. ⌜ Reads (now (src .entry)) (readTerms count n (ceiling first n above) (streamAt (now (src .entry)) place))
+    ensures { λ r. ⌜ Reads (now (src .entry)) (readTerms (editionOf edition) count n (2 ^ (4 * n)) (streamAt (now (src .entry)) place))
         (TermsStored place k (now (coefficient .entry)) (now (coefficient .exit)) (now (monomial .entry)) (now (monomial .exit))) r ⌝ }
 {
-    if count == 0 {
-        return Step::Read(place);
-    }
-    let step = read_term(src, coefficient, monomial, place, n, k, first, above);
-    match step {
-        Step::Refused(number) => Step::Refused(number),
-        Step::Read(after) => {
-            let exponents = monomial[k];
-            read_terms(
-                src,
-                coefficient,
-                monomial,
-                after,
-                n,
-                k + 1,
-                count - 1,
-                false,
-                exponents,
-            )
+    let mut next = place;
+    let mut first = true;
+    let mut above: u64 = 0;
+    let mut i = 0;
+    while i < count {
+        let step = read_term_in(
+            src,
+            coefficient,
+            monomial,
+            next,
+            edition,
+            n,
+            k + i,
+            first,
+            above,
+        );
+        match step {
+            Step::Refused(number) => {
+                return Step::Refused(number);
+            }
+            Step::Read(after) => {
+                next = after;
+                first = false;
+                above = monomial[k + i];
+                i += 1;
+            }
         }
     }
+    Step::Read(next)
 }
 
 // A polynomial of n variables, stored as number i.
@@ -166,12 +276,13 @@ fn read_polynomial(
     monomial: &mut [u64],
     counts: &mut [u8],
     place: Place,
+    edition: u64,
     n: usize,
     i: usize,
 ) -> Step
     requires { ⌜ Inside (now src) place × (n ≤ 16)
         × (16 * i + 16 ≤ length (now coefficient)) × (16 * i + 16 ≤ length (now monomial)) × (i < length (now counts)) × (i < 64) ⌝ }
-    ensures { λ r. ⌜ Reads (now (src .entry)) (readPolynomial n (streamAt (now (src .entry)) place))
+    ensures { λ r. ⌜ Reads (now (src .entry)) (readPolynomial (editionOf edition) n (streamAt (now (src .entry)) place))
         (PolynomialStored place i (now (coefficient .entry)) (now (coefficient .exit)) (now (monomial .entry)) (now (monomial .exit))
         (now (counts .entry)) (now (counts .exit))) r ⌝ }
 {
@@ -191,34 +302,50 @@ fn read_polynomial(
         at: at + 5,
         allowed: place.allowed,
     };
-    read_terms(src, coefficient, monomial, first, n, 16 * i, count, true, 0)
+    read_terms(
+        src,
+        coefficient,
+        monomial,
+        first,
+        edition,
+        n,
+        16 * i,
+        count as usize,
+    )
 }
 
-// The polynomials from number i on, up to number m.
+// The table of m polynomials.
 fn read_table(
     src: &[u8],
     coefficient: &mut [i32],
     monomial: &mut [u64],
     counts: &mut [u8],
     place: Place,
+    edition: u64,
     n: usize,
-    i: usize,
     m: usize,
 ) -> Step
-    requires { ⌜ Inside (now src) place × (n ≤ 16) × (i ≤ m) × (m ≤ 64)
+    requires { ⌜ Inside (now src) place × (n ≤ 16) × (m ≤ 64)
         × (16 * m ≤ length (now coefficient)) × (16 * m ≤ length (now monomial)) × (m ≤ length (now counts)) ⌝ }
-    ensures { λ r. ⌜ Reads (now (src .entry)) (readTable (m - i) n (streamAt (now (src .entry)) place))
-        (TableStored place i (now (coefficient .entry)) (now (coefficient .exit)) (now (monomial .entry)) (now (monomial .exit))
+    ensures { λ r. ⌜ Reads (now (src .entry)) (readTable (editionOf edition) m n (streamAt (now (src .entry)) place))
+        (TableStored place 0 (now (coefficient .entry)) (now (coefficient .exit)) (now (monomial .entry)) (now (monomial .exit))
         (now (counts .entry)) (now (counts .exit))) r ⌝ }
 {
-    if i == m {
-        return Step::Read(place);
+    let mut next = place;
+    let mut i = 0;
+    while i < m {
+        let step = read_polynomial(src, coefficient, monomial, counts, next, edition, n, i);
+        match step {
+            Step::Refused(number) => {
+                return Step::Refused(number);
+            }
+            Step::Read(after) => {
+                next = after;
+                i += 1;
+            }
+        }
     }
-    let step = read_polynomial(src, coefficient, monomial, counts, place, n, i);
-    match step {
-        Step::Refused(number) => Step::Refused(number),
-        Step::Read(after) => read_table(src, coefficient, monomial, counts, after, n, i + 1, m),
-    }
+    Step::Read(next)
 }
 
 // ---- the tree
@@ -323,14 +450,21 @@ fn read_parts(
     ensures { λ r. ⌜ Reads (now (src .entry)) (readParts (readNode nesting m parent) children (streamAt (now (src .entry)) place))
         (PartsStored place count (now (token .entry)) (now (token .exit))) r ⌝ }
 {
-    if children == 0 {
-        return Step::Read(place);
+    let mut next = place;
+    let mut left = children;
+    while 0 < left {
+        left -= 1;
+        let step = read_node(src, token, next, count, nesting, parent, m);
+        match step {
+            Step::Refused(number) => {
+                return Step::Refused(number);
+            }
+            Step::Read(after) => {
+                next = after;
+            }
+        }
     }
-    let step = read_node(src, token, place, count, nesting, parent, m);
-    match step {
-        Step::Refused(number) => Step::Refused(number),
-        Step::Read(after) => read_parts(src, token, after, count, nesting, parent, m, children - 1),
-    }
+    Step::Read(next)
 }
 
 // "At the end 14, then 15."
@@ -379,10 +513,24 @@ fn read_tree(src: &[u8], token: &mut [u32], place: Place, count: usize, m: u64) 
 
 // ---- the whole block
 
-// What the head holds: a refusal's number, or the variable count, the polynomial count and the node count.
+// The edition of a block by its head, 1 or 2; of bytes with another first field, one of them all the same, and the reader refuses them.
+pub fn edition(src: &[u8]) -> u64
+    ensures { λ r. ⌜ r ≡ editionNumber (headEdition (now (src .entry))) ⌝ }
+{
+    if src.len() == 0 {
+        return 1;
+    }
+    if get(src, 0, 4) < 2 {
+        return 1;
+    }
+    2
+}
+
+// What the head holds: a refusal's number, or the edition, the variable count, the polynomial count and the node count.
 enum Head {
     Refused(u8),
     Numbers {
+        edition: u64,
         variables: usize,
         polynomials: usize,
         nodes: usize,
@@ -396,7 +544,11 @@ fn read_head(src: &[u8]) -> Head
     if src.len() < 5 {
         return Head::Refused(2);
     }
-    if get(src, 0, 4) != 1 {
+    let edition = get(src, 0, 4);
+    if edition == 0 {
+        return Head::Refused(3);
+    }
+    if 2 < edition {
         return Head::Refused(3);
     }
     if get(src, 24, 16) != src.len() as u64 {
@@ -418,6 +570,7 @@ fn read_head(src: &[u8]) -> Head
         return Head::Refused(5);
     }
     Head::Numbers {
+        edition,
         variables,
         polynomials,
         nodes,
@@ -451,11 +604,12 @@ fn read_body(
     monomial: &mut [u64],
     terms: &mut [u8],
     token: &mut [u32],
+    edition: u64,
     variables: usize,
     polynomials: usize,
     nodes: usize,
 ) -> Contents
-    requires { ⌜ HeadHeld (now src) variables polynomials nodes × BlockRoom (now coefficient) (now monomial) (now terms) (now token) ⌝ }
+    requires { ⌜ HeadHeld (now src) edition variables polynomials nodes × BlockRoom (now coefficient) (now monomial) (now terms) (now token) ⌝ }
     ensures { λ r. ⌜ ContentsFound (now (src .entry)) (now (coefficient .entry)) (now (coefficient .exit)) (now (monomial .entry)) (now (monomial .exit))
         (now (terms .entry)) (now (terms .exit)) (now (token .entry)) (now (token .exit)) r ⌝ }
 {
@@ -469,8 +623,8 @@ fn read_body(
         monomial,
         terms,
         start,
+        edition,
         variables,
-        0,
         polynomials,
     );
     match step {
@@ -506,6 +660,7 @@ pub fn read_into(
     match numbers {
         Head::Refused(number) => Contents::Refused(number),
         Head::Numbers {
+            edition,
             variables,
             polynomials,
             nodes,
@@ -515,6 +670,7 @@ pub fn read_into(
             monomial,
             terms,
             token,
+            edition,
             variables,
             polynomials,
             nodes,

@@ -13,37 +13,41 @@ use lib.Seq.{take-append-le}
 use borrow.Author.Tests.{lt-ltb, le-ltb}
 use Rattle.rules.specs.Formula.{Node, leaf, allOf, anyOf, before, alone, nodes}
 use Rattle.rules.specs.Bits.{unpack, bytesFor}
-use Rattle.rules.specs.Block.{NumberedAtom, Block, Stream, refused, read, headField, readBlock, writeBody, blockLength, writeHead, writeBlock}
+use Rattle.rules.specs.Block.{NumberedAtom, Block, Edition, editionNumber, editionOf, Stream, refused, read, headField, headEdition, readBlock}
+use Rattle.rules.specs.Block.{writeBody, blockLength, writeHead, writeBlock}
 use Rattle.rules.specs.Limits.{BlockWithin}
 use Rattle.block_laws.specs.Bits.{AllBytes, length-unpack, bytesFor-filled, few-added, pack-bytes, unpack-pack, pack-unpacked}
 use Rattle.block_laws.specs.Accepted.{stream}
 use Rattle.block_laws.specs.Body.{body-reads-back, BodyAccepted, body-accepted}
 use Rattle.block_laws.specs.Head.{HeadAllowed, head-read, head-accepted, headBits, HeadReads, head-reads-back, head-field-below, begins, same-head}
-use Rattle.block_laws.specs.Head.{short-refused, length-refused}
+use Rattle.block_laws.specs.Head.{edition-back, edition-fits, short-refused, length-refused}
 use Rattle.block_laws.specs.Sizes.{length-block, block-below-32768}
 
 -- ---- What is written reads back.
 
 -- A block's head, and what follows it.
-abbrev headOf : Block → List Bool → List Bool
-headOf block rest = headBits 1 (block .variables) (length (block .table)) (nodes (alone (block .tree))) (blockLength block) rest
+abbrev headOf : Edition → Block → List Bool → List Bool
+headOf edition block rest =
+    headBits (editionNumber edition) (block .variables) (length (block .table)) (nodes (alone (block .tree))) (blockLength edition block) rest
 
 -- How many zero bits end a block.
-abbrev padding : Block → ℕ
-padding block = bytesFor (length (writeHead block ++ writeBody block)) * 8 - length (writeHead block ++ writeBody block)
+abbrev padding : Edition → Block → ℕ
+padding edition block =
+    bytesFor (length (writeHead edition block ++ writeBody edition block)) * 8 - length (writeHead edition block ++ writeBody edition block)
 
-written-bits : (block : Block) → unpack (writeBlock block) ≡ headOf block (writeBody block ++ replicate (padding block) false)
+written-bits : (edition : Edition) (block : Block)
+    → unpack (writeBlock edition block) ≡ headOf edition block (writeBody edition block ++ replicate (padding edition block) false)
 unfolding writeBlock writeHead
-written-bits block = unpack-pack (writeHead block ++ writeBody block) ∙ simp append-assoc
+written-bits edition block = unpack-pack (writeHead edition block ++ writeBody edition block) ∙ simp append-assoc
 
 -- What is written is bytes.
-pub written-bytes : (block : Block) → AllBytes (writeBlock block)
+pub written-bytes : (edition : Edition) (block : Block) → AllBytes (writeBlock edition block)
 unfolding writeBlock
-written-bytes block = pack-bytes (writeHead block ++ writeBody block)
+written-bytes edition block = pack-bytes (writeHead edition block ++ writeBody edition block)
 
-five-bytes : (block : Block) → 5 ≤ blockLength block
+five-bytes : (edition : Edition) (block : Block) → 5 ≤ blockLength edition block
 unfolding blockLength bytesFor
-five-bytes block = omega arith
+five-bytes edition block = omega arith
 
 some-node : (tree : Node NumberedAtom) → 0 < nodes (alone tree)
 unfolding nodes alone before
@@ -51,27 +55,47 @@ some-node (leaf a) = omega arith
 some-node (allOf kids) = omega arith
 some-node (anyOf kids) = omega arith
 
-head-allowed : (block : Block) (rest : List Bool) → BlockWithin block
-    → HeadReads (writeBlock block) 1 (block .variables) (length (block .table)) (nodes (alone (block .tree))) (blockLength block) rest → HeadAllowed (writeBlock block)
-head-allowed block rest within head = record {
-  five = rw length-block (five-bytes block);
-  edition = head .edition-is;
-  whole = head .length-is ∙ sym (length-block block);
+edition-read : (edition : Edition) (block : Block) {n m count whole : ℕ} {rest : List Bool}
+    → HeadReads (writeBlock edition block) (editionNumber edition) n m count whole rest
+    → headEdition (writeBlock edition block) ≡ edition
+unfolding headEdition
+edition-read edition block head = ap editionOf (head .edition-is) ∙ edition-back edition
+
+head-allowed : (edition : Edition) (block : Block) (rest : List Bool) → BlockWithin block
+    → HeadReads (writeBlock edition block) (editionNumber edition) (block .variables) (length (block .table)) (nodes (alone (block .tree)))
+    (blockLength edition block) rest → HeadAllowed (writeBlock edition block)
+head-allowed edition block rest within head = record {
+  five = rw (length-block edition block) (five-bytes edition block);
+  edition = head .edition-is ∙ ap editionNumber (sym (edition-read edition block head));
+  whole = head .length-is ∙ sym (length-block edition block);
   some-variables = rw (head .variables-are) (within .some-variables);
   variables = rw (head .variables-are) (within .variables);
   polynomials = rw (head .polynomials-are) (within .polynomials);
   some-nodes = rw (head .nodes-are) (some-node (block .tree));
 }
 
--- Every block within the limits, written, is accepted and gives back that block.
-pub reads-back : (block : Block) → BlockWithin block → (s : Stream) × (readBlock (writeBlock block) ≡ read block s)
-reads-back block within =
-    let head = head-reads-back (writeBlock block) 1 (block .variables) (length (block .table)) (nodes (alone (block .tree))) (blockLength block) _ (written-bits block)
-    (omega arith) (omega (arith, within .variables)) (omega (arith, within .polynomials)) (omega (arith, within .nodes))
-    (omega (arith, block-below-32768 block within)) in (
-      stream 0 (replicate (padding block) false),
-      head-read (writeBlock block) (head-allowed block _ within head)
-          ∙ rw (head .variables-are, head .polynomials-are, head .nodes-are, head .rest-is) (body-reads-back block (padding block) within (few-added _)),
+head-written : (edition : Edition) (block : Block) → BlockWithin block
+    → HeadReads (writeBlock edition block) (editionNumber edition) (block .variables) (length (block .table)) (nodes (alone (block .tree)))
+    (blockLength edition block)
+    (writeBody edition block ++ replicate (padding edition block) false)
+head-written edition block within =
+    head-reads-back (writeBlock edition block) (editionNumber edition) (block .variables) (length (block .table)) (nodes (alone (block .tree)))
+    (blockLength edition block) _ (written-bits edition block)
+    (edition-fits edition) (omega (arith, within .variables)) (omega (arith, within .polynomials)) (omega (arith, within .nodes))
+    (omega (arith, block-below-32768 edition block within))
+
+-- What is written says its edition.
+pub written-edition : (edition : Edition) (block : Block) → BlockWithin block → headEdition (writeBlock edition block) ≡ edition
+written-edition edition block within = edition-read edition block (head-written edition block within)
+
+-- Every block within the limits, written in either edition, is accepted and gives back that block.
+pub reads-back : (edition : Edition) (block : Block) → BlockWithin block → (s : Stream) × (readBlock (writeBlock edition block) ≡ read block s)
+reads-back edition block within =
+    let head = head-written edition block within in (
+      stream 0 (replicate (padding edition block) false),
+      head-read (writeBlock edition block) (head-allowed edition block _ within head)
+          ∙ rw (edition-read edition block head, head .variables-are, head .polynomials-are, head .nodes-are, head .rest-is)
+          (body-reads-back edition block (padding edition block) within (few-added _)),
     )
 
 -- ---- What is accepted.
@@ -80,20 +104,21 @@ reads-back block within =
 -- the tree no node and fewer than eight zero bits are left.
 pub record BlockAccepted (bytes : List ℕ) (block : Block) (s : Stream) : Type 0 where
   pub within : BlockWithin block
-  pub holds : unpack bytes ≡ writeHead block ++ writeBody block ++ s .bits
-  pub long : length bytes ≡ blockLength block
+  pub holds : unpack bytes ≡ writeHead (headEdition bytes) block ++ writeBody (headEdition bytes) block ++ s .bits
+  pub long : length bytes ≡ blockLength (headEdition bytes) block
   pub no-nodes-left : s .allowed ≡ 0
   pub few-bits-left : length (s .bits) < 8
   pub zero-bits-left : s .bits ≡ replicate (length (s .bits)) false
 
-accepted-length : (bytes : List ℕ) {block : Block} {n m count : ℕ} {s : Stream} → 5 ≤ length bytes → BodyAccepted n m (stream count (drop 40 (unpack bytes))) block s
-    → length bytes ≡ blockLength block
+accepted-length : (bytes : List ℕ) {edition : Edition} {block : Block} {n m count : ℕ} {s : Stream} → 5 ≤ length bytes
+    → BodyAccepted edition n m (stream count (drop 40 (unpack bytes))) block s
+    → length bytes ≡ blockLength edition block
 unfolding blockLength
-accepted-length bytes {block} {s = s} five body =
+accepted-length bytes {edition} {block} {s = s} five body =
     let all : length (drop 40 (unpack bytes)) ≡ 8 * length bytes - 40 = rw (length-drop, length-unpack) in
-    let parts : length (drop 40 (unpack bytes)) ≡ length (writeBody block) + length (s .bits) =
-    ap length (body .passed .over) ∙ length-append (writeBody block) (s .bits) in
-    sym (bytesFor-filled (40 + length (writeBody block)) (length (s .bits)) (length bytes) (omega arith) (body .few-bits-left))
+    let parts : length (drop 40 (unpack bytes)) ≡ length (writeBody edition block) + length (s .bits) =
+    ap length (body .passed .over) ∙ length-append (writeBody edition block) (s .bits) in
+    sym (bytesFor-filled (40 + length (writeBody edition block)) (length (s .bits)) (length bytes) (omega arith) (body .few-bits-left))
 
 -- All that follows from an acceptance.
 pub block-accepted : (bytes : List ℕ) {block : Block} {s : Stream} → readBlock bytes ≡ read block s → BlockAccepted bytes block s
@@ -101,10 +126,10 @@ unfolding writeHead
 block-accepted bytes {block} {s} accepted =
     let both = head-accepted bytes accepted in
     let head = both .0 in
-    let body = body-accepted _ _ _ (both .1) in
+    let body = body-accepted _ _ _ _ (both .1) in
     let long = accepted-length bytes (head .five) body in
     let counted : headField bytes 16 8 ≡ nodes (alone (block .tree)) = body .passed .counted ∙ rw (body .no-nodes-left) (add-zero _) in
-    let bits : unpack bytes ≡ headOf block (writeBody block ++ s .bits) =
+    let bits : unpack bytes ≡ headOf (headEdition bytes) block (writeBody (headEdition bytes) block ++ s .bits) =
     begins bytes (head .five) ∙ rw (head .edition, ← body .variables, ← body .polynomials, counted, head .whole, long, body .passed .over) in
     record {
       within = record {
@@ -128,28 +153,35 @@ accepted-within bytes accepted = block-accepted bytes accepted .within
 
 -- 01, "The program": "no accepted block is as long" as 32,768 bytes.
 pub accepted-below-32768 : (bytes : List ℕ) {block : Block} {s : Stream} → readBlock bytes ≡ read block s → length bytes < 32768
-accepted-below-32768 bytes {block} accepted = let told = block-accepted bytes accepted in rw (told .long) (block-below-32768 block (told .within))
+accepted-below-32768 bytes {block} accepted =
+    let told = block-accepted bytes accepted in rw (told .long) (block-below-32768 (headEdition bytes) block (told .within))
 
--- An accepted block is the one that is written for what it holds.
-pub one-block : (bytes : List ℕ) {block : Block} {s : Stream} → readBlock bytes ≡ read block s → AllBytes bytes → writeBlock block ≡ bytes
+-- An accepted block is the one that is written, in its edition, for what it holds.
+pub one-block : (bytes : List ℕ) {block : Block} {s : Stream} → readBlock bytes ≡ read block s → AllBytes bytes
+    → writeBlock (headEdition bytes) block ≡ bytes
 unfolding writeBlock
 one-block bytes {block} {s} accepted are-bytes =
     let told = block-accepted bytes accepted in
-    pack-unpacked bytes (writeHead block ++ writeBody block) (length (s .bits)) are-bytes (rw (← told .zero-bits-left) (told .holds)) (told .few-bits-left)
+    pack-unpacked bytes (writeHead (headEdition bytes) block ++ writeBody (headEdition bytes) block) (length (s .bits)) are-bytes
+    (rw (← told .zero-bits-left) (told .holds)) (told .few-bits-left)
 
--- No two blocks hold the same variable count, table and tree.
+-- No two blocks of an edition hold the same variable count, table and tree.
 pub no-two-blocks : (bytes other : List ℕ) {block : Block} {s t : Stream} → readBlock bytes ≡ read block s → readBlock other ≡ read block t
-    → AllBytes bytes → AllBytes other → bytes ≡ other
-no-two-blocks bytes other accepted accepted-other are-bytes are-bytes-other = sym (one-block bytes accepted are-bytes) ∙ one-block other accepted-other are-bytes-other
+    → headEdition bytes ≡ headEdition other → AllBytes bytes → AllBytes other → bytes ≡ other
+no-two-blocks bytes other {block} accepted accepted-other same are-bytes are-bytes-other =
+    sym (one-block bytes accepted are-bytes) ∙ ap (λ (edition : Edition). writeBlock edition block) same
+    ∙ one-block other accepted-other are-bytes-other
 
 -- ---- No block begins another.
 
 -- With the first five bytes of an accepted block, bytes of another length are refused by 4.
 pub one-length : (bytes other : List ℕ) {block : Block} {s : Stream} → readBlock bytes ≡ read block s → 5 ≤ length other → take 5 other ≡ take 5 bytes
     → (length other ≡ length bytes → ⊥) → readBlock other ≡ refused 4
+unfolding headEdition
 one-length bytes other accepted five same differs =
     let head = head-accepted bytes accepted .0 in
-    let edition = same-head bytes other 0 4 (head .five) five same (omega arith) ∙ head .edition in
+    let first = same-head bytes other 0 4 (head .five) five same (omega arith) in
+    let edition : headField other 0 4 ≡ editionNumber (headEdition other) = first ∙ head .edition ∙ ap editionNumber (sym (ap editionOf first)) in
     let whole = same-head bytes other 24 16 (head .five) five same (omega arith) ∙ head .whole in
     length-refused other five edition (λ e. differs (sym e ∙ whole))
 

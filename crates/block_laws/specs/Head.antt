@@ -1,24 +1,55 @@
 -- The head of a block: when it is allowed, its fields in the bits of a block, and that they stand in the first five bytes;
--- the two refusals by length.
-use mathlib.Core.Bool.{Bool, and-eq-true-iff}
+-- the two refusals by length, and the one by edition.
+use mathlib.Core.Bool.{Bool, true, _||_, false≢true, and-eq-true-iff}
 use mathlib.Core.List.{List, _++_}
-use mathlib.Core.Path.{_≡_, sym, ap, _∙_}
-use Prim.Native.Nat.{ℕ, _+_, _*_, _^_, _≤_, _<_}
+use mathlib.Core.Path.{_≡_, refl, sym, ap, _∙_, subst}
+use Prim.Native.Nat.{ℕ, zero, suc, _+_, _*_, _^_, _≤_, _<_}
 use native.Mathlib.Omega.{arith}
+use lib.Dec.{eqb}
 use lib.ListN.{length, take, drop, length-drop, take-append-drop}
 use lib.Seq.{drop-drop, take-append-le, drop-append-le, length-take-le}
 use borrow.Author.Tests.{lt-ltb, le-leb, lt-leb, eq-eqb, ne-eqb, ltb-true, leb-true, eqb-true}
 use Rattle.rules.specs.Bits.{field, value, unpack}
-use Rattle.rules.specs.Block.{Block, Stream, Reading, refused, read, require, readBody, headField, readBlock}
+use Rattle.rules.specs.Block.{Block, Edition, edition1, edition2, editionNumber, editionOf, Stream, Reading, refused, read, require, readBody}
+use Rattle.rules.specs.Block.{headField, headEdition, readBlock}
 use Rattle.block_laws.specs.Bits.{drop-field, written-field, read-field, read-below, length-unpack, unpack-append}
 use Rattle.block_laws.specs.Accepted.{require-read, stream}
+
+-- ---- The edition.
+
+-- An edition's number is 1 or 2,
+pub edition-known : (edition : Edition) → eqb (editionNumber edition) 1 || eqb (editionNumber edition) 2 ≡ true
+unfolding editionNumber
+edition-known edition1 = refl
+edition-known edition2 = refl
+
+-- it tells the edition,
+pub edition-back : (edition : Edition) → editionOf (editionNumber edition) ≡ edition
+unfolding editionNumber editionOf
+edition-back edition1 = refl
+edition-back edition2 = refl
+
+-- and no other number is one.
+pub known-edition : (number : ℕ) → eqb number 1 || eqb number 2 ≡ true → number ≡ editionNumber (editionOf number)
+unfolding editionNumber editionOf
+known-edition zero known = absurd (false≢true known)
+known-edition (suc zero) known = refl
+known-edition (suc (suc zero)) known = refl
+known-edition (suc (suc (suc k))) known =
+    absurd (false≢true (rw (ne-eqb (suc (suc (suc k))) 1 (λ e. omega arith), ne-eqb (suc (suc (suc k))) 2 (λ e. omega arith)) at known))
+
+-- It fits its four bits.
+pub edition-fits : (edition : Edition) → editionNumber edition < 2 ^ 4
+unfolding editionNumber
+edition-fits edition1 = omega arith
+edition-fits edition2 = omega arith
 
 -- ---- When a head is allowed.
 
 -- The fields of a head that is not refused.
 pub record HeadAllowed (bytes : List ℕ) : Type 0 where
   pub five : 5 ≤ length bytes
-  pub edition : headField bytes 0 4 ≡ 1
+  pub edition : headField bytes 0 4 ≡ editionNumber (headEdition bytes)
   pub whole : headField bytes 24 16 ≡ length bytes
   pub some-variables : 0 < headField bytes 4 5
   pub variables : headField bytes 4 5 ≤ 16
@@ -27,7 +58,11 @@ pub record HeadAllowed (bytes : List ℕ) : Type 0 where
 
 -- The reading of what follows the head, as the head asks.
 abbrev pub afterHead : List ℕ → Reading Block
-afterHead bytes = readBody (headField bytes 4 5) (headField bytes 9 7) (stream (headField bytes 16 8) (drop 40 (unpack bytes)))
+afterHead bytes = readBody (headEdition bytes) (headField bytes 4 5) (headField bytes 9 7) (stream (headField bytes 16 8) (drop 40 (unpack bytes)))
+
+edition-allowed : (bytes : List ℕ) → headField bytes 0 4 ≡ editionNumber (headEdition bytes)
+    → eqb (headField bytes 0 4) 1 || eqb (headField bytes 0 4) 2 ≡ true
+edition-allowed bytes is = subst (λ (k : ℕ). eqb k 1 || eqb k 2 ≡ true) (sym is) (edition-known (headEdition bytes))
 
 -- With such a head, the block is read as what follows.
 pub head-read : (bytes : List ℕ) → HeadAllowed bytes → readBlock bytes ≡ afterHead bytes
@@ -35,7 +70,7 @@ unfolding readBlock require
 head-read bytes head =
     rw (
       le-leb _ _ (head .five),
-      eq-eqb _ _ (head .edition),
+      edition-allowed bytes (head .edition),
       eq-eqb _ _ (head .whole),
       lt-ltb _ _ (head .some-variables),
       le-leb _ _ (head .variables),
@@ -56,7 +91,7 @@ head-accepted bytes accepted =
     let variables = and-eq-true-iff _ _ .0 (polynomials .0) in (
       record {
         five = leb-true _ _ (five .0);
-        edition = eqb-true _ _ (edition .0);
+        edition = unfold headEdition in known-edition (headField bytes 0 4) (edition .0);
         whole = eqb-true _ _ (whole .0);
         some-variables = ltb-true _ _ (variables .0);
         variables = leb-true _ _ (variables .1);
@@ -150,14 +185,21 @@ pub same-head : (bytes other : List ℕ) (from k : ℕ) → 5 ≤ length bytes �
 same-head bytes other from k five five-other same inside =
     field-of-five other from k five-other inside ∙ ap (λ (x : List ℕ). headField x from k) same ∙ sym (field-of-five bytes from k five inside)
 
--- ---- Refused by the length.
+-- ---- Refused by the length or the edition.
 
 -- Fewer than five bytes are refused by 2.
 pub short-refused : (bytes : List ℕ) → length bytes < 5 → readBlock bytes ≡ refused 2
 unfolding readBlock require
 short-refused bytes short = rw (lt-leb 5 (length bytes) short)
 
--- A length field that is not the length is refused by 4.
-pub length-refused : (bytes : List ℕ) → 5 ≤ length bytes → headField bytes 0 4 ≡ 1 → (headField bytes 24 16 ≡ length bytes → ⊥) → readBlock bytes ≡ refused 4
+-- 02, #109: "3 now means neither 1 nor 2".
+pub edition-refused : (bytes : List ℕ) → 5 ≤ length bytes → (headField bytes 0 4 ≡ 1 → ⊥) → (headField bytes 0 4 ≡ 2 → ⊥)
+    → readBlock bytes ≡ refused 3
 unfolding readBlock require
-length-refused bytes five edition differs = rw (le-leb _ _ five, eq-eqb _ _ edition, ne-eqb _ _ differs)
+edition-refused bytes five not-one not-two = rw (le-leb _ _ five, ne-eqb _ _ not-one, ne-eqb _ _ not-two)
+
+-- A length field that is not the length is refused by 4.
+pub length-refused : (bytes : List ℕ) → 5 ≤ length bytes → headField bytes 0 4 ≡ editionNumber (headEdition bytes)
+    → (headField bytes 24 16 ≡ length bytes → ⊥) → readBlock bytes ≡ refused 4
+unfolding readBlock require
+length-refused bytes five edition differs = rw (le-leb _ _ five, edition-allowed bytes edition, ne-eqb _ _ differs)

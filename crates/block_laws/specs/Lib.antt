@@ -1,4 +1,5 @@
 pub mod Bits
+pub mod Pairs
 pub mod Accepted
 pub mod Table
 pub mod Tree
@@ -6,3 +7,5 @@ pub mod Body
 pub mod Head
 pub mod Sizes
 pub mod Blocks
+pub mod Conversions
+pub mod Longest

@@ -1,3 +1,4 @@
 pub mod Scaled
 pub mod Alike
 pub mod Edge
+pub mod Converted

@@ -4,18 +4,19 @@ use mathlib.Core.Path.{_≡_, refl, sym, ap, _∙_, subst}
 use mathlib.Core.Bool.{Bool, true, false}
 use mathlib.Core.List.{List}
 use mathlib.Core.Option.{some}
-use Prim.Native.Nat.{ℕ}
+use Prim.Native.Nat.{ℕ, _≤_}
 use native.Mathlib.Omega.{arith}
 use lib.Dec.{leb}
 use lib.ListN.{length}
+use borrow.Author.Tests.{le-leb}
 use Rattle.rules.specs.Polynomial.{Atom}
 use Rattle.rules.specs.Formula.{Node, eachAtomOf, atoms}
 use Rattle.rules.specs.Level.{plain, placedTree}
-use Rattle.rules.specs.Block.{Block, Stream, Reading, refused, read, readBlock, writeBlock}
-use Rattle.rules.specs.Answer.{Answer, refusal, answered, formulaOf, simplified, newBlock, countsOf, answerTo, unlessShort, answer}
+use Rattle.rules.specs.Block.{Block, Edition, Stream, Reading, refused, read, headEdition, readBlock, blockLength, writeBlock}
+use Rattle.rules.specs.Answer.{Answer, refusal, answered, formulaOf, verdictOf, simplified, newBlock, countsOf, answerTo, unlessShort, answer}
 use Rattle.rules.specs.Meaning.{holdsAt, Choice, wholeNumbers, holdsOver}
 use Rattle.rules.specs.Demands.{readHolds, SameLifts, SameWholeLifts, NeverLonger, PlacesTell}
-use Rattle.block_laws.specs.Blocks.{reads-back, block-accepted, accepted-within}
+use Rattle.block_laws.specs.Blocks.{written-edition, reads-back, block-accepted, accepted-within}
 use Rattle.block_laws.specs.Sizes.{length-block}
 use Rattle.level_laws.specs.Rules.{verdict-always, verdict-unsatisfiable}
 use Rattle.level_laws.specs.Written.{placedTree-plain, newBlock-keeps}
@@ -30,11 +31,24 @@ use Rattle.laws.specs.Fractions.{respected-over, whole-holds}
 
 module _ (bytes : List ℕ) {given : Block} {stream : Stream} (accepted : readBlock bytes ≡ read given stream) where
   -- The answer's bytes are accepted, as the block that the answer is.
-  pub answer-reads-back : (left : Stream) × (readBlock (writeBlock (newBlock given)) ≡ read (newBlock given) left)
-  answer-reads-back = reads-back (newBlock given) (new-within given (accepted-within bytes accepted))
+  pub answer-reads-back : (left : Stream) × (readBlock (writeBlock (headEdition bytes) (newBlock given)) ≡ read (newBlock given) left)
+  answer-reads-back = reads-back (headEdition bytes) (newBlock given) (new-within given (accepted-within bytes accepted))
+
+  -- The answer is in the edition that was given.
+  pub answer-keeps-edition : headEdition (writeBlock (headEdition bytes) (newBlock given)) ≡ headEdition bytes
+  answer-keeps-edition = written-edition (headEdition bytes) (newBlock given) (new-within given (accepted-within bytes accepted))
+
+  -- The block converted to an edition has the same verdict and counts, and its answer is the answer in that edition.
+  pub converted-answer : (edition : Edition) (room : ℕ) → blockLength edition given ≤ room
+      → answer room (writeBlock edition given) ≡ answered (verdictOf (simplified given)) (writeBlock edition (newBlock given))
+      (countsOf given (newBlock given))
+  unfolding answer unlessShort answerTo
+  converted-answer edition room enough =
+      let within = accepted-within bytes accepted in
+      rw (length-block edition given, le-leb _ _ enough, written-edition edition given within, reads-back edition given within .1)
 
   -- At every choice of fractions the answer, read back, holds exactly when the block does; ALWAYS and UNSATISFIABLE are right there.
-  pub same-lifts-of : SameLifts (read given stream) (answerTo (read given stream))
+  pub same-lifts-of : SameLifts (read given stream) (answerTo (headEdition bytes) (read given stream))
   unfolding SameLifts answerTo readHolds holdsOver simplified
   same-lifts-of choice = (
     ap (readHolds (holdsOver choice)) (answer-reads-back .1) ∙ ap some (newBlock-keeps given (respected-over choice)),
@@ -46,11 +60,14 @@ module _ (bytes : List ℕ) {given : Block} {stream : Stream} (accepted : readBl
       same-tree = ap (holdsOver choice) (sym (placedTree-plain (formulaOf given)))
 
   -- No more atoms, polynomials or bytes.
-  pub never-longer-of : NeverLonger bytes (answerTo (read given stream))
+  pub never-longer-of : NeverLonger bytes (answerTo (headEdition bytes) (read given stream))
   unfolding NeverLonger answerTo countsOf
   never-longer-of =
-      let shorter = never-longer given (accepted-within bytes accepted) in
-      (shorter .atoms, shorter .polynomials, omega (arith, length-block (newBlock given), shorter .bytes, block-accepted bytes accepted .long))
+      let shorter = never-longer (headEdition bytes) given (accepted-within bytes accepted) in (
+        shorter .atoms,
+        shorter .polynomials,
+        omega (arith, length-block (headEdition bytes) (newBlock given), shorter .bytes, block-accepted bytes accepted .long),
+      )
 
   -- The answer's table is all used, each form once, no constant: polynomials out are the forms that the new tree uses, as polynomials in are those
   -- that the given tree uses.
@@ -59,11 +76,11 @@ module _ (bytes : List ℕ) {given : Block} {stream : Stream} (accepted : readBl
 
 -- ---- The answer to any byte string, however much output is lent: a refusal, or that to an accepted block.
 
-by-reading : (P : Answer → Type 0) (reading : Reading Block) → ((number : ℕ) → P (refusal number))
-    → ((given : Block) (stream : Stream) → reading ≡ read given stream → P (answerTo (read given stream))) → P (answerTo reading)
+by-reading : (P : Answer → Type 0) (edition : Edition) (reading : Reading Block) → ((number : ℕ) → P (refusal number))
+    → ((given : Block) (stream : Stream) → reading ≡ read given stream → P (answerTo edition (read given stream))) → P (answerTo edition reading)
 unfolding answerTo
-by-reading P (refused number) on-refusal on-accepted = on-refusal number
-by-reading P (read given stream) on-refusal on-accepted = on-accepted given stream refl
+by-reading P edition (refused number) on-refusal on-accepted = on-refusal number
+by-reading P edition (read given stream) on-refusal on-accepted = on-accepted given stream refl
 
 by-room : (P : Answer → Type 0) (enough : Bool) (a : Answer) → P (refusal 1) → P a → P (unlessShort enough a)
 unfolding unlessShort
@@ -71,17 +88,20 @@ by-room P true a on-short on-enough = on-enough
 by-room P false a on-short on-enough = on-short
 
 by-answer : (P : Answer → Type 0) (room : ℕ) (bytes : List ℕ) → ((number : ℕ) → P (refusal number))
-    → ((given : Block) (stream : Stream) → readBlock bytes ≡ read given stream → P (answerTo (read given stream))) → P (answer room bytes)
+    → ((given : Block) (stream : Stream) → readBlock bytes ≡ read given stream → P (answerTo (headEdition bytes) (read given stream)))
+    → P (answer room bytes)
 unfolding answer
 by-answer P room bytes on-refusal on-accepted =
-    by-room P (leb (length bytes) room) (answerTo (readBlock bytes)) (on-refusal 1) (by-reading P (readBlock bytes) on-refusal on-accepted)
+    by-room P (leb (length bytes) room) (answerTo (headEdition bytes) (readBlock bytes)) (on-refusal 1)
+    (by-reading P (headEdition bytes) (readBlock bytes) on-refusal on-accepted)
 
 -- Demand 3: for each choice of fractions with a common denominator the answer holds exactly when the original holds; UNSATISFIABLE only if nothing
 -- satisfies the original, ALWAYS only if all does.
 pub same-lifts : (room : ℕ) (bytes : List ℕ) → SameLifts (readBlock bytes) (answer room bytes)
 unfolding SameLifts
 same-lifts room bytes = by-answer (SameLifts (readBlock bytes)) room bytes (refused-same (readBlock bytes))
-    (λ given stream e. subst (λ (reading : Reading Block). SameLifts reading (answerTo (read given stream))) (sym e) (same-lifts-of bytes e))
+    (λ given stream e. subst (λ (reading : Reading Block). SameLifts reading (answerTo (headEdition bytes) (read given stream))) (sym e)
+    (same-lifts-of bytes e))
   where
     refused-same : (reading : Reading Block) (number : ℕ) → SameLifts reading (refusal number)
     refused-same reading number = tt

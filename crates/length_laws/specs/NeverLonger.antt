@@ -1,22 +1,25 @@
 -- Law never-longer: atoms, nodes, polynomials and bytes of the new block are at most the given block's, its polynomials counted as the forms that its
 -- tree uses. Atoms and nodes for every block; the table, and with it the bytes, for a block within the limits.
+use mathlib.Core.Bool.{Bool, true, false}
 use mathlib.Core.Path.{_≡_, refl, sym, ap, ap₂, _∙_}
 use mathlib.Core.List.{List, [], _∷_, map}
 use mathlib.Core.List.{List·Memᴰ as Member}
 use Prim.Native.Nat.{ℕ, _+_, _≤_}
 use native.Mathlib.Omega.{arith}
 use lib.Dec.{lit≤}
-use lib.ListN.{length}
-use Rattle.rules.specs.Polynomial.{Polynomial, Atom}
+use lib.IntN.{negℤ}
+use lib.ListN.{length, length-append}
+use Rattle.rules.specs.Signs.{SignSet, full}
+use Rattle.rules.specs.Polynomial.{Polynomial, Atom, divided, turned, firstIsNegative, normal}
 use Rattle.rules.specs.Formula.{Node, eachAtomOf, alone, nodes, atoms}
 use Rattle.rules.specs.Level.{Placed, plain, placedTree}
-use Rattle.rules.specs.Block.{Block, blockLength}
+use Rattle.rules.specs.Block.{Block, Edition, writeTable, blockLength}
 use Rattle.rules.specs.Limits.{BlockWithin}
 use Rattle.rules.specs.Answer.{lookedUp, formulaOf, used, numbered, blockOf, formsUsed, simplified, newBlock}
 use Rattle.sign_laws.specs.Lists.{Every, every-none}
 use Rattle.level_laws.specs.Written.{placedTree-plain}
-use Rattle.block_laws.specs.Sizes.{termCount, no-longer}
-use Rattle.normal_laws.specs.Shape.{normalForm, normalForm-length}
+use Rattle.block_laws.specs.Sizes.{polynomialBits, same-bits, no-longer}
+use Rattle.normal_laws.specs.Shape.{normalForm}
 use Rattle.length_laws.specs.Weight.{weight, one, weight-nodes, weight-atoms, weight-each-of}
 use Rattle.length_laws.specs.Shorter.{simplify-lighter}
 use Rattle.length_laws.specs.Alternation.{TreeAlternates, tree-each, tree-alone}
@@ -113,16 +116,11 @@ total-mapped w f h (p ∷ ps) = ap₂ (λ (j k : ℕ). j + k) (h p) (total-mappe
 pub table-never-heavier : (w : Polynomial → ℕ) (given : Block) → BlockWithin given → total w (newBlock given .table) ≤ total w (formsUsed (formulaOf given))
 table-never-heavier w given h = pigeonhole w (new-distinct given) (new-forms given h)
 
--- and by one that goes by the number of terms these weigh no more than the given table.
-pub used-never-heavier : (w : ℕ → ℕ) (given : Block) → BlockWithin given
-    → total (λ (p : Polynomial). w (length p)) (formsUsed (formulaOf given)) ≤ total (λ (p : Polynomial). w (length p)) (given .table)
-used-never-heavier w given h =
-    let byTerms : Polynomial → ℕ = λ (p : Polynomial). w (length p) in
-    omega (
-      arith,
-      pigeonhole byTerms (forms-once (formulaOf given)) (used-of-table given h),
-      total-mapped byTerms normalForm (λ p. ap w (normalForm-length p)) (given .table),
-    )
+-- and by one that ignores the coefficients these weigh no more than the given table.
+pub used-never-heavier : (w : Polynomial → ℕ) → ((p : Polynomial) → w (normalForm p) ≡ w p) → (given : Block) → BlockWithin given
+    → total w (formsUsed (formulaOf given)) ≤ total w (given .table)
+used-never-heavier w ignores given h =
+    omega (arith, pigeonhole w (forms-once (formulaOf given)) (used-of-table given h), total-mapped w normalForm ignores (given .table))
 
 total-count : (l : List Polynomial) → total (λ (p : Polynomial). 1) l ≡ length l
 unfolding total
@@ -137,7 +135,7 @@ polynomials-never-more given h =
 -- which are no more than the given table has.
 pub used-never-more : (given : Block) → BlockWithin given → length (formsUsed (formulaOf given)) ≤ length (given .table)
 used-never-more given h =
-    omega (arith, used-never-heavier (λ terms. 1) given h, total-count (formsUsed (formulaOf given)), total-count (given .table))
+    omega (arith, used-never-heavier (λ p. 1) (λ p. refl) given h, total-count (formsUsed (formulaOf given)), total-count (given .table))
 
 -- ---- Bytes.
 
@@ -146,36 +144,52 @@ pub new-variables : (given : Block) → newBlock given .variables ≡ given .var
 unfolding newBlock blockOf
 new-variables given = refl
 
-total-terms : (l : List Polynomial) → total (λ (p : Polynomial). length p) l ≡ termCount l
-unfolding total termCount
-total-terms [] = refl
-total-terms (p ∷ ps) = ap (λ (k : ℕ). length p + k) (total-terms ps)
+turned-bits : (edition : Edition) (n : ℕ) (b : Bool) (p : Polynomial) (set : SignSet)
+    → polynomialBits edition n (turned b p set .polynomial) ≡ polynomialBits edition n p
+unfolding turned
+turned-bits edition n true p set = same-bits edition n negℤ p
+turned-bits edition n false p set = refl
 
--- The new block has no more terms.
-pub terms-never-more : (given : Block) → BlockWithin given → termCount (newBlock given .table) ≤ termCount (given .table)
-terms-never-more given h =
-    omega (arith, table-never-heavier length given h, used-never-heavier (λ terms. terms) given h, total-terms (newBlock given .table), total-terms (given .table))
+-- A normal form takes the bits of its polynomial.
+pub normalForm-bits : (edition : Edition) (n : ℕ) (p : Polynomial) → polynomialBits edition n (normalForm p) ≡ polynomialBits edition n p
+unfolding normalForm normal divided
+normalForm-bits edition n p = turned-bits edition n (firstIsNegative (divided p)) (divided p) full ∙ same-bits edition n _ p
 
--- The new block has no more bytes.
-pub bytes-never-more : (given : Block) → BlockWithin given → blockLength (newBlock given) ≤ blockLength given
-bytes-never-more given h =
-    no-longer (newBlock given) given (new-variables given) (omega (arith, polynomials-never-more given h, used-never-more given h)) (terms-never-more given h)
-    (new-nodes given) (new-atoms given)
+total-bits : (edition : Edition) (n : ℕ) (l : List Polynomial) → total (polynomialBits edition n) l ≡ length (writeTable edition n l)
+unfolding total writeTable
+total-bits edition n [] = refl
+total-bits edition n (p ∷ ps) = rw (length-append, total-bits edition n ps)
+
+-- The new block's table takes no more bits.
+pub table-never-longer : (edition : Edition) (given : Block) → BlockWithin given
+    → length (writeTable edition (newBlock given .variables) (newBlock given .table)) ≤ length (writeTable edition (given .variables) (given .table))
+table-never-longer edition given h =
+    rw (new-variables given) (omega (
+      arith,
+      table-never-heavier (polynomialBits edition (given .variables)) given h,
+      used-never-heavier (polynomialBits edition (given .variables)) (normalForm-bits edition (given .variables)) given h,
+      total-bits edition (given .variables) (newBlock given .table),
+      total-bits edition (given .variables) (given .table),
+    ))
+
+-- The new block has no more bytes, in the same edition.
+pub bytes-never-more : (edition : Edition) (given : Block) → BlockWithin given → blockLength edition (newBlock given) ≤ blockLength edition given
+bytes-never-more edition given h = no-longer edition (newBlock given) given (table-never-longer edition given h) (new-nodes given) (new-atoms given)
 
 -- ---- The law.
 
 -- The atoms, nodes, polynomials and bytes of one block are at most another's, whose polynomials are the forms that its tree uses.
-pub record NoLonger (new given : Block) : Type 0 where
+pub record NoLonger (edition : Edition) (new given : Block) : Type 0 where
   pub atoms : atoms (alone (new .tree)) ≤ atoms (alone (given .tree))
   pub nodes : nodes (alone (new .tree)) ≤ nodes (alone (given .tree))
   pub polynomials : length (new .table) ≤ length (formsUsed (formulaOf given))
-  pub bytes : blockLength new ≤ blockLength given
+  pub bytes : blockLength edition new ≤ blockLength edition given
 
--- The new block is in no count longer than the given one.
-pub never-longer : (given : Block) → BlockWithin given → NoLonger (newBlock given) given
-never-longer given h = record {
+-- The new block is in no count longer than the given one, both in the same edition.
+pub never-longer : (edition : Edition) (given : Block) → BlockWithin given → NoLonger edition (newBlock given) given
+never-longer edition given h = record {
   atoms = new-atoms given;
   nodes = new-nodes given;
   polynomials = polynomials-never-more given h;
-  bytes = bytes-never-more given h;
+  bytes = bytes-never-more edition given h;
 }

@@ -5,7 +5,7 @@ use mathlib.Core.List.{List}
 use Prim.Native.Nat.{ℕ, _<_, _≤_}
 use lib.IntN.{ℤ, pos}
 use lib.ListN.{length, replicate}
-use Rattle.rules.specs.Block.{refused, readBlock}
+use Rattle.rules.specs.Block.{refused, editionNumber, headEdition, readBlock}
 use Rattle.rules.specs.Answer.{Answer as BookAnswer, written}
 use Rattle.block.specs.declared.Contents.{Contents}
 use Rattle.block.specs.declared.Contents.the-variants.{Refused as NoBlock, Numbers}
@@ -43,9 +43,9 @@ module _ {bytes : List ℕ} {cs : List ℤ} {ms ts token : List ℕ} {contents :
   found-refused e = (rw e at found) .found
 
   -- or what is accepted, held in arrays that were blank.
-  pub found-accepted : {variables polynomials root count : ℕ} (room : ℕ) → contents ≡ Numbers variables polynomials root count → length bytes ≤ room
-      → Accepted bytes (heldBy variables polynomials root count cs ms ts token) room
+  pub found-accepted : {edition variables polynomials root count : ℕ} (room : ℕ) → contents ≡ Numbers variables polynomials root count → length bytes ≤ room
+      → edition ≡ editionNumber (headEdition bytes) → Accepted bytes edition (heldBy variables polynomials root count cs ms ts token) room
   unfolding ContentsOf heldOf
-  found-accepted room e enough =
+  found-accepted room e enough in-edition =
       let stored = (rw e at found) .found in
-      record { given = stored .block; stream = stored .rest; accepted = stored .reading; is = stored .stored; enough = enough }
+      record { in-edition = in-edition; given = stored .block; stream = stored .rest; accepted = stored .reading; is = stored .stored; enough = enough }

@@ -17,6 +17,7 @@ use Rattle.answer.specs.declared.Counts.{Counts}
 use Rattle.answer.specs.declared.Answer.{Answer}
 use Rattle.answer.specs.declared.Answer.the-variants.{Refused, Answered}
 use Rattle.answer.specs.Answered.{verdictOf, countsOf, answerOf, lengthIn}
+use Rattle.lift.specs.Refusals.{to-twenty-three}
 use Rattle.lift.specs.Bounds.{Bounded, by-number, by-block, answer-bounded}
 use Rattle.answer.specs.Entry.{Answers}
 use Rattle.lift.specs.Part.{part-length}
@@ -144,13 +145,13 @@ high v size short = omega arith
 
 refusal-if : (a : book.Answer) → Bounded a → ltb (exported a) 256 ≡ isRefusal a
 unfolding exported isRefusal
-refusal-if (book.refusal number) (by-number in-table) = lt-ltb number 256 (omega (arith, in-table .to-fifteen))
+refusal-if (book.refusal number) (by-number in-table) = lt-ltb number 256 (omega (arith, to-twenty-three in-table))
 refusal-if (book.answered verdict bytes counts) bounded =
     le-ltb (verdictNumber verdict * 65536 + length bytes) 256 (omega (arith, verdict-numbers verdict .0))
 
 verdict-if : (a : book.Answer) → Bounded a → exported a / 65536 ≡ verdictIfAny a
 unfolding exported verdictIfAny
-verdict-if (book.refusal number) (by-number in-table) = let few = in-table .to-fifteen in omega arith
+verdict-if (book.refusal number) (by-number in-table) = let few = to-twenty-three in-table in omega arith
 verdict-if (book.answered verdict bytes counts) (by-block head longest) = high (verdictNumber verdict) (length bytes) (omega arith)
 
 length-if : (a : book.Answer) → Bounded a → isRefusal a ≡ false → exported a % 65536 ≡ length (filledPart a)

@@ -33,7 +33,7 @@ pub record Reports (bytes before after text text-after : List ℕ) (n : ℕ) : T
 
 -- ---- how much room is enough
 
-lines-most : (a : book.Answer) → Bounded a → length (report a) ≤ 38082
+lines-most : (a : book.Answer) → Bounded a → length (report a) ≤ 64578
 lines-most (book.refusal number) bounded = omega (arith, refusal-long number)
 lines-most (book.answered verdict bytes counts) (by-block head longest) = omega (arith, lines-long verdict bytes counts, line-long verdict counts)
 
@@ -43,8 +43,8 @@ lines-within bytes (book.refusal number) short = omega (arith, refusal-long numb
 lines-within bytes (book.answered verdict new counts) short = omega (arith, short .2, lines-long verdict new counts, line-long verdict counts)
 
 module _ (room : ℕ) (bytes : List ℕ) where
-  -- A text of 38,082 bytes has room for the lines of every answer;
-  pub lines-fit : length (report (book.answer room bytes)) ≤ 38082
+  -- A text of 64,578 bytes has room for the lines of every answer;
+  pub lines-fit : length (report (book.answer room bytes)) ≤ 64578
   lines-fit = lines-most (book.answer room bytes) (answer-bounded room bytes)
 
   -- so has one of three bytes for each byte of the input and 32 more, PLACARDPAN_TEXT in include/placardpan.h: the new block is never longer.
@@ -62,8 +62,8 @@ module _ {bytes before after text text-after : List ℕ} {n : ℕ} (r : Reports 
       let whole : text-after ≡ lines ++ drop (length lines) text = rw (le-leb (length lines) (length text) fits) at (r .lines .text) in
       rw (all, whole) (take-append-seam lines (drop (length lines) text))
 
-  -- so in a text of 38,082 bytes,
-  pub reports-all : 38082 ≤ length text → take n text-after ≡ report (book.answer (length before) bytes)
+  -- so in a text of 64,578 bytes,
+  pub reports-all : 64578 ≤ length text → take n text-after ≡ report (book.answer (length before) bytes)
   reports-all room = reports-whole (omega (arith, lines-fit (length before) bytes))
 
   -- and in one of PLACARDPAN_TEXT.

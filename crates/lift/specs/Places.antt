@@ -6,7 +6,7 @@ use Prim.Native.Nat.{ℕ, _<_, _≤_}
 use lib.Dec.{leb}
 use lib.ListN.{length}
 use borrow.Author.Tests.{le-leb, lt-leb}
-use Rattle.rules.specs.Block.{Block, Stream, Reading, refused, read, readBlock}
+use Rattle.rules.specs.Block.{Block, Stream, Reading, refused, read, headEdition, readBlock}
 use Rattle.rules.specs.Answer as book
 use Rattle.rules.specs.Answer.{written, unlessShort, unlessFew, answerTo, placedAnswer, placesWritten}
 use Rattle.rules.specs.Demands.{SameLifts, NeverLonger}
@@ -93,7 +93,7 @@ by-places P room few bytes on-refusal on-answer = by-few (leb 255 few)
     by-room true = on-refusal 18
     by-room false = on-refusal 1
 
-    by-few : (b : Bool) → P (unlessShort (leb (length bytes) room) (unlessFew b (answerTo (readBlock bytes))))
+    by-few : (b : Bool) → P (unlessShort (leb (length bytes) room) (unlessFew b (answerTo (headEdition bytes) (readBlock bytes))))
     by-few true = on-answer
     by-few false = by-room (leb (length bytes) room)
 

@@ -21,6 +21,7 @@ pub use answer::Counts;
 pub use answer::Verdict;
 use answer::answer_to;
 use block::Contents;
+use block::edition;
 use block::read_into;
 pub use placing::placed;
 use telling::tell_answer;
@@ -50,18 +51,22 @@ fn answered(input: &[u8], output: &mut [u8], places: &mut [u8]) -> Answer
             polynomials,
             root,
             tokens,
-        } => answer_to(
-            variables,
-            polynomials,
-            root,
-            tokens,
-            &mut coefficient,
-            &mut monomial,
-            &mut terms,
-            &mut token,
-            output,
-            places,
-        ),
+        } => {
+            let number = edition(input);
+            answer_to(
+                number,
+                variables,
+                polynomials,
+                root,
+                tokens,
+                &mut coefficient,
+                &mut monomial,
+                &mut terms,
+                &mut token,
+                output,
+                places,
+            )
+        }
     }
 }
 

@@ -4,13 +4,13 @@ use libc::STDIN_FILENO;
 use printing::asked_for_places;
 use printing::print_asked;
 
-// "It reads at most 32,768 bytes of a block on standard input; the rest is not read." The lines of an answer take at most 38,082 bytes
+// "It reads at most 32,768 bytes of a block on standard input; the rest is not read." The lines of an answer take at most 64,578 bytes
 // (`lift/specs/Lines.antt: lines-fit`).
 fn main() {
     let mut space = [0u8; 32768];
     let length = io::read_full(STDIN_FILENO, &mut space);
     let mut output = [0u8; 32768];
-    let mut text = [0u8; 38082];
+    let mut text = [0u8; 64578];
     let places = asked_for_places();
     print_asked(&space[..length], &mut output, &mut text, places);
 }

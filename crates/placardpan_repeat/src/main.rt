@@ -33,6 +33,6 @@ fn main() {
     let mut space = [0u8; 32768];
     let length = io::read_full(STDIN_FILENO, &mut space);
     let mut output = [0u8; 32768];
-    let mut text = [0u8; 38082];
+    let mut text = [0u8; 64578];
     repeat(&space[..length], &mut output, &mut text, often);
 }

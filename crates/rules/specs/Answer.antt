@@ -11,7 +11,7 @@ use Rattle.rules.specs.Polynomial.{Polynomial, Atom, normal, constant, s
 use Rattle.rules.specs.Formula.{Parts, end, atom, and, or, Node, leaf, allOf, anyOf, isEnd, eachAtomOf, atoms, alone}
 use Rattle.rules.specs.Level.{Placed, plain, placedTree, places, simplify}
 use Rattle.rules.specs.Count.{mostRounds}
-use Rattle.rules.specs.Block.{NumberedAtom, Block, Reading, refused, read, readBlock, writeBlock}
+use Rattle.rules.specs.Block.{NumberedAtom, Block, Edition, Reading, refused, read, headEdition, readBlock, writeBlock}
 
 -- The formula that a block holds: each atom with its polynomial instead of the number.
 unfoldable pub lookedUp : List Polynomial → NumberedAtom → Atom
@@ -122,9 +122,10 @@ newBlock given = blockOf (given .variables) (eachAtomOf plain (simplified given)
 unfoldable pub newPlaces : Block → List ℕ
 newPlaces given = places (alone (simplified given))
 
-unfoldable pub answerTo : Reading Block → Answer
-answerTo (refused number) = refusal number
-answerTo (read given stream) = answered (verdictOf (simplified given)) (writeBlock (newBlock given)) (countsOf given (newBlock given))
+-- 02, #109: "The simplifier answers in the edition it was given".
+unfoldable pub answerTo : Edition → Reading Block → Answer
+answerTo edition (refused number) = refusal number
+answerTo edition (read given stream) = answered (verdictOf (simplified given)) (writeBlock edition (newBlock given)) (countsOf given (newBlock given))
 
 -- Request #108: "the largest number of rounds that one run of the rounds took"; a refusal has no run.
 unfoldable pub roundsOf : Reading Block → ℕ
@@ -137,7 +138,7 @@ unlessShort true answer = answer
 unlessShort false answer = refusal 1
 
 unfoldable pub answer : ℕ → List ℕ → Answer
-answer room bytes = unlessShort (leb (length bytes) room) (answerTo (readBlock bytes))
+answer room bytes = unlessShort (leb (length bytes) room) (answerTo (headEdition bytes) (readBlock bytes))
 
 -- ---- 02, #105: "The places go to a lent slice of 255 bytes". "Refusals: 18 if that slice is shorter than 255, tried directly after 1."
 unfoldable pub unlessFew : Bool → Answer → Answer
@@ -145,7 +146,7 @@ unlessFew true answer = answer
 unlessFew false answer = refusal 18
 
 unfoldable pub placedAnswer : ℕ → ℕ → List ℕ → Answer
-placedAnswer room few bytes = unlessShort (leb (length bytes) room) (unlessFew (leb 255 few) (answerTo (readBlock bytes)))
+placedAnswer room few bytes = unlessShort (leb (length bytes) room) (unlessFew (leb 255 few) (answerTo (headEdition bytes) (readBlock bytes)))
 
 -- "one for each atom of the answer in order, the others unchanged; on refusal all are"
 unfoldable pub readPlaces : Reading Block → List ℕ

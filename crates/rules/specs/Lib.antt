@@ -7,14 +7,17 @@ pub mod Formula
 pub mod Level
 pub mod Count
 pub mod Bits
+pub mod Pairs
 pub mod Block
 pub mod Limits
 pub mod Answer
+pub mod Convert
 pub mod Report
 pub mod Meaning
 pub mod Demands
 pub mod Cases
 pub mod Tenths
 pub mod Evaluate
+pub mod Editions
 pub mod Edges
 pub mod ByHand

@@ -1,9 +1,9 @@
 -- 01, "The block", the column "Allowed": the blocks that can be written, each limit in the words of the format.
--- The laws `reads-back` and `accepted-within` of crate block_laws say that these are exactly what the reader accepts.
+-- The laws `reads-back` and `accepted-within` of crate block_laws say that these are exactly what the reader accepts, in either edition.
 use mathlib.Core.List.{List, [], _∷_}
 use mathlib.Core.Path.{_≡_}
-use Prim.Native.Nat.{ℕ, zero, suc, _-_, _*_, _^_, _<_, _≤_}
-use lib.IntN.{ℤ, natAbs}
+use Prim.Native.Nat.{ℕ, _-_, _*_, _^_, _<_, _≤_}
+use lib.IntN.{natAbs}
 use lib.ListN.{length}
 use Rattle.rules.specs.Polynomial.{Term, Polynomial}
 use Rattle.rules.specs.Formula.{Parts, end, atom, and, or, alone, nodes}

@@ -1,4 +1,5 @@
 mod Signed
 pub mod Writing
+pub mod WritingExponents
 pub mod WritingTree
 pub mod WritingWhole

@@ -1,7 +1,7 @@
 -- The whole block: the bytes that the writer's steps leave are those of the block that the arrays hold.
 use mathlib.Core.Path.{_≡_, refl, sym, ap, _∙_}
 use mathlib.Core.Bool.{false}
-use mathlib.Core.List.{List, [], _∷_, _++_, append-assoc}
+use mathlib.Core.List.{List, _++_, append-assoc}
 use Prim.Native.Nat.{ℕ, zero, suc, _+_, _-_, _*_, _/_, _^_, _≤_, _<_}
 use native.Mathlib.Nat.{add-zero, zero-add}
 use native.Mathlib.Omega.{arith}
@@ -9,10 +9,10 @@ use lib.IntN.{ℤ}
 use lib.ListN.{length, getD, replicate, length-append, length-replicate}
 use lib.Seq.{sets}
 use Rattle.rules.specs.Bits.{field, unpack, bytesFor, padded, pack}
-use Rattle.rules.specs.Polynomial.{Polynomial}
-use Rattle.rules.specs.Formula.{Parts, end, atom, and, or, Node, leaf, allOf, anyOf, before, alone, children, nodes}
-use Rattle.rules.specs.Block.{NumberedAtom, Block, writeTerm, writeTerms, writePolynomial, writeTable, writeParts, writeBody, blockLength, writeHead, writeBlock}
+use Rattle.rules.specs.Formula.{Node, leaf, allOf, anyOf, before, alone, children}
+use Rattle.rules.specs.Block.{NumberedAtom, Block, Edition, editionOf, writeTable, writeParts, writeBody, blockLength, writeHead, writeBlock}
 use Rattle.rules.specs.Limits.{TableWithin, polynomials, BlockWithin}
+use Rattle.block_laws.specs.Sizes.{block-below-32768}
 use Rattle.bits.proofs.Fields.{length-field}
 use Rattle.bits.proofs.Bytes.{length-unpack}
 use Rattle.bits.proofs.Stores.{sets-front}
@@ -24,35 +24,10 @@ use Rattle.writer.proofs.Writing.{Split, wrote-both, room-first, room-s
 
 -- ---- how long a block is
 
-length-terms : (n : ℕ) (ts : Polynomial) → n ≤ 16 → length (writeTerms n ts) ≤ 96 * length ts
-unfolding writeTerms writeTerm
-length-terms n [] h = omega arith
-length-terms n (t ∷ ts) h = simp (length-append, length-field) (omega (arith, length-terms n ts h))
-
-length-table : (n : ℕ) (ps : List Polynomial) → n ≤ 16 → TableWithin n ps → length (writeTable n ps) ≤ 1541 * length ps
-unfolding writeTable writePolynomial
-length-table n [] h w = omega arith
-length-table n (p ∷ ps) h (polynomials a w) = simp (length-append, length-field) (omega (arith, length-terms n p h, length-table n ps h w, a .at-most))
-
-length-parts : (parts : Parts NumberedAtom) → length (writeParts parts) ≤ 11 * nodes parts
-unfolding writeParts nodes
-length-parts end = omega arith
-length-parts (atom a rest) = simp (length-append, length-field) (omega (arith, length-parts rest))
-length-parts (and kids rest) = simp (length-append, length-field) (omega (arith, length-parts kids, length-parts rest))
-length-parts (or kids rest) = simp (length-append, length-field) (omega (arith, length-parts kids, length-parts rest))
-
 -- A body has few enough bits that every place in it is a small number.
-body-short : (block : Block) → BlockWithin block → length (writeBody block) < 200000
-unfolding writeBody
-body-short block w =
-    omega (
-      arith,
-      length-append (writeTable (block .variables) (block .table)) (writeParts (alone (block .tree))),
-      length-table (block .variables) (block .table) (w .variables) (w .table),
-      length-parts (alone (block .tree)),
-      w .polynomials,
-      w .nodes,
-    )
+body-short : (edition : Edition) (block : Block) → BlockWithin block → length (writeBody edition block) < 300000
+unfolding blockLength bytesFor
+body-short edition block w = omega (arith, block-below-32768 edition block w)
 
 -- ---- the terms stand inside the arrays
 
@@ -72,7 +47,10 @@ one-child (anyOf kids) = refl
 
 -- ---- the steps of a block that the arrays hold
 
-module _ (held : Held) (size : ℕ) (block : Block) (w : Writable held size block) where
+module _ (number : ℕ) (held : Held) (size : ℕ) (block : Block) (w : Writable number held size block) where
+  abbrev edition : Edition
+  edition = editionOf number
+
   pub few-variables : held .variables ≤ 16
   few-variables = rw (w .holds .variables) (w .within .variables)
 
@@ -89,23 +67,23 @@ module _ (held : Held) (size : ℕ) (block : Block) (w : Writable held size bloc
       record { in-coefficients = λ i h. omega (arith, few i h, few-polynomials); in-monomials = λ i h. omega (arith, few i h, few-polynomials) }
 
   -- The body: the table, as the code views it, and the tree.
-  body-split : Split (writeBody block) (writeTable (held .variables) (tableAt (held .coefficient) (held .monomial) (held .terms) 0 (held .polynomials - 0)))
+  body-split : Split (writeBody edition block) (writeTable edition (held .variables) (tableAt (held .coefficient) (held .monomial) (held .terms) 0 (held .polynomials - 0)))
       (writeParts (alone (block .tree)))
   unfolding writeBody
   body-split = let e : held .polynomials - 0 ≡ held .polynomials = omega arith in record { whole-is = rw (e, w .holds .table, w .holds .variables) }
 
-  length-block : 40 + length (writeBody block) ≤ 8 * blockLength block
+  length-block : 40 + length (writeBody edition block) ≤ 8 * blockLength edition block
   unfolding blockLength bytesFor
   length-block = omega arith
 
-  room-body : Room size 40 (writeBody block)
-  room-body = record { inside = omega (arith, length-block, w .room); short = omega (arith, body-short block (w .within)) }
+  room-body : Room size 40 (writeBody edition block)
+  room-body = record { inside = omega (arith, length-block, w .room); short = omega (arith, body-short edition block (w .within)) }
 
-  pub room-table : Room size 40 (writeTable (held .variables) (tableAt (held .coefficient) (held .monomial) (held .terms) 0 (held .polynomials - 0)))
+  pub room-table : Room size 40 (writeTable edition (held .variables) (tableAt (held .coefficient) (held .monomial) (held .terms) 0 (held .polynomials - 0)))
   room-table = room-first body-split room-body
 
   module _ {before between : List ℕ} {middle : ℕ}
-      (table : Wrote before between 40 (writeTable (held .variables) (tableAt (held .coefficient) (held .monomial) (held .terms) 0 (held .polynomials - 0))) middle)
+      (table : Wrote before between 40 (writeTable edition (held .variables) (tableAt (held .coefficient) (held .monomial) (held .terms) 0 (held .polynomials - 0))) middle)
     where
       pub tree-ahead : {size′ : ℕ} → size′ ≡ size → PartsAhead (held .token) (held .root) 0 1 size′ middle
       tree-ahead e = record {
@@ -117,16 +95,16 @@ module _ (held : Held) (size : ℕ) (block : Block) (w : Writable held size bloc
       }
 
       module _ {after : List ℕ} {spot : Spot} (parts : PartsWrote between after middle (alone (block .tree)) 0 spot) where
-        body-wrote : Wrote before after 40 (writeBody block) (spot .at)
+        body-wrote : Wrote before after 40 (writeBody edition block) (spot .at)
         body-wrote = wrote-both body-split table (parts .wrote)
 
         -- The length of the block, and what fills its last byte.
-        pub length-is : (spot .at + 7) / 8 ≡ blockLength block
+        pub length-is : (spot .at + 7) / 8 ≡ blockLength edition block
         unfolding blockLength bytesFor
         length-is = rw (body-wrote .behind)
 
         pub end-small : spot .at < 2 ^ 20
-        end-small = omega (arith, body-wrote .behind, body-short block (w .within))
+        end-small = omega (arith, body-wrote .behind, body-short edition block (w .within))
 
         pub room-padding : {size′ : ℕ} → size′ ≡ size → Room size′ (spot .at) (field ((spot .at + 7) / 8 * 8 - spot .at) 0)
         room-padding e =
@@ -138,44 +116,44 @@ module _ (held : Held) (size : ℕ) (block : Block) (w : Writable held size bloc
 
         -- The padding and then the head complete the block.
         module _ {filled final : List ℕ} {next next′ : ℕ} (padding : Wrote after filled (spot .at) (field ((spot .at + 7) / 8 * 8 - spot .at) 0) next)
-            (head : Wrote filled final 0 (headBits (held .variables) (held .polynomials) (held .tokens) ((spot .at + 7) / 8)) next′) where
-          head-is : headBits (held .variables) (held .polynomials) (held .tokens) ((spot .at + 7) / 8) ≡ writeHead block
+            (head : Wrote filled final 0 (headBits number (held .variables) (held .polynomials) (held .tokens) ((spot .at + 7) / 8)) next′) where
+          head-is : headBits number (held .variables) (held .polynomials) (held .tokens) ((spot .at + 7) / 8) ≡ writeHead edition block
           unfolding headBits writeHead
-          head-is = rw (w .holds .variables, w .holds .polynomials, w .holds .tokens, length-is)
+          head-is = rw (← (w .known), w .holds .variables, w .holds .polynomials, w .holds .tokens, length-is)
 
-          length-all : length (writeHead block ++ writeBody block) ≡ spot .at
+          length-all : length (writeHead edition block ++ writeBody edition block) ≡ spot .at
           length-all =
-              length-append (writeHead block) (writeBody block)
-              ∙ ap (λ (k : ℕ). k + length (writeBody block))
-              (sym (ap length head-is) ∙ length-head (held .variables) (held .polynomials) (held .tokens) ((spot .at + 7) / 8))
+              length-append (writeHead edition block) (writeBody edition block)
+              ∙ ap (λ (k : ℕ). k + length (writeBody edition block))
+              (sym (ap length head-is) ∙ length-head number (held .variables) (held .polynomials) (held .tokens) ((spot .at + 7) / 8))
               ∙ sym (body-wrote .behind)
 
-          padded-is : padded (writeHead block ++ writeBody block) ≡ writeHead block ++ (writeBody block ++ field ((spot .at + 7) / 8 * 8 - spot .at) 0)
+          padded-is : padded (writeHead edition block ++ writeBody edition block) ≡ writeHead edition block ++ (writeBody edition block ++ field ((spot .at + 7) / 8 * 8 - spot .at) 0)
           unfolding padded bytesFor
-          padded-is = rw (length-all, field-nought) (append-assoc (writeHead block) (writeBody block) (replicate ((spot .at + 7) / 8 * 8 - spot .at) false))
+          padded-is = rw (length-all, field-nought) (append-assoc (writeHead edition block) (writeBody edition block) (replicate ((spot .at + 7) / 8 * 8 - spot .at) false))
 
-          bits-are : length before ≡ size → unpack final ≡ sets (unpack before) 0 (padded (writeHead block ++ writeBody block))
+          bits-are : length before ≡ size → unpack final ≡ sets (unpack before) 0 (padded (writeHead edition block ++ writeBody edition block))
           bits-are e =
               let all = wrote-both two-runs body-wrote padding in
-              let rest = writeBody block ++ field ((spot .at + 7) / 8 * 8 - spot .at) 0 in
-              let forty : length (writeHead block) ≡ 40 = sym (ap length head-is) ∙ length-head (held .variables) (held .polynomials) (held .tokens) ((spot .at + 7)
+              let rest = writeBody edition block ++ field ((spot .at + 7) / 8 * 8 - spot .at) 0 in
+              let forty : length (writeHead edition block) ≡ 40 = sym (ap length head-is) ∙ length-head number (held .variables) (held .polynomials) (held .tokens) ((spot .at + 7)
               / 8) in
-              let fits : length (writeHead block) + length rest ≤ length (unpack before) =
+              let fits : length (writeHead edition block) + length rest ≤ length (unpack before) =
               rw (length-unpack, forty, length-append, length-field) (omega (arith, length-is, w .room, body-wrote .behind)) in
-              head .stored ∙ rw (head-is, all .stored, padded-is, ← forty) (sets-front (unpack before) (writeHead block) rest fits)
+              head .stored ∙ rw (head-is, all .stored, padded-is, ← forty) (sets-front (unpack before) (writeHead edition block) rest fits)
 
-          bytes-are : bytesFor (length (writeHead block ++ writeBody block)) ≡ (spot .at + 7) / 8
+          bytes-are : bytesFor (length (writeHead edition block ++ writeBody edition block)) ≡ (spot .at + 7) / 8
           unfolding bytesFor
           bytes-are = rw length-all
 
-          whole-bytes : length (padded (writeHead block ++ writeBody block)) ≡ 8 * ((spot .at + 7) / 8)
+          whole-bytes : length (padded (writeHead edition block ++ writeBody edition block)) ≡ 8 * ((spot .at + 7) / 8)
           unfolding padded bytesFor
-          whole-bytes = rw (length-append (writeHead block ++ writeBody block), length-all, length-replicate) (omega arith)
+          whole-bytes = rw (length-append (writeHead edition block ++ writeBody edition block), length-all, length-replicate) (omega arith)
 
           pub block-written : ((i : ℕ) → getD before i 0 < 256) → ((i : ℕ) → getD final i 0 < 256) → length final ≡ length before → length before ≡ size
-              → final ≡ sets before 0 (writeBlock block)
+              → final ≡ sets before 0 (writeBlock edition block)
           unfolding writeBlock pack
           block-written small small′ same e =
               rw bytes-are
-              (front-bytes before final (padded (writeHead block ++ writeBody block)) ((spot .at + 7) / 8) small small′ same whole-bytes
+              (front-bytes before final (padded (writeHead edition block ++ writeBody edition block)) ((spot .at + 7) / 8) small small′ same whole-bytes
               (omega (arith, length-is, w .room)) (bits-are e))

@@ -9,7 +9,7 @@ use lib.Seq.{sets}
 use Rattle.rules.specs.Bits.{field, unpack}
 use Rattle.rules.specs.Polynomial.{Polynomial}
 use Rattle.rules.specs.Formula.{Parts, end, atom, and, or, alone, children, nodes}
-use Rattle.rules.specs.Block.{NumberedAtom, Block, writeParts, blockLength}
+use Rattle.rules.specs.Block.{NumberedAtom, Block, editionNumber, editionOf, writeParts, blockLength}
 use Rattle.rules.specs.Limits.{BlockWithin}
 use Rattle.block.specs.declared.Held.{Held}
 use Rattle.writer.specs.declared.Spot.{Spot}
@@ -60,8 +60,8 @@ unfoldable pub joinBits : ℕ → ℕ → List Bool
 joinBits kind children = field 2 kind ++ field 8 children
 
 -- The bits of a head.
-unfoldable pub headBits : ℕ → ℕ → ℕ → ℕ → List Bool
-headBits variables polynomials nodes size = field 4 1 ++ (field 5 variables ++ (field 7 polynomials ++ (field 8 nodes ++ field 16 size)))
+unfoldable pub headBits : ℕ → ℕ → ℕ → ℕ → ℕ → List Bool
+headBits edition variables polynomials nodes size = field 4 edition ++ (field 5 variables ++ (field 7 polynomials ++ (field 8 nodes ++ field 16 size)))
 
 -- Bits have room from a bit on in so many bytes.
 pub record Room (size at : ℕ) (bits : List Bool) : Type 0 where
@@ -85,12 +85,13 @@ pub record PartsWrote (before after : List ℕ) (at : ℕ) (parts : Parts Number
   pub wrote : Wrote before after at (writeParts parts) (spot .at)
   pub behind : spot .k ≡ k + nodes parts
 
--- The arrays hold a block within the limits, with room for its bytes.
-pub record Writable (held : Held) (size : ℕ) (block : Block) : Type 0 where
+-- The arrays hold a block within the limits, with room for its bytes in an edition, which is given by its number.
+pub record Writable (edition : ℕ) (held : Held) (size : ℕ) (block : Block) : Type 0 where
+  pub known : edition ≡ editionNumber (editionOf edition)
   pub holds : Holds held block
   pub within : BlockWithin block
-  pub room : blockLength block ≤ size
+  pub room : blockLength (editionOf edition) block ≤ size
 
-pub record SomeWritable (held : Held) (size : ℕ) : Type 0 where
+pub record SomeWritable (edition : ℕ) (held : Held) (size : ℕ) : Type 0 where
   pub block : Block
-  pub writable : Writable held size block
+  pub writable : Writable edition held size block

@@ -7,11 +7,14 @@ ghost use lib.ListN.{length, getD};
 ghost use lib.Seq.{sets};
 ghost use Rattle.rules.specs.Bits.{field};
 ghost use Rattle.rules.specs.Formula.{Parts, children};
-ghost use Rattle.rules.specs.Block.{NumberedAtom, Block, minusBit, writeTerm, writeTerms, writePolynomial, writeTable, blockLength, writeBlock};
+ghost use Rattle.rules.specs.Block.{NumberedAtom, Block, editionOf, minusBit, writeTerm, writeTerms, writePolynomial, writeTable, blockLength, writeBlock};
 ghost use Rattle.block.specs.Held.{heldBy, BlockRoom};
 ghost use Rattle.writer.specs.Written.{termsAt, tableAt, TermsInside, PartsHeld, PartsAhead, PartsWrote, Writable, SomeWritable};
 ghost use Rattle.writer.specs.Written.{Room, Wrote, atomBits, joinBits, headBits};
 use bits::put;
+use exponents::write_exponents;
+
+mod exponents; // the exponents of a term, by edition
 
 // How far the writer is: the next bit, and the next token.
 struct Spot {
@@ -48,13 +51,20 @@ fn write_field(out: &mut [u8], at: usize, k: usize, v: u64) -> usize
 }
 
 // A term of n variables.
-fn write_term(out: &mut [u8], at: usize, n: usize, coefficient: i32, monomial: u64) -> usize
-    requires { ⌜ (n ≤ 16) × Room (length (now out)) at (writeTerm n (record { coefficient = coefficient; monomial = monomial })) ⌝ }
-    ensures { λ r. ⌜ Wrote (now (out .entry)) (now (out .exit)) at (writeTerm n (record { coefficient = coefficient; monomial = monomial })) r ⌝ }
+fn write_term(
+    out: &mut [u8],
+    at: usize,
+    edition: u64,
+    n: usize,
+    coefficient: i32,
+    monomial: u64,
+) -> usize
+    requires { ⌜ (n ≤ 16) × Room (length (now out)) at (writeTerm (editionOf edition) n (record { coefficient = coefficient; monomial = monomial })) ⌝ }
+    ensures { λ r. ⌜ Wrote (now (out .entry)) (now (out .exit)) at (writeTerm (editionOf edition) n (record { coefficient = coefficient; monomial = monomial })) r ⌝ }
 {
     let sign = write_field(out, at, 1, minus_of(coefficient));
     let size = write_field(out, sign, 31, magnitude_of(coefficient));
-    write_field(out, size, 4 * n, monomial)
+    write_exponents(out, size, edition, n, monomial)
 }
 
 // So many terms from the place k on.
@@ -63,21 +73,31 @@ fn write_terms(
     coefficient: &[i32],
     monomial: &[u64],
     at: usize,
+    edition: u64,
     n: usize,
     k: usize,
     count: usize,
 ) -> usize
     requires { ⌜ (n ≤ 16) × (k + count ≤ length (now coefficient)) × (k + count ≤ length (now monomial))
-        × Room (length (now out)) at (writeTerms n (termsAt (now coefficient) (now monomial) k count)) ⌝ }
+        × Room (length (now out)) at (writeTerms (editionOf edition) n (termsAt (now coefficient) (now monomial) k count)) ⌝ }
     ensures { λ r. ⌜ Wrote (now (out .entry)) (now (out .exit)) at
-        (writeTerms n (termsAt (now (coefficient .entry)) (now (monomial .entry)) k count)) r ⌝ }
+        (writeTerms (editionOf edition) n (termsAt (now (coefficient .entry)) (now (monomial .entry)) k count)) r ⌝ }
 {
     if count == 0 {
         return at;
     }
     let value = coefficient[k];
-    let next = write_term(out, at, n, value, monomial[k]);
-    write_terms(out, coefficient, monomial, next, n, k + 1, count - 1)
+    let next = write_term(out, at, edition, n, value, monomial[k]);
+    write_terms(
+        out,
+        coefficient,
+        monomial,
+        next,
+        edition,
+        n,
+        k + 1,
+        count - 1,
+    )
 }
 
 // The polynomial number i.
@@ -87,18 +107,19 @@ fn write_polynomial(
     monomial: &[u64],
     counts: &[u8],
     at: usize,
+    edition: u64,
     n: usize,
     i: usize,
 ) -> usize
     requires { ⌜ (n ≤ 16) × (i < 64) × (i < length (now counts)) × (16 * i + getD (now counts) i 0 ≤ length (now coefficient))
         × (16 * i + getD (now counts) i 0 ≤ length (now monomial))
-        × Room (length (now out)) at (writePolynomial n (termsAt (now coefficient) (now monomial) (16 * i) (getD (now counts) i 0))) ⌝ }
+        × Room (length (now out)) at (writePolynomial (editionOf edition) n (termsAt (now coefficient) (now monomial) (16 * i) (getD (now counts) i 0))) ⌝ }
     ensures { λ r. ⌜ Wrote (now (out .entry)) (now (out .exit)) at
-        (writePolynomial n (termsAt (now (coefficient .entry)) (now (monomial .entry)) (16 * i) (getD (now (counts .entry)) i 0))) r ⌝ }
+        (writePolynomial (editionOf edition) n (termsAt (now (coefficient .entry)) (now (monomial .entry)) (16 * i) (getD (now (counts .entry)) i 0))) r ⌝ }
 {
     let count = counts[i] as usize;
     let next = write_field(out, at, 5, count as u64);
-    write_terms(out, coefficient, monomial, next, n, 16 * i, count)
+    write_terms(out, coefficient, monomial, next, edition, n, 16 * i, count)
 }
 
 // The polynomials from number i on, up to number m.
@@ -108,20 +129,31 @@ fn write_table(
     monomial: &[u64],
     counts: &[u8],
     at: usize,
+    edition: u64,
     n: usize,
     i: usize,
     m: usize,
 ) -> usize
     requires { ⌜ (n ≤ 16) × (i ≤ m) × (m ≤ 64) × (m ≤ length (now counts)) × TermsInside (now coefficient) (now monomial) (now counts) m
-        × Room (length (now out)) at (writeTable n (tableAt (now coefficient) (now monomial) (now counts) i (m - i))) ⌝ }
+        × Room (length (now out)) at (writeTable (editionOf edition) n (tableAt (now coefficient) (now monomial) (now counts) i (m - i))) ⌝ }
     ensures { λ r. ⌜ Wrote (now (out .entry)) (now (out .exit)) at
-        (writeTable n (tableAt (now (coefficient .entry)) (now (monomial .entry)) (now (counts .entry)) i (m - i))) r ⌝ }
+        (writeTable (editionOf edition) n (tableAt (now (coefficient .entry)) (now (monomial .entry)) (now (counts .entry)) i (m - i))) r ⌝ }
 {
     if i == m {
         return at;
     }
-    let next = write_polynomial(out, coefficient, monomial, counts, at, n, i);
-    write_table(out, coefficient, monomial, counts, next, n, i + 1, m)
+    let next = write_polynomial(out, coefficient, monomial, counts, at, edition, n, i);
+    write_table(
+        out,
+        coefficient,
+        monomial,
+        counts,
+        next,
+        edition,
+        n,
+        i + 1,
+        m,
+    )
 }
 
 // An atom by its token.
@@ -164,19 +196,27 @@ fn write_parts(out: &mut [u8], token: &[u32], at: usize, k: usize, count: usize,
 }
 
 // "edition, variables n, polynomials m, tree nodes, block length in bytes"
-fn write_head(out: &mut [u8], variables: u64, polynomials: u64, nodes: u64, size: u64) -> usize
+fn write_head(
+    out: &mut [u8],
+    edition: u64,
+    variables: u64,
+    polynomials: u64,
+    nodes: u64,
+    size: u64,
+) -> usize
     requires { ⌜ 5 ≤ length (now out) ⌝ }
-    ensures { λ r. ⌜ Wrote (now (out .entry)) (now (out .exit)) 0 (headBits variables polynomials nodes size) r ⌝ }
+    ensures { λ r. ⌜ Wrote (now (out .entry)) (now (out .exit)) 0 (headBits edition variables polynomials nodes size) r ⌝ }
 {
-    let edition = write_field(out, 0, 4, 1);
-    let first = write_field(out, edition, 5, variables);
+    let start = write_field(out, 0, 4, edition);
+    let first = write_field(out, start, 5, variables);
     let second = write_field(out, first, 7, polynomials);
     let third = write_field(out, second, 8, nodes);
     write_field(out, third, 16, size)
 }
 
-// Writes the block that the arrays hold to the output's first bytes, and gives its length; the rest of the output keeps its values.
+// Writes the block that the arrays hold, in an edition, to the output's first bytes, and gives its length; the rest of the output keeps its values.
 pub fn write(
+    edition: u64,
     variables: usize,
     polynomials: usize,
     root: u8,
@@ -188,10 +228,10 @@ pub fn write(
     out: &mut [u8],
 ) -> usize
     requires { ⌜ BlockRoom (now coefficient) (now monomial) (now terms) (now token)
-        × SomeWritable (heldBy variables polynomials root tokens (now coefficient) (now monomial) (now terms) (now token)) (length (now out)) ⌝ }
-    ensures { λ r. ⌜ ((block : Block) → Writable (heldBy variables polynomials root tokens (now (coefficient .entry)) (now (monomial .entry))
+        × SomeWritable edition (heldBy variables polynomials root tokens (now coefficient) (now monomial) (now terms) (now token)) (length (now out)) ⌝ }
+    ensures { λ r. ⌜ ((block : Block) → Writable edition (heldBy variables polynomials root tokens (now (coefficient .entry)) (now (monomial .entry))
         (now (terms .entry)) (now (token .entry))) (length (now (out .entry))) block
-        → (r ≡ blockLength block) × (now (out .exit) ≡ sets (now (out .entry)) 0 (writeBlock block))) ⌝ }
+        → (r ≡ blockLength (editionOf edition) block) × (now (out .exit) ≡ sets (now (out .entry)) 0 (writeBlock (editionOf edition) block))) ⌝ }
 {
     let tree = write_table(
         out,
@@ -199,6 +239,7 @@ pub fn write(
         monomial,
         terms,
         40,
+        edition,
         variables,
         0,
         polynomials,
@@ -209,6 +250,7 @@ pub fn write(
     write_field(out, end, size * 8 - end, 0);
     write_head(
         out,
+        edition,
         variables as u64,
         polynomials as u64,
         tokens as u64,

@@ -27,7 +27,7 @@ abbrev held : tie.Start → Held
 held s = let a = s .args in heldBy (a .variables) (a .polynomials) (a .root) (a .count) (a .coefficient .now) (a .monomial .now) (a .terms .now) (a .token .now)
 
 abbrev ReadFrom : List ℕ → tie.Start → Type 0
-ReadFrom bytes s = Accepted bytes (held s) (length (s .args .output .now))
+ReadFrom bytes s = Accepted bytes (s .args .edition) (held s) (length (s .args .output .now))
 
 -- ---- the calls, each seen from the next
 
@@ -123,7 +123,7 @@ module _ (c : tie.After-collect) where
         (given-at .give .last .0) (c .collect .ensures (tree simplified-at accepted) (holds (plaining c) accepted))
 
     -- which can be written.
-    new-writable : Writable new (length (first .args .output .now)) (newBlock (accepted .given))
+    new-writable : Writable (first .args .edition) new (length (first .args .output .now)) (newBlock (accepted .given))
     new-writable =
         writes (first .args .output .now) accepted (prepared normal-at accepted) (simplified-at .simplified .result) (simpler simplified-at accepted)
         (given-at .give .last .0) new new-is (long given-at accepted)
@@ -251,7 +251,7 @@ returns c bytes accepted =
     let written = writing .ensures _ (new-writable here accepted) in
     let tape = given-at here .give .last .0 in (
       answers (first here .args .output .now) accepted ready (simplified .simplified .result) (simpler simplified accepted) tape (new here) (new-is here accepted)
-          (writing .last .1 .1 .1 .1 .1 .1 .1 .1 .0) (counted .result) (counting .result) (uses .result) (writing .result) (telling .result) (written .0) (written .1)
+          (writing .last .1 .1 .1 .1 .1 .1 .1 .1 .1 .0) (counted .result) (counting .result) (uses .result) (writing .result) (telling .result) (written .0) (written .1)
           (counted .ensures (ready .tree) (ready .holds)) (counting .ensures (tree simplified accepted) (holds (plaining here) accepted))
           (uses .ensures (first here .args .variables) (table worked .coefficient) (ready .tree) (worked .work .ensures .forms) (ready .holds)) (telling .ensures),
       places-told (first here .args .output .now) accepted ready (simplified .simplified .result) (simpler simplified accepted) tape

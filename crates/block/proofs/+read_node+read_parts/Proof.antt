@@ -1,4 +1,5 @@
--- `block::read_node` and `block::read_parts` meet their contracts; they end, since a node's children may nest one less, and the children that are left get fewer.
+-- `block::read_node` and `block::read_parts` meet their contracts; they end, since a node's children may nest one less.
+-- The loop's invariant: as the children that are left are read, so are all of them.
 use mathlib.Core.Path.{_∙_}
 use Prim.Native.Nat.{ℕ, _+_, _*_, _-_, _<_}
 use native.Mathlib.Omega.{arith}
@@ -6,8 +7,8 @@ use lib.ListN.{length-set}
 use borrow.Author.Needs.{needs}
 use borrow.Fn.Kinds.{In}
 use borrow.Fn.PlainCycle.{Measures, is, falls, and}
-use Rattle.block.proofs.Steps.{inside-after}
-use Rattle.block.proofs.ReadingTree.{atom-is, join-is, node-refused, atom-step, join-step, parts-done, parts-refused, parts-read, allowed-after}
+use Rattle.rules.specs.Block.{readNode}
+use Rattle.block.proofs.ReadingTree.{atom-is, join-is, node-refused, atom-step, join-step, PartsLeft, parts-begin, parts-end, parts-stop, parts-go-on}
 use Rattle.block.proofs.read_node.Reads as node
 use Rattle.block.proofs.read_node.Kinds as node-kinds
 use Rattle.block.proofs.+read_node+read_parts.Lts-read_node as node-lts
@@ -19,10 +20,10 @@ use Rattle.block.proofs.+read_node+read_parts.{statement}
 use Rattle.block.proofs.+read_node+read_parts.Tie.{close}
 
 abbrev μ-node : Measures 2 node-kinds.ps ℕ
-μ-node κs a = a .1 .1 .1 .1 .0 * 512
+μ-node κs a = a .1 .1 .1 .1 .0 * 2
 
 abbrev μ-parts : Measures 2 parts-kinds.ps ℕ
-μ-parts κs a = a .1 .1 .1 .1 .0 * 512 + 1 + a .1 .1 .1 .1 .1 .1 .1 .0
+μ-parts κs a = a .1 .1 .1 .1 .0 * 2 + 1
 
 abbrev node-at : ℕ → In 2 node-kinds.ps
 node-at t = and 2 node-kinds.ps (is 2 node-kinds.ps μ-node t) node.Pre
@@ -35,6 +36,12 @@ parts-at t = and 2 parts-kinds.ps (is 2 parts-kinds.ps μ-parts t) parts.Pre
 
 abbrev parts-below : ℕ → In 2 parts-kinds.ps
 parts-below t = and 2 parts-kinds.ps (falls 2 parts-kinds.ps _<_ μ-parts t) parts.Pre
+
+abbrev Inv-loop : parts-lts.InvT-loop
+Inv-loop src token₀ count nesting parent m children next₀ left₀ token next left = PartsLeft (readNode nesting m parent) src count children next₀ token₀ left next token
+
+abbrev μ-loop : parts-lts.MeasureT-loop
+μ-loop src token₀ count nesting parent m children next₀ left₀ token next left = left
 
 pub +read-node+read-parts-spec : {M : Type 1} → statement M
 +read-node+read-parts-spec =
@@ -76,30 +83,25 @@ pub +read-node+read-parts-spec : {M : Type 1} → statement M
     let opened = kids .before .before .before .before .before in
     join-step (join-is (opened .open-node .ensures) (kids .before .before .before .opening3 .given .1)) (opened .before .before .before .pre .1 .1)
     (kids .read-parts .ensures)))
-    (λ t. parts-lts.spec (node-below t, node.Post, parts-below t, parts.Post) (parts-at t) parts.Post
-    (λ c. parts-done _ _ (c .before .before .before .pre .1 .0) (c .if1 .taken))
-    (λ c κs. let s = c .before .before .before .before in (omega arith, (s .pre .1 .0, s .pre .1 .1, s .pre .1 .2)))
-    (λ c. search needs) (λ c. search needs) (λ c. omega arith)
+    (λ t. parts-lts.spec (node-below t, node.Post) (parts-at t) parts.Post Inv-loop μ-loop
+    (λ c. let s = c .before .before in parts-begin _ (s .pre .1 .0) (s .pre .1 .1))
+    (λ c. omega arith)
     (λ c κs.
-    let chosen = c .before .before in
-    let first = chosen .before .before .before .before in
-    let kept = first .read-node .kept in (
-      omega arith,
-      (
-        inside-after (first .read-node .ensures) (chosen .step2 .given .1),
-        omega (arith, allowed-after (first .read-node .ensures) (chosen .step2 .given .1)),
-        omega arith,
-        omega arith,
-      ),
-    ))
-    (λ c. c .before .before .before .before .before .read-node .kept .1 .0)
-    (λ c. let first = c .before .before .before .before .before in parts-refused _ _ (first .before .before .if1 .left) (first .read-node .ensures)
-    (c .before .step .given .1))
-    (λ c. let others = c .before .before in others .read-parts .kept .1 .0 ∙ others .before .before .before .before .before .before .before .read-node .kept .1 .0)
+    let at = c .before .before in
+    let s = at .before .before .before in
+    let l = at .loop .inv in
+    (omega arith, (l .inside, l .allows, omega (arith, l .tape, s .pre .1 .2))))
+    (λ c. search needs)
+    (λ c. let first = c .before .before .before .before .before in first .read-node .kept .1 .0 ∙ first .before .before .before .loop .inv .tape)
     (λ c.
-    let others = c .before .before in
-    let chosen = others .before .before .before in
+    let first = c .before .before .before .before .before in
+    let turn = first .before .before in
+    parts-stop _ (turn .before .loop .inv) (turn .loop-test .taken) (first .read-node .ensures) (c .before .step .given .1))
+    (λ c. search needs) (λ c. omega arith)
+    (λ c.
+    let chosen = c .before in
     let first = chosen .before .before .before .before in
-    let tested = first .before .before in
-    parts-read _ _ (tested .if1 .left) (first .read-node .ensures) (chosen .step2 .given .1) (tested .before .before .before .pre .1 .1)
-    (others .read-parts .ensures)))
+    let turn = first .before .before in
+    parts-go-on _ (turn .before .loop .inv) (turn .loop-test .taken) (first .read-node .ensures) (chosen .step2 .given .1) (first .read-node .kept .1 .0))
+    (λ c. c .before .loop .inv .tape)
+    (λ c. parts-end _ (c .before .loop .inv) (c .loop-test .left)))

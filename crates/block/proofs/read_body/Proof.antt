@@ -13,7 +13,6 @@ read-table-requires c κs =
     let room = start .pre .1 in (
       head .inside,
       head .variables,
-      omega arith,
       head .polynomials,
       omega (arith, head .polynomials, room .coefficients),
       omega (arith, head .polynomials, room .monomials),

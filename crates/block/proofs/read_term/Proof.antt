@@ -1,44 +1,49 @@
 -- `block::read_term` meets its contract: each test of the code is the book's, on the same field.
-use mathlib.Core.Path.{_∙_}
-use Prim.Native.Nat.{_+_}
-use lib.ListN.{drop}
+use mathlib.Core.Path.{_≡_, _∙_}
+use Prim.Native.Nat.{_+_, _*_, _/_, _%_, _≤_}
+use native.Mathlib.Omega.{arith}
+use lib.ListN.{length}
 use mir.Syntax.{w32}
 use mir.ValLaws.{toZ-ofZ}
 use borrow.Author.Needs.{needs}
-use Rattle.rules.specs.Bits.{unpack}
-use Rattle.bits.proofs.Fields.{value-take-lt}
-use Rattle.block.proofs.ReadingTerms.{term-short, term-nought, term-rising, term-read}
+use Rattle.block.proofs.Steps.{fieldAt}
+use Rattle.block.proofs.ReadingTerms.{minus-in-word, magnitude-in-word, term-short, term-nought, term-rising, term-read}
 use Rattle.block.proofs.read_term.Statement.{statement}
 use Rattle.block.proofs.read_term.Tie as tie
+
+inside : (c : tie.After-get) → let a = c .before .before .before .before .before .args in a .place .at + 32 ≤ 8 * length (a .src .now)
+inside c = omega (arith, c .before .before .left .ensures .up-to-end, c .before .if1 .left)
+
+minus-is : (c : tie.After-get) → let a = c .before .before .before .before .before .args in c .get .result / 2147483648 ≡ fieldAt (a .src .now) (a .place .at) 1
+minus-is c = let a = c .before .before .before .before .before .args in minus-in-word (a .src .now) (a .place .at) (inside c) (c .get .ensures)
+
+magnitude-is : (c : tie.After-get) → let a = c .before .before .before .before .before .args in
+    c .get .result % 2147483648 ≡ fieldAt (a .src .now) (a .place .at + 1) 31
+magnitude-is c = let a = c .before .before .before .before .before .args in magnitude-in-word (a .src .now) (a .place .at) (inside c) (c .get .ensures)
 
 pub read-term-spec : {M : Type 1} → statement M
 read-term-spec =
     tie.close
     (tie.spec (λ c κs. search needs) (λ c. search needs) (λ c. search needs)
     (λ c. term-short _ _ _ (c .before .left .ensures) (c .if1 .taken))
-    (λ c. search needs) (λ c κs. search needs)
-    (λ c. let magnitude = c .before in term-nought _ _ _ (magnitude .before .before .left .ensures) (magnitude .before .if1 .left) (magnitude .get .ensures)
-    (c .if2 .taken))
+    (λ c κs. search needs)
+    (λ c. let word = c .before in term-nought _ _ _ (word .before .before .left .ensures) (word .before .if1 .left) (magnitude-is word) (c .if2 .taken))
     (λ c. search needs) (λ c. search needs) (λ c κs. search needs) (λ c κs. search needs)
     (λ c.
     let exponents = c .before .before in
-    let magnitude = exponents .before .before in
-    term-rising _ _ _ (magnitude .before .before .left .ensures) (magnitude .before .if1 .left) (magnitude .get .ensures) (exponents .before .if2 .left)
+    let word = exponents .before .before in
+    term-rising _ _ _ (word .before .before .left .ensures) (word .before .if1 .left) (magnitude-is word) (exponents .before .if2 .left)
     (exponents .get2 .ensures)
     (c .before .falls .ensures) (c .if3 .taken))
     (λ c κs. search needs)
-    (λ c κs.
-    let magnitude = c .before .before .before .before .before in
-    let a = magnitude .before .before .before .before .before .args in
-    rw (magnitude .get .ensures) (value-take-lt 31 (drop (a .place .at + 1) (unpack (a .src .now)))))
     (λ c. search needs) (λ c. search needs) (λ c. search needs) (λ c. search needs) (λ c. search needs) (λ c. search needs) (λ c. search needs) (λ c. search needs)
     (λ c. search needs)
     (λ c.
-    let minus = c .before in
-    let exponents = minus .before .before .before in
-    let magnitude = exponents .before .before in
-    term-read _ _ _ (magnitude .before .before .left .ensures) (magnitude .before .if1 .left) (magnitude .get .ensures) (exponents .before .if2 .left)
+    let fall = c .before in
+    let exponents = fall .before .before in
+    let word = exponents .before .before in
+    term-read _ _ _ (word .before .before .left .ensures) (word .before .if1 .left) (magnitude-is word) (exponents .before .if2 .left)
     (exponents .get2 .ensures)
-    (minus .before .before .falls .ensures) (minus .before .if3 .left) (minus .get3 .ensures)
+    (fall .before .falls .ensures) (fall .if3 .left) (minus-is word)
     (toZ-ofZ w32 (c .coefficient-of .result) (record { sfits = c .coefficient-of .ok }) ∙ c .coefficient-of .ensures)
-    (magnitude .before .before .before .before .before .pre .0 .short)))
+    (word .before .before .before .before .before .pre .0 .short)))

@@ -15,12 +15,14 @@ read-into-requires c κs = record { coefficients = omega arith; monomials = omeg
 
 answer-to-requires : tie.Need-answer-to-requires
 answer-to-requires c κs =
-    let chosen = c .before .before .before .before .before .before .before in
+    let edition = c .before .before .before .before .before .before in
+    let chosen = edition .before .before in
     let reading = chosen .before .before .before .before .before .before in
     let a = start reading .args in (
       record {
         bytes = a .input .now;
-        accepted = found-accepted (reading .read-into .ensures) (length (a .output .now)) (chosen .contents2 .given .1) (start reading .pre .0);
+        accepted = found-accepted (reading .read-into .ensures) (length (a .output .now)) (chosen .contents2 .given .1) (start reading .pre .0)
+            (edition .edition .ensures);
       },
       start reading .pre .1,
     )
@@ -38,10 +40,12 @@ returns c =
 returns-2 : tie.Need-returns-2
 returns-2 c =
     let answering = c .before .before .before .before .before .before .before .before in
-    let chosen = answering .before .before .before .before .before .before .before .before in
+    let edition = answering .before .before .before .before .before .before .before in
+    let chosen = edition .before .before in
     let reading = chosen .before .before .before .before .before .before in
     let a = start reading .args in
-    let accepted = found-accepted (reading .read-into .ensures) (length (a .output .now)) (chosen .contents2 .given .1) (start reading .pre .0) in
+    let accepted = found-accepted (reading .read-into .ensures) (length (a .output .now)) (chosen .contents2 .given .1) (start reading .pre .0)
+    (edition .edition .ensures) in
     let told = answering .answer-to .ensures (a .input .now) accepted in
     (told .0, places-accepted (a .input .now) (length (a .output .now)) (start reading .pre .0) (a .places .now) (accepted .accepted) (told .1))
 
@@ -49,4 +53,4 @@ pub answered-spec : {M : Type 1} → statement M
 answered-spec =
     tie.close
     (tie.spec (λ c. search needs) (λ c. search needs) (λ c. search needs) (λ c. search needs) read-into-requires (λ c. search needs) (λ c. search needs)
-    (λ c. search needs) (λ c. search needs) (λ c. search needs) (λ c. search needs) answer-to-requires returns (λ c. search needs) (λ c. search needs) returns-2)
+    (λ c. search needs) (λ c. search needs) (λ c. search needs) (λ c. search needs) (λ c. search needs) answer-to-requires returns (λ c. search needs) (λ c. search needs) returns-2)

@@ -16,7 +16,7 @@ use Rattle.writer.proofs.+write_terms.{statement}
 use Rattle.writer.proofs.+write_terms.Tie.{close}
 
 abbrev μ-terms : Measures 3 terms-kinds.ps ℕ
-μ-terms κs a = a .1 .1 .1 .1 .1 .1 .0
+μ-terms κs a = a .1 .1 .1 .1 .1 .1 .1 .0
 
 abbrev terms-at : ℕ → In 3 terms-kinds.ps
 terms-at t = and 3 terms-kinds.ps (is 3 terms-kinds.ps μ-terms t) terms.Pre
@@ -26,12 +26,12 @@ terms-below t = and 3 terms-kinds.ps (falls 3 terms-kinds.ps _<_ μ-terms t) ter
 
 pub +write-terms-spec : {M : Type 1} → statement M
 +write-terms-spec = close μ-terms λ t. terms-lts.spec (term-reads.Asked, term-reads.Learnt, terms-below t, terms.Post) (terms-at t) terms.Post
-    (λ c. terms-none _ _ _ _ _ (c .if1 .taken))
+    (λ c. terms-none _ _ _ _ _ _ (c .if1 .taken))
     (λ c. search needs) (λ c. omega arith) (λ c. search needs) (λ c. omega arith)
     (λ c κs.
     let value = c .before .before in
     let s = value .before .before .before .before in
-    (s .pre .1 .0, room-first (terms-split _ _ _ _ _ (value .before .if1 .left) (toZ-ofZ w32 _ (record { sfits = value .value .given }))) (s .pre .1 .3)))
+    (s .pre .1 .0, room-first (terms-split _ _ _ _ _ _ (value .before .if1 .left) (toZ-ofZ w32 _ (record { sfits = value .value .given }))) (s .pre .1 .3)))
     (λ c. omega arith) (λ c. omega arith)
     (λ c κs.
     let first = c .before .before .before in
@@ -42,7 +42,7 @@ pub +write-terms-spec : {M : Type 1} → statement M
         s .pre .1 .0,
         omega arith,
         omega arith,
-        room-second (terms-split _ _ _ _ _ (value .before .if1 .left) (toZ-ofZ w32 _ (record { sfits = value .value .given }))) (s .pre .1 .3)
+        room-second (terms-split _ _ _ _ _ _ (value .before .if1 .left) (toZ-ofZ w32 _ (record { sfits = value .value .given }))) (s .pre .1 .3)
             (first .write-term .ensures) (first .write-term .kept .0),
       ),
     ))
@@ -51,5 +51,5 @@ pub +write-terms-spec : {M : Type 1} → statement M
     let others = c .before .before in
     let first = others .before .before .before .before in
     let value = first .before .before .before in
-    wrote-both (terms-split _ _ _ _ _ (value .before .if1 .left) (toZ-ofZ w32 _ (record { sfits = value .value .given }))) (first .write-term .ensures)
+    wrote-both (terms-split _ _ _ _ _ _ (value .before .if1 .left) (toZ-ofZ w32 _ (record { sfits = value .value .given }))) (first .write-term .ensures)
     (others .write-terms .ensures))

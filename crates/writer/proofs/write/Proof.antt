@@ -12,19 +12,19 @@ write-table-requires c κs =
     let start = c .before .before .before .before .before in
     let room = start .pre .0 in
     let w = start .pre .1 .writable in (
-      few-variables _ _ _ w,
+      few-variables _ _ _ _ w,
       omega arith,
-      few-polynomials _ _ _ w,
-      omega (arith, few-polynomials _ _ _ w, room .counts),
-      terms-inside _ _ _ w (room .coefficients) (room .monomials),
-      room-table _ _ _ w,
+      few-polynomials _ _ _ _ w,
+      omega (arith, few-polynomials _ _ _ _ w, room .counts),
+      terms-inside _ _ _ _ w (room .coefficients) (room .monomials),
+      room-table _ _ _ _ w,
     )
 
 write-parts-requires : tie.Need-write-parts-requires
 write-parts-requires c κs =
     let table = c .before .before .before in
     let start = table .before .before .before .before .before .before in
-    tree-ahead _ _ _ (start .pre .1 .writable) (table .write-table .ensures) (table .write-table .kept .0)
+    tree-ahead _ _ _ _ (start .pre .1 .writable) (table .write-table .ensures) (table .write-table .kept .0)
 
 add-size : tie.Need-add-size
 add-size c =
@@ -32,7 +32,7 @@ add-size c =
     let table = tree .before .before .before .before in
     let start = table .before .before .before .before .before .before in
     let w = start .pre .1 .writable in
-    omega (arith, end-small _ _ _ w (table .write-table .ensures) (tree .write-parts .ensures (alone (start .pre .1 .block .tree)) (w .holds .tree) (one-child (start .pre .1 .block .tree))))
+    omega (arith, end-small _ _ _ _ w (table .write-table .ensures) (tree .write-parts .ensures (alone (start .pre .1 .block .tree)) (w .holds .tree) (one-child (start .pre .1 .block .tree))))
 
 mul-write-field : tie.Need-mul-write-field
 mul-write-field c =
@@ -40,7 +40,7 @@ mul-write-field c =
     let table = tree .before .before .before .before in
     let start = table .before .before .before .before .before .before in
     let w = start .pre .1 .writable in
-    omega (arith, end-small _ _ _ w (table .write-table .ensures) (tree .write-parts .ensures (alone (start .pre .1 .block .tree)) (w .holds .tree) (one-child (start .pre .1 .block .tree))))
+    omega (arith, end-small _ _ _ _ w (table .write-table .ensures) (tree .write-parts .ensures (alone (start .pre .1 .block .tree)) (w .holds .tree) (one-child (start .pre .1 .block .tree))))
 
 write-field-requires : tie.Need-write-field-requires
 write-field-requires c κs =
@@ -49,7 +49,7 @@ write-field-requires c κs =
     let start = table .before .before .before .before .before .before in
     let w = start .pre .1 .writable in (
       omega arith,
-      room-padding _ _ _ w (table .write-table .ensures) (tree .write-parts .ensures (alone (start .pre .1 .block .tree)) (w .holds .tree) (one-child (start .pre .1 .block .tree)))
+      room-padding _ _ _ _ w (table .write-table .ensures) (tree .write-parts .ensures (alone (start .pre .1 .block .tree)) (w .holds .tree) (one-child (start .pre .1 .block .tree)))
           (tree .write-parts .kept .0 ∙ table .write-table .kept .0),
     )
 
@@ -62,7 +62,7 @@ write-head-requires c κs =
     let w = start .pre .1 .writable in
     omega (
       arith,
-      five-bytes _ _ _ w (table .write-table .ensures) (tree .write-parts .ensures (alone (start .pre .1 .block .tree)) (w .holds .tree) (one-child (start .pre .1 .block .tree))),
+      five-bytes _ _ _ _ w (table .write-table .ensures) (tree .write-parts .ensures (alone (start .pre .1 .block .tree)) (w .holds .tree) (one-child (start .pre .1 .block .tree))),
       padding .write-field .kept .0,
       tree .write-parts .kept .0,
       table .write-table .kept .0,
@@ -76,8 +76,8 @@ returns c block w =
     let table = tree .before .before .before .before in
     let known = table .before .before in
     let parts = tree .write-parts .ensures (alone (block .tree)) (w .holds .tree) (one-child (block .tree)) in (
-      length-is _ _ _ w (table .write-table .ensures) parts,
-      block-written _ _ _ w (table .write-table .ensures) parts (padding .write-field .ensures) (head .write-head .ensures) (λ i. known .slice-known .given i .fits)
+      length-is _ _ _ _ w (table .write-table .ensures) parts,
+      block-written _ _ _ _ w (table .write-table .ensures) parts (padding .write-field .ensures) (head .write-head .ensures) (λ i. known .slice-known .given i .fits)
           (λ i. c .slice-known5 .given i .fits)
           (head .write-head .kept .0 ∙ padding .write-field .kept .0 ∙ tree .write-parts .kept .0 ∙ table .write-table .kept .0) refl,
     )
