@@ -1,6 +1,6 @@
 // The lines for a block on standard output: what the two programs share.
-// What is printed is `lift::report`'s text, and with the argument `places` the places that `lift::placed` tells; that standard output takes it is no
-// promise of ours.
+// What is printed is `lift::report`'s text, with the argument `places` the places that `lift::placed` tells, and with `rounds` the number that
+// `lift::counted` does; that standard output takes it is no promise of ours.
 use answer::Answer;
 use libc::STDOUT_FILENO;
 
@@ -38,11 +38,23 @@ fn begins(bytes: &[u8], length: usize, word: &[u8]) -> bool {
     true
 }
 
-// Whether the program's first argument is `places`.
-pub fn asked_for_places() -> bool {
+// The one line more that the program's first argument asks for.
+pub enum Asked {
+    Nothing,
+    Places,
+    Rounds,
+}
+
+pub fn asked_for() -> Asked {
     let mut argument = [0u8; 16];
     let length = os::arg(1, &mut argument);
-    begins(&argument, length, b"places")
+    if begins(&argument, length, b"places") {
+        return Asked::Places;
+    }
+    if begins(&argument, length, b"rounds") {
+        return Asked::Rounds;
+    }
+    Asked::Nothing
 }
 
 fn wide(byte: u8) -> u64 {
@@ -79,10 +91,34 @@ fn print_places(input: &[u8], output: &mut [u8]) {
     }
 }
 
-// Answers an input and prints its lines, with that of its places if it was asked for.
-pub fn print_asked(input: &[u8], output: &mut [u8], text: &mut [u8], places: bool) {
+// ---- the number of rounds, 02 #108
+
+// Answers an input, with the output to work in, and prints the line of its largest number of rounds; nothing on refusal.
+fn print_rounds(input: &[u8], output: &mut [u8]) {
+    let counted = lift::counted(input, output);
+    let rounds = counted.rounds;
+    let answer = counted.answer;
+    match answer {
+        Answer::Refused(_) => {}
+        Answer::Answered {
+            verdict: _,
+            length: _,
+            counts: _,
+        } => {
+            io::write_all(STDOUT_FILENO, b"ROUNDS ");
+            io::print_decimal(STDOUT_FILENO, rounds as u64);
+            io::write_all(STDOUT_FILENO, b"\n");
+        }
+    }
+}
+
+// ---- with the line that was asked for
+
+pub fn print_asked(input: &[u8], output: &mut [u8], text: &mut [u8], asked: Asked) {
     print_answer(input, output, text);
-    if places {
-        print_places(input, output);
+    match asked {
+        Asked::Nothing => {}
+        Asked::Places => print_places(input, output),
+        Asked::Rounds => print_rounds(input, output),
     }
 }

@@ -90,7 +90,7 @@ module _ (c : tie.After-simplified) {bytes : List ℕ} (accepted : ReadFrom byte
 
 module _ (c : tie.After-plain-tokens) {bytes : List ℕ} (accepted : ReadFrom bytes (start (working (normalising (simplifying c))))) where
   -- plain,
-  holds : Holds (c .plain-tokens .last .0) (simplifying c .simplified .result .tokens .count) (tree (simplifying c) accepted)
+  holds : Holds (c .plain-tokens .last .0) (simplifying c .simplified .result .tree .tokens .count) (tree (simplifying c) accepted)
   holds =
       simpler-holds (prepared (normalising (simplifying c)) accepted) (simplifying c .simplified .result) (simpler (simplifying c) accepted) (c .plain-tokens .last .0)
       (c .plain-tokens .ensures)
@@ -112,7 +112,7 @@ module _ (c : tie.After-collect) where
   new =
       let last = c .collect .last .1 .1 .1 .1 .1 .1 in
       let simplified = simplified-at .simplified .result in
-      heldBy (first .args .variables) (c .collect .result) (simplified .root) (simplified .tokens .count) (last .0) (last .1 .0) (last .1 .1 .0) (last .1 .1 .1 .0)
+      heldBy (first .args .variables) (c .collect .result) (simplified .tree .root) (simplified .tree .tokens .count) (last .0) (last .1 .0) (last .1 .1 .0) (last .1 .1 .1 .0)
 
   module _ {bytes : List ℕ} (accepted : ReadFrom bytes first) where
     -- and collected to the new block,
