@@ -8,12 +8,8 @@ use native.Mathlib.Omega.{arith}
 use lib.ListN.{length, getD, drop, length-append}
 use Rattle.rules.specs.Polynomial.{Atom}
 use Rattle.rules.specs.Rounds.{State, Outcome, run, settled, carried}
-<<<<<<< ours
 use Rattle.rules.specs.Level.{Placed, plains, carry, removeImplied}
-=======
-use Rattle.rules.specs.Level.{removeImplied}
 use Rattle.rules.specs.Count.{runCount, removalCount}
->>>>>>> theirs
 use Rattle.sign_laws.specs.Lists.{every-none, every}
 use Rattle.length_laws.specs.RoundsKeep.{AllSmall, carried-small}
 use Rattle.terms.specs.View.{setsOf}
@@ -21,15 +17,15 @@ use Rattle.table.specs.declared.Atoms.{Atoms}
 use Rattle.table.specs.Table.{Table, many, atomsFrom, atomsOf}
 use Rattle.tape.specs.declared.rows.Row.{Row}
 use Rattle.round.specs.declared.State.{State as Left}
-use Rattle.rounds.specs.declared.Counted.{Counted}
+use Rattle.rounds.specs.declared.Largest.{Largest}
 use Rattle.steps.specs.declared.carrying.Carrying.{Carrying}
 use Rattle.tape.specs.Row.{Lists}
 use Rattle.tape.specs.Token.{slot, place, atomOf, atomsIn}
 use Rattle.tape.specs.Entering.{same-place}
 use Rattle.round.specs.Views.{stateOf}
 use Rattle.settled.specs.declared.removal.Remaining.{Remaining}
-use Rattle.rounds.specs.Views.{ending, countedOutcome}
-use Rattle.rounds.specs.Run.{CountedRun}
+use Rattle.rounds.specs.Views.{ending}
+use Rattle.rounds.specs.Run.{LargestRun}
 use Rattle.settled.specs.Carried.{Carried}
 use Rattle.settled.specs.Remaining.{keptWhen, remaining, RemainingOf}
 use Rattle.steps.specs.Carried.{withSets, Carries, Remains}
@@ -78,24 +74,18 @@ carry-are t (x ∷ l) numbers sets i (every h hs) =
 
 -- ---- step 3
 
-<<<<<<< ours
-module _ {t : Table} (l : List ℕ) {list : Atoms} (n : list .count ≡ length l) (few : length l ≤ 64) (same : atomsOf t list ≡ plains (atomsIn t l)) {ran : Ran} (o : RunOf t list ran) where
+module _ {t : Table} (l : List ℕ) {list : Atoms} (n : list .count ≡ length l) (few : length l ≤ 64) (same : atomsOf t list ≡ plains (atomsIn t l)) (largest : ℕ) {ran : Largest}
+    (o : LargestRun t list largest ran) where
   ran-is : run (t .variables) (plains (atomsIn t l)) ≡ ending (ran .contradiction) (stateOf t (ran .state))
-=======
-module _ {t : Table} (l : List ℕ) {list : Atoms} (n : list .count ≡ length l) (few : length l ≤ 64) (same : atomsOf t list ≡ atomsIn t l) {ran : Counted} (o : CountedRun t list ran)
-    (largest : ℕ) {rounds : ℕ} (larger : rounds ≡ max largest (ran .begun)) where
-  ran-is : run (t .variables) (atomsIn t l) ≡ ending (ran .contradiction) (stateOf t (ran .state))
->>>>>>> theirs
   ran-is = ap (run (t .variables)) (sym same) ∙ sym (o .outcome)
 
-  counts-are : rounds ≡ max largest (runCount (t .variables) (atomsIn t l))
-  unfolding runCount
-  counts-are = rw (sym same, sym (o .begun)) larger
+  counts-are : ran .largest ≡ max largest (runCount (t .variables) (plains (atomsIn t l)))
+  counts-are = rw same at (o .counts)
 
   settled-is : ran .contradiction ≡ false → run (t .variables) (atomsOf t list) ≡ settled (stateOf t (ran .state))
   settled-is e = sym (o .outcome) ∙ rw e
 
-  pub contradicts : ran .contradiction ≡ true → (row : Row) → Lists row l → Carries t l largest row (record { contradiction = true; state = ran .state; rounds = rounds })
+  pub contradicts : ran .contradiction ≡ true → (row : Row) → Lists row l → Carries t l largest row (record { contradiction = true; state = ran .state; rounds = ran .largest })
   contradicts e row h = record {
     is = rw e at ran-is;
     counts = counts-are;
@@ -107,7 +97,7 @@ module _ {t : Table} (l : List ℕ) {list : Atoms} (n : list .count ≡ length l
   }
 
   pub carries-on : ran .contradiction ≡ false → {cut : Atoms} → Carried t list (carried (t .variables) (setsOf (ran .state .board)) (atomsOf t list) (atomsOf t (ran .state .atoms))) cut
-      → (row : Row) → Lists row (withSets (cut .set) 0 l) → Carries t l largest row (record { contradiction = false; state = ran .state; rounds = rounds })
+      → (row : Row) → Lists row (withSets (cut .set) 0 l) → Carries t l largest row (record { contradiction = false; state = ran .state; rounds = ran .largest })
   carries-on e {cut} c row h =
       let many-cut : many (cut .count) ≡ length l = omega (arith, c .count) in
       let small : AllSmall (atomsOf t cut) = rw (c .atoms) (carried-small (t .variables) (settled-is e) (rw same (tokens-small t l))) in
@@ -170,29 +160,11 @@ unfolding remaining
 length-remaining keep i [] = omega arith
 length-remaining keep i (x ∷ l) = omega (arith, length-kept (getD keep i false) x (remaining keep (suc i) l), length-remaining keep (suc i) l)
 
-<<<<<<< ours
 pub remains : {t : Table} {l : List ℕ} (list : Atoms) → atomsOf t list ≡ plains (atomsIn t l) → {kept : Remaining} → RemainingOf t list (removeImplied (t .variables) []) kept
-    → (row : Row) → Lists row (remaining (kept .keep) 0 l) → Remains t l row
-remains {t} {l} list same {kept} r row h = record {
-=======
--- the engine keeps atoms by the same marks
-kept-from : (t : Table) (numbers sets : List ℕ) (keep : List Bool) (i k : ℕ) → keptFrom t numbers sets keep i k ≡ remaining keep i (atomsFrom t numbers sets i k)
-unfolding keptFrom remaining atomsFrom consIf keptWhen
-kept-from t numbers sets keep i zero = refl
-kept-from t numbers sets keep i (suc k) =
-    ap (consIf (getD keep i false) (atomAt t numbers sets i)) (kept-from t numbers sets keep (suc i) k) ∙ kept-either (getD keep i false) (atomAt t numbers sets i) (remaining keep (suc i) (atomsFrom t numbers sets (suc i) k))
-  where
-    kept-either : (b : Bool) (a : Atom) (l : List Atom) → consIf b a l ≡ keptWhen b a l
-    kept-either true a l = refl
-    kept-either false a l = refl
-
-pub remains : {t : Table} {l : List ℕ} (list : Atoms) → atomsOf t list ≡ atomsIn t l → {kept : Remaining} → RemainingOf t list (removeImplied (t .variables) [] (atomsOf t list)) kept
-    → {k largest : ℕ}
-    → k ≡ max largest (removalCount (t .variables) [] (atomsOf t list)) → (row : Row) → Lists row (remaining (kept .keep) 0 l) → Remains t l largest row k
-unfolding consIf keptWhen
+    → {k largest : ℕ} → ((carrying : List Placed) → plains carrying ≡ atomsOf t list → k ≡ max largest (removalCount (t .variables) [] carrying))
+    → (row : Row) → Lists row (remaining (kept .keep) 0 l) → Remains t l largest row k
 remains {t} {l} list same {kept} r counted row h = record {
-  counts = rw same at counted;
->>>>>>> theirs
+  counts = counted (atomsIn t l) (sym same);
   list = remaining (kept .keep) 0 l;
   lists = h;
   small = length-remaining (kept .keep) 0 l;

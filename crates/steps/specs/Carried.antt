@@ -5,12 +5,8 @@ use mathlib.Core.List.{List, [], _∷_}
 use Prim.Native.Nat.{ℕ, suc, _+_, _*_, _/_, _%_, _≤_, max}
 use lib.ListN.{length, getD}
 use Rattle.rules.specs.Rounds.{run, carried}
-<<<<<<< ours
 use Rattle.rules.specs.Level.{plains, carry, removeImplied}
-=======
-use Rattle.rules.specs.Level.{removeImplied}
 use Rattle.rules.specs.Count.{runCount, removalCount}
->>>>>>> theirs
 use Rattle.terms.specs.View.{setsOf}
 use Rattle.table.specs.Table.{Table, atomsOf}
 use Rattle.tape.specs.declared.rows.Row.{Row}
@@ -29,14 +25,9 @@ withSets sets i (x ∷ l) = (x / 8 * 8 + getD sets i 0 % 8) ∷ withSets sets (s
 
 -- ---- The two steps.
 
-<<<<<<< ours
-pub record Carries (t : Table) (l : List ℕ) (row : Row) (r : Carrying) : Type 0 where
-  pub is : run (t .variables) (plains (atomsIn t l)) ≡ ending (r .contradiction) (stateOf t (r .state))
-=======
 pub record Carries (t : Table) (l : List ℕ) (largest : ℕ) (row : Row) (r : Carrying) : Type 0 where
-  pub is : run (t .variables) (atomsIn t l) ≡ ending (r .contradiction) (stateOf t (r .state))
-  pub counts : r .rounds ≡ max largest (runCount (t .variables) (atomsIn t l))
->>>>>>> theirs
+  pub is : run (t .variables) (plains (atomsIn t l)) ≡ ending (r .contradiction) (stateOf t (r .state))
+  pub counts : r .rounds ≡ max largest (runCount (t .variables) (plains (atomsIn t l)))
   pub variables : r .state .board .variables ≡ t .variables
   pub list : List ℕ
   pub lists : Lists row list
