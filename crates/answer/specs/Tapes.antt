@@ -17,13 +17,8 @@ use Rattle.ending_laws.specs.Nestings.{alone-each}
 use Rattle.ending_laws.specs.Shapes.{nodes-each, children-each, atoms-each}
 use Rattle.table.specs.Table.{Table}
 use Rattle.block.specs.Held as held
-<<<<<<< ours
 use Rattle.block.specs.Tokens.{length-tokens}
 use Rattle.level.specs.declared.writing.Tree.{Tree}
-=======
-use Rattle.block.specs.Tokens.{length-tokens, set-back}
-use Rattle.level.specs.declared.Shortened.{Shortened}
->>>>>>> theirs
 use Rattle.tape.specs.Token.{atomOf}
 use Rattle.places.specs.Places.{withPlace, nextPlace, placeFrom, placedTokens, toldIf, placeBytes}
 use Rattle.level.specs.Tree.{tokens, kindOf, TokensWithin, TreeHeld, Simplified}
@@ -240,7 +235,6 @@ back-kind (leaf a) = refl
 back-kind (allOf kids) = refl
 back-kind (anyOf kids) = refl
 
-<<<<<<< ours
 -- ---- the places that tokens tell
 
 map-join : (f : ℕ → ℕ) (kids rest : Parts ℕ) → map f (inOrder kids ++ inOrder rest) ≡ map f (inOrder kids) ++ map f (inOrder rest)
@@ -302,9 +296,6 @@ places-in table (and kids rest) = both-places table kids rest (places-in table k
 places-in table (or kids rest) = both-places table kids rest (places-in table kids) (places-in table rest)
 
 module _ (table : Table) (tree : Node ℕ) (r : Tree) (simplified : Simplified table tree r) where
-=======
-module _ (table : Table) (tree : Node ℕ) (r : Shortened) (simplified : Simplified table tree r) where
->>>>>>> theirs
   -- The simplified tree of numbered atoms.
   abbrev pub result : Node NumberedAtom
   result = eachAtomOf numberedOf (simplified .result)
@@ -325,14 +316,14 @@ module _ (table : Table) (tree : Node ℕ) (r : Shortened) (simplified : Simplif
       ∙ ap (λ (f : Parts Placed). map (λ (k : ℕ). k % 256) (places f)) (alone-each (atomOf table) (simplified .result))
       ∙ ap (λ (n : Node Placed). map (λ (k : ℕ). k % 256) (places (alone n))) (simplified .is)
 
-  row-count : r .tree .tokens .count ≡ nodes (alone (simplified .result))
+  row-count : r .tokens .count ≡ nodes (alone (simplified .result))
   row-count =
       simplified .lists .size ∙ sym (length-map (tokens (alone (simplified .result))) plain)
       ∙ ap length (plain-tokens 255 0 (alone (simplified .result)) (simplified .within))
       ∙ length-tokens (eachAtom numberedOf (alone (simplified .result))) ∙ nodes-each numberedOf (alone (simplified .result))
 
   -- A tape that begins with the plain tokens of the row holds it.
-  pub result-holds : {tape : List ℕ} → take (r .tree .tokens .count) tape ≡ map plain (take (r .tree .tokens .count) (r .tree .tokens .token)) → Holds tape (r .tree .tokens .count) result
+  pub result-holds : {tape : List ℕ} → take (r .tokens .count) tape ≡ map plain (take (r .tokens .count) (r .tokens .token)) → Holds tape (r .tokens .count) result
   result-holds {tape} same = record {
     stored = same ∙ ap (map plain) (simplified .lists .is) ∙ plain-tokens 255 0 (alone (simplified .result)) (simplified .within)
         ∙ ap held.tokens (alone-each numberedOf (simplified .result));
@@ -342,5 +333,5 @@ module _ (table : Table) (tree : Node ℕ) (r : Shortened) (simplified : Simplif
   }
 
   -- Its root is of the kind that is told.
-  pub result-kind : held.kindOf result ≡ r .tree .root
+  pub result-kind : held.kindOf result ≡ r .root
   result-kind = back-kind (simplified .result) ∙ sym (simplified .root)

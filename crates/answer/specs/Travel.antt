@@ -5,21 +5,13 @@ use mathlib.Core.List.{List, []}
 use Prim.Native.Nat.{ℕ, _≤_}
 use native.Mathlib.Omega.{arith}
 use lib.ListN.{length}
-<<<<<<< ours
 use Rattle.rules.specs.Polynomial.{Atom, normal}
 use Rattle.rules.specs.Formula.{Node, alone, eachAtomOf}
 use Rattle.rules.specs.Level.{placedTree, simplify}
-use Rattle.rules.specs.Block.{Block, Stream, read, readBlock, blockLength}
-use Rattle.rules.specs.Limits.{BlockWithin}
-use Rattle.rules.specs.Answer.{lookedUp, formulaOf, used, withoutConstants, formsUsed, simplified, newBlock}
-=======
-use Rattle.rules.specs.Formula.{eachAtomOf}
-use Rattle.rules.specs.Level.{simplify}
 use Rattle.rules.specs.Count.{mostRounds}
 use Rattle.rules.specs.Block.{Block, Stream, read, readBlock, blockLength}
 use Rattle.rules.specs.Limits.{BlockWithin}
-use Rattle.rules.specs.Answer.{formulaOf, simplified, newBlock}
->>>>>>> theirs
+use Rattle.rules.specs.Answer.{lookedUp, formulaOf, used, withoutConstants, formsUsed, simplified, newBlock}
 use Rattle.block_laws.specs.Blocks.{block-accepted, accepted-within}
 use Rattle.length_laws.specs.NeverLonger.{never-longer}
 use Rattle.length_laws.specs.NewWithin.{new-within}
@@ -44,10 +36,10 @@ module _ (given : Block) (within : BlockWithin given) (w : WorkingTable)
       ap (λ (tree : Node Atom). withoutConstants (used [] (alone tree)))
       (normal-forms given within w worked ∙ sym (tree-after normal (lookedUp (given .table)) (given .tree)))
 
-  -- And its rounds are counted as the block's are.
-  pub slots-counted : mostRounds (given .variables) (eachAtomOf (inSlot (tableOf (given .variables) w)) (normalTree given within w worked))
-      ≡ mostRounds (given .variables) (formulaOf given)
-  slots-counted = ap (mostRounds (given .variables)) (normal-forms given within w worked) ∙ block-counted-first given within
+  -- And its runs take as many rounds as the block's.
+  pub slots-counted : mostRounds (given .variables) (placedTree (eachAtomOf (inSlot (tableOf (given .variables) w)) (normalTree given within w worked)))
+      ≡ mostRounds (given .variables) (placedTree (formulaOf given))
+  slots-counted = ap (λ (tree : Node Atom). mostRounds (given .variables) (placedTree tree)) (normal-forms given within w worked) ∙ block-counted-first given within
 
 -- The new block of an accepted one can be written,
 pub new-writable : (bytes : List ℕ) {given : Block} {stream : Stream} → readBlock bytes ≡ read given stream → BlockWithin (newBlock given)

@@ -2,7 +2,7 @@
 -- Each step takes what the function of that step ensures, and gives what the next one asks.
 use mathlib.Core.Path.{_≡_, refl, sym, ap, ap₂, _∙_, subst}
 use mathlib.Core.List.{List, [], _∷_, _++_, map}
-use Prim.Native.Nat.{ℕ, suc, _%_, _<_, _≤_}
+use Prim.Native.Nat.{ℕ, suc, _%_, _<_, _≤_, max}
 use native.Mathlib.Nat.{zero-add}
 use native.Mathlib.Omega.{arith}
 use lib.IntN.{ℤ}
@@ -10,21 +10,13 @@ use lib.ListN.{length, getD, take, drop, replicate, length-map, length-replicate
 use lib.Seq.{sets, sets-eq, length-sets, take-at}
 use Rattle.rules.specs.Polynomial.{Atom}
 use Rattle.rules.specs.Formula.{Node, eachAtomOf, alone, atoms, nodes}
-<<<<<<< ours
 use Rattle.rules.specs.Level.{Placed, plain as withoutPlace, placedTree, places, simplify}
-use Rattle.rules.specs.Block.{NumberedAtom, Block, writeBlock, blockLength}
-use Rattle.rules.specs.Limits.{PartsWithin, BlockWithin}
-use Rattle.rules.specs.Answer as book
-use Rattle.rules.specs.Answer.{lookedUp, formulaOf, used, withoutConstants, formsUsed, numbered, blockOf, simplified, newBlock, newPlaces, readPlaces}
-use Rattle.rules.specs.Demands.{atomsOf}
-=======
-use Rattle.rules.specs.Level.{simplify}
 use Rattle.rules.specs.Count.{mostRounds}
-use Rattle.rules.specs.Block.{NumberedAtom, Block, writeBlock, blockLength}
+use Rattle.rules.specs.Block.{NumberedAtom, Block, Reading, writeBlock, blockLength}
 use Rattle.rules.specs.Limits.{PartsWithin, BlockWithin}
 use Rattle.rules.specs.Answer as book
-use Rattle.rules.specs.Answer.{used, numbered, blockOf, formulaOf, simplified, newBlock}
->>>>>>> theirs
+use Rattle.rules.specs.Answer.{lookedUp, formulaOf, used, withoutConstants, formsUsed, numbered, blockOf, simplified, newBlock, newPlaces, readPlaces, roundsOf}
+use Rattle.rules.specs.Demands.{atomsOf}
 use Rattle.block_laws.specs.Blocks.{accepted-within}
 use Rattle.block_laws.specs.Sizes.{length-block}
 use Rattle.length_laws.specs.Blocks.{in-order-many}
@@ -38,29 +30,20 @@ use Rattle.forms.specs.Working.{TableRead, tableOf, Worked}
 use Rattle.forms.specs.Tokens.{normalTokens}
 use Rattle.tape.specs.Token.{atomOf}
 use Rattle.tape.specs.Listing.{row-long}
-<<<<<<< ours
 use Rattle.places.specs.Places.{placedTokens, placeBytes, placesOver}
 use Rattle.level.specs.declared.writing.Tree.{Tree}
-=======
-use Rattle.level.specs.declared.Shortened.{Shortened}
->>>>>>> theirs
 use Rattle.level.specs.Tree.{TreeHeld, Simplified}
 use Rattle.used.specs.Tape.{inSlot, Holds, HoldsSome}
 use Rattle.answer.specs.declared.Verdict.{Verdict}
 use Rattle.answer.specs.declared.Answer.the-variants.{Answered}
 use Rattle.array_laws.specs.Arrays.{held-table-read}
 use Rattle.answer.specs.Normal.{normalised, normalTree, normal-holds, normal-kind, normal-within}
-<<<<<<< ours
 use Rattle.answer.specs.Tapes.{tokenTree, atoms-few, plain, plainTokens, tokens-in-slots, held-as-tokens, result, result-is, result-places, result-holds}
 use Rattle.answer.specs.Tapes.{result-kind}
-use Rattle.answer.specs.Travel.{slots-simplified, slots-used, new-writable, new-room}
-=======
-use Rattle.answer.specs.Tapes.{tokenOf, plain, plainTokens, tokens-in-slots, held-as-tokens, result, result-is, result-holds, result-kind}
-use Rattle.answer.specs.Travel.{slots-simplified, slots-counted, new-writable, new-room}
->>>>>>> theirs
+use Rattle.answer.specs.Travel.{slots-simplified, slots-used, slots-counted, new-writable, new-room}
 use Rattle.answer.specs.Answered.{verdictFrom, verdictOf, countsOf, answerOf, answer-accepted, answer-written, new-verdict, atoms-same}
 use Rattle.array_laws.specs.Writing.{writable}
-use Rattle.answer.specs.Entry.{Accepted, Answers, TellsPlaces}
+use Rattle.answer.specs.Entry.{Accepted, Answers, TellsPlaces, CountsRounds}
 
 -- ---- the tape that is simplified
 
@@ -72,11 +55,9 @@ pub record Prepared (given : Block) (held : Held) (w : WorkingTable) (token : Li
   pub within : PartsWithin 6 64 0 (alone tree)
   pub simplifies : simplify (held .variables) (placedTree (eachAtomOf (inSlot (tableOf (held .variables) w)) tree)) ≡ simplified given
   pub counted : atoms (alone tree) ≡ atoms (alone (given .tree))
-<<<<<<< ours
   pub uses : withoutConstants (used [] (alone (eachAtomOf (inSlot (tableOf (held .variables) w)) tree))) ≡ formsUsed (formulaOf given)
-=======
-  pub rounds : mostRounds (held .variables) (eachAtomOf (inSlot (tableOf (held .variables) w)) tree) ≡ mostRounds (given .variables) (formulaOf given)
->>>>>>> theirs
+  pub rounds : mostRounds (held .variables) (placedTree (eachAtomOf (inSlot (tableOf (held .variables) w)) tree))
+      ≡ mostRounds (given .variables) (placedTree (formulaOf given))
 
 module _ {bytes : List ℕ} {held : Held} {room : ℕ} (accepted : Accepted bytes held room) where
   within : BlockWithin (accepted .given)
@@ -119,11 +100,8 @@ module _ {bytes : List ℕ} {held : Held} {room : ℕ} (accepted : Accepted byte
     within = normal-within (accepted .given) within w worked;
     simplifies = slots-simplified (accepted .given) within w worked;
     counted = atoms-same (normalised (w .number) (w .turned)) (accepted .given .tree);
-<<<<<<< ours
     uses = slots-used (accepted .given) within w worked;
-=======
     rounds = slots-counted (accepted .given) within w worked;
->>>>>>> theirs
   }
 
   -- The tape brought to normal form is prepared.
@@ -145,13 +123,9 @@ module _ {given : Block} {held : Held} {w : WorkingTable} {token : List ℕ} (pr
   pub asks-atoms : HoldsSome token (held .tokens)
   asks-atoms = record { tree = prepared .tree; holds = prepared .holds }
 
-<<<<<<< ours
   module _ (r : Tree) (simpler : Simplified (tableOf (held .variables) w) (tokenTree (prepared .tree)) r) where
-=======
-  module _ (r : Shortened) (simpler : Simplified (tableOf (held .variables) w) (eachAtomOf tokenOf (prepared .tree)) r) where
->>>>>>> theirs
     -- The row has as many tokens as are counted.
-    pub counts-row : r .tree .tokens .count ≤ length (r .tree .tokens .token)
+    pub counts-row : r .tokens .count ≤ length (r .tokens .token)
     counts-row = row-long (simpler .lists)
 
     -- The simplified tree.
@@ -176,51 +150,42 @@ module _ {given : Block} {held : Held} {w : WorkingTable} {token : List ℕ} (pr
         result-places (tableOf (held .variables) w) (tokenTree (prepared .tree)) r simpler
         ∙ ap (λ (n : Node Placed). map (λ (k : ℕ). k % 256) (places (alone n))) simplifies-placed
 
-    -- Its rounds are the block's.
-    pub simpler-rounds : r .rounds ≡ mostRounds (given .variables) (formulaOf given)
-    simpler-rounds =
-        simpler .counts ∙ ap (mostRounds (held .variables)) (tokens-in-slots (prepared .tree) (prepared .within) (tableOf (held .variables) w)) ∙ prepared .rounds
-
     -- The plain tape holds it.
-    pub simpler-holds : (tape : List ℕ) → tape ≡ plainTokens (r .tree .tokens .count) (r .tree .tokens .token) → Holds tape (r .tree .tokens .count) simplerTree
+    pub simpler-holds : (tape : List ℕ) → tape ≡ plainTokens (r .tokens .count) (r .tokens .token) → Holds tape (r .tokens .count) simplerTree
     simpler-holds tape is =
-<<<<<<< ours
         let front : List ℕ = map plain (take (r .tokens .count) (r .tokens .token)) in
         let long : length front ≡ r .tokens .count
         = length-map (take (r .tokens .count) (r .tokens .token)) plain ∙ ap length (simpler .lists .is) ∙ sym (simpler .lists .size) in
         result-holds (tableOf (held .variables) w) (tokenTree (prepared .tree)) r simpler
         (ap (take (r .tokens .count)) is ∙ take-at front (drop (r .tokens .count) (r .tokens .token)) (r .tokens .count) long)
-=======
-        let front : List ℕ = map plain (take (r .tree .tokens .count) (r .tree .tokens .token)) in
-        let long : length front ≡ r .tree .tokens .count
-        = length-map (take (r .tree .tokens .count) (r .tree .tokens .token)) plain ∙ ap length (simpler .lists .is) ∙ sym (simpler .lists .size) in
-        result-holds (tableOf (held .variables) w) (eachAtomOf tokenOf (prepared .tree)) r simpler
-        (ap (take (r .tree .tokens .count)) is ∙ take-at front (drop (r .tree .tokens .count) (r .tree .tokens .token)) (r .tree .tokens .count) long)
->>>>>>> theirs
 
     -- There are at most 255 tokens.
     pub counts-few : r .tokens .count ≤ 255
     counts-few = simpler-holds (plainTokens (r .tokens .count) (r .tokens .token)) refl .few
 
     -- Its root is of the kind that is told.
-<<<<<<< ours
     pub simpler-kind : reader.kindOf simplerTree ≡ r .root
     simpler-kind = result-kind (tableOf (held .variables) w) (tokenTree (prepared .tree)) r simpler
-=======
-    pub simpler-kind : reader.kindOf simplerTree ≡ r .tree .root
-    simpler-kind = result-kind (tableOf (held .variables) w) (eachAtomOf tokenOf (prepared .tree)) r simpler
->>>>>>> theirs
+
+-- The number of rounds is the block's.
+pub counts-rounds : {bytes : List ℕ} {held : Held} {room : ℕ} (accepted : Accepted bytes held room) {w : WorkingTable} {token : List ℕ}
+    (prepared : Prepared (accepted .given) held w token) {largest rounds : ℕ}
+    → rounds ≡ max largest (mostRounds (held .variables) (eachAtomOf (atomOf (tableOf (held .variables) w)) (tokenTree (prepared .tree))))
+    → CountsRounds bytes largest rounds
+unfolding roundsOf
+counts-rounds {held} accepted {w} prepared {largest} counted = record {
+  is =
+      counted
+      ∙ ap (λ (tree : Node Placed). max largest (mostRounds (held .variables) tree))
+      (tokens-in-slots (prepared .tree) (prepared .within) (tableOf (held .variables) w) (omega (arith, prepared .holds .counted, prepared .holds .few)))
+      ∙ ap (max largest) (prepared .rounds) ∙ sym (ap (λ (reading : Reading Block). max largest (roundsOf reading)) (accepted .accepted));
+}
 
 -- ---- the new block
 
 module _ {bytes : List ℕ} (before : List ℕ) {held : Held} (accepted : Accepted bytes held (length before)) {w : WorkingTable} {token : List ℕ}
-<<<<<<< ours
     (prepared : Prepared (accepted .given) held w token) (r : Tree)
     (simpler : Simplified (tableOf (held .variables) w) (tokenTree (prepared .tree)) r) (tape : List ℕ) where
-=======
-    (prepared : Prepared (accepted .given) held w token) (r : Shortened)
-    (simpler : Simplified (tableOf (held .variables) w) (eachAtomOf tokenOf (prepared .tree)) r) where
->>>>>>> theirs
   same-variables : held .variables ≡ accepted .given .variables
   unfolding heldOf
   same-variables = ap (λ (h : Held). h .variables) (accepted .is)
@@ -230,7 +195,6 @@ module _ {bytes : List ℕ} (before : List ℕ) {held : Held} (accepted : Accept
   newHeld = heldOver (held .coefficient) (held .monomial) (held .terms) tape (newBlock (accepted .given))
 
   -- This is what is collected,
-<<<<<<< ours
   pub collects : {m : ℕ} {cs : List ℤ} {ms ts new : List ℕ}
       → heldBy (held .variables) m (reader.kindOf (simplerTree prepared r simpler)) (r .tokens .count) cs ms ts new
       ≡ heldOver (held .coefficient) (held .monomial) (held .terms) tape
@@ -240,17 +204,6 @@ module _ {bytes : List ℕ} (before : List ℕ) {held : Held} (accepted : Accept
   collects {m} {cs} {ms} {ts} {new} is =
       ap (λ (kind : ℕ). heldBy (held .variables) m kind (r .tokens .count) cs ms ts new) (sym (simpler-kind prepared r simpler)) ∙ is
       ∙ ap₂ (λ (n : ℕ) (tree : Node Atom). heldOver (held .coefficient) (held .monomial) (held .terms) tape (blockOf n tree)) same-variables (simpler-is prepared r simpler)
-=======
-  pub collects : {m : ℕ} {cs : List ℤ} {ms ts tape : List ℕ}
-      → heldBy (held .variables) m (reader.kindOf (simplerTree prepared r simpler)) (r .tree .tokens .count) cs ms ts tape
-      ≡ heldOver (held .coefficient) (held .monomial) (held .terms) token
-      (blockOf (held .variables) (eachAtomOf (inSlot (tableOf (held .variables) w)) (simplerTree prepared r simpler)))
-      → heldBy (held .variables) m (r .tree .root) (r .tree .tokens .count) cs ms ts tape ≡ newHeld
-  unfolding newBlock
-  collects {m} {cs} {ms} {ts} {tape} is =
-      ap (λ (kind : ℕ). heldBy (held .variables) m kind (r .tree .tokens .count) cs ms ts tape) (sym (simpler-kind prepared r simpler)) ∙ is
-      ∙ ap₂ (λ (n : ℕ) (tree : Node Atom). heldOver (held .coefficient) (held .monomial) (held .terms) token (blockOf n tree)) same-variables (simpler-is prepared r simpler)
->>>>>>> theirs
 
   -- which can be written.
   pub writes : (new : Held) → new ≡ newHeld → length tape ≡ length (held .token) → Writable new (length before) (newBlock (accepted .given))
@@ -312,7 +265,6 @@ module _ {bytes : List ℕ} (before : List ℕ) {held : Held} (accepted : Accept
         «atoms_out» = atoms-out;
         «polynomials_in» = polynomials-in;
         «polynomials_out» = new .polynomials;
-        rounds = r .rounds;
       }))
   unfolding answerOf countsOf book.countsOf heldOf
   answers new new-is after atoms-in atoms-out polynomials-in size verdict size-is after-is in-is out-is uses-is verdict-is =
@@ -329,11 +281,7 @@ module _ {bytes : List ℕ} (before : List ℕ) {held : Held} (accepted : Accept
       let stored : sets before 0 (writeBlock (newBlock given)) ≡ writeBlock (newBlock given) ++ drop (length (writeBlock (newBlock given))) before
       = rw (zero-add (length (writeBlock (newBlock given)))) at (sets-eq (writeBlock (newBlock given)) before 0 (omega arith)) in
       record {
-<<<<<<< ours
         returns = rw (answer-accepted (length before) bytes (accepted .enough) (accepted .accepted), told, long, before-in, before-out, forms-in, table-out);
-=======
-        returns = rw (answer-accepted (length before) bytes (accepted .enough) (accepted .accepted), told, long, before-in, before-out, table-in, table-out, simpler-rounds prepared r simpler);
->>>>>>> theirs
         output = after-is ∙ stored ∙ ap (λ (k : ℕ). writeBlock (newBlock given) ++ drop k before) (length-block (newBlock given))
             ∙ sym (answer-written (length before) bytes (accepted .enough) (accepted .accepted) before);
       }

@@ -44,7 +44,7 @@ pub enum Answer {
 }
 
 // The answer, and the largest number of rounds so far, its runs counted (02, #108).
-pub struct Counted {
+pub struct WithRounds {
     pub answer: Answer,
     pub rounds: usize,
 }
@@ -94,7 +94,7 @@ pub fn answer_to(
     output: &mut [u8],
     places: &mut [u8],
     largest: usize,
-) -> Counted
+) -> WithRounds
     requires { ⌜ AcceptedSome (heldBy variables polynomials root count (now coefficient) (now monomial) (now terms) (now token)) (length (now output))
         × (255 ≤ length (now places)) ⌝ }
     ensures { λ r. ⌜ ((bytes : List ℕ)
@@ -174,7 +174,7 @@ pub fn answer_to(
         length: length,
         counts: counts,
     };
-    Counted {
+    WithRounds {
         answer: answer,
         rounds: short.rounds,
     }

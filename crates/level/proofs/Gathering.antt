@@ -9,12 +9,8 @@ use native.Mathlib.Omega.{arith}
 use lib.ListN.{length, drop, getD, length-append, length-drop}
 use lib.Seq.{getD-drop, drop-drop, drop-at}
 use Rattle.rules.specs.Formula.{end, atom, or}
-<<<<<<< ours
-use Rattle.rules.specs.Level.{Placed, Formula, dual, atomsOf, orsOf, Entry, enter, Walk, falls, still, add, gather, afterGather, andRule, orRule}
-=======
-use Rattle.rules.specs.Level.{Formula, dual, atomsOf, orsOf, Entry, fails, joins, stays, enter, Walk, falls, still, moved, add, gather, afterGather, andRule, orRule}
+use Rattle.rules.specs.Level.{Placed, Formula, dual, atomsOf, orsOf, Entry, fails, joins, stays, enter, Walk, falls, still, moved, add, gather, afterGather, andRule, orRule}
 use Rattle.rules.specs.Count.{unlessFails, gatherCount, gatheredCount, ruleCount}
->>>>>>> theirs
 use Rattle.table.specs.Table.{Table}
 use Rattle.tape.specs.declared.rows.Row.{Row}
 use Rattle.tape.specs.declared.walks.Level.{Level}
@@ -157,7 +153,7 @@ unfolding walkOf afterwards unlessFallen
 fallen-counts s e entry k j = let x = rw e at (s .is) in rw (sym x)
 
 -- and one that has not goes on, unless the next child fails
-on-walk : (m : Bool) (new : List Atom) (ors : List Formula) (entry : Entry) (k j : ℕ)
+on-walk : (m : Bool) (new : List Placed) (ors : List Formula) (entry : Entry) (k j : ℕ)
     → (unlessFallen (afterwards (walkOf false m new ors) entry) k ≡ unlessFails entry k) × (unlessFallen (walkOf false m new ors) j ≡ j)
 unfolding walkOf afterwards unlessFallen unlessFails
 on-walk true new ors fails k j = (refl, refl)

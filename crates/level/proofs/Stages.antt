@@ -6,16 +6,11 @@ use Prim.Native.Nat.{ℕ, suc, _+_, _-_, _<_, _≤_, max}
 use native.Mathlib.Omega.{arith}
 use lib.ListN.{length, take, drop, length-append}
 use Rattle.rules.specs.Rounds.{State, settled, run}
-<<<<<<< ours
 use Rattle.rules.specs.Level.{Placed, plains, Formula, dual, orParts, parts, never, Walk, falls, still, moved, sweep, afterSweep, afterRounds, afterTidy, settled-down, afterGather}
-use Rattle.ending_laws.specs.Turns.{no-turn-missing}
-use Rattle.level_laws.specs.Carried.{carried-plain}
-=======
-use Rattle.rules.specs.Level.{Formula, dual, orParts, parts, never, Walk, falls, still, moved, sweep, afterSweep, afterRounds, afterTidy, settled-down, afterGather}
 use Rattle.rules.specs.Count.{runCount, removalCount, sweepCount, outcomeCount, tidyCount, settledCount, gatheredCount}
 use Rattle.ending_laws.specs.Turns.{no-turn-missing}
 use Rattle.ending_laws.specs.Counts.{no-count-missing}
->>>>>>> theirs
+use Rattle.level_laws.specs.Carried.{carried-plain}
 use Rattle.removal_laws.specs.Apart.{tidy-apart}
 use Rattle.table.specs.Table.{Table}
 use Rattle.tape.specs.declared.rows.Row.{Row}
@@ -111,7 +106,8 @@ module _ {t : Table} {l : List ℕ} (children : Children) where
     after-tidy e = sym (no-turn-missing (t .variables) (atomsIn t l) (orsIn t children) ∙ rw (f .is, e))
 
     count-tidy : b ≡ false
-        → max (runCount (t .variables) (atomsIn t (f .list))) (outcomeCount (t .variables) (atomsIn t (f .list)) (run (t .variables) (atomsIn t (f .list))) (orsIn t children) (settledCount (t .variables)))
+        → max (runCount (t .variables) (plains (atomsIn t (f .list))))
+        (outcomeCount (t .variables) (atomsIn t (f .list)) (run (t .variables) (plains (atomsIn t (f .list)))) (orsIn t children) (settledCount (t .variables)))
         ≡ settledCount (t .variables) (atomsIn t l) (orsIn t children)
     unfolding tidiedOf tidyCount
     count-tidy e = sym (no-count-missing (t .variables) (atomsIn t l) (orsIn t children) ∙ rw (f .is, e))
@@ -244,7 +240,7 @@ unfolding afterGather walkOf
 gathered-in n l new ors true q = refl
 gathered-in n l new ors false q = rw (q refl, append-nil l)
 
-counted-in : (n : ℕ) (l new : List Atom) (ors : List Formula) (m : Bool) → (m ≡ false → new ≡ []) → settledCount n (l ++ new) ors ≡ gatheredCount n l (walkOf false m new ors)
+counted-in : (n : ℕ) (l new : List Placed) (ors : List Formula) (m : Bool) → (m ≡ false → new ≡ []) → settledCount n (l ++ new) ors ≡ gatheredCount n l (walkOf false m new ors)
 unfolding gatheredCount walkOf
 counted-in n l new ors true q = refl
 counted-in n l new ors false q = rw (q refl, append-nil l)

@@ -4,13 +4,8 @@ use mathlib.Core.Bool.{Bool, true, false}
 use mathlib.Core.List.{List, []}
 use Prim.Native.Nat.{ℕ, suc, _+_, _<_, _≤_, max}
 use lib.ListN.{length}
-<<<<<<< ours
 use Rattle.rules.specs.Level.{Placed, Formula, parts, settled-down, afterGather, Walk}
-=======
-use Rattle.rules.specs.Polynomial.{Atom}
-use Rattle.rules.specs.Level.{Formula, parts, settled-down, afterGather, Walk}
 use Rattle.rules.specs.Count.{settledCount, gatheredCount}
->>>>>>> theirs
 use Rattle.table.specs.Table.{Table}
 use Rattle.tape.specs.declared.rows.Row.{Row}
 use Rattle.tape.specs.declared.walks.Level.{Level}
@@ -34,7 +29,7 @@ resultOf true n l ors = parts l ors
 resultOf false n l ors = settled-down n l ors
 
 -- The rounds that settling on would count.
-unfoldable pub countOf : Bool → ℕ → List Atom → List Formula → ℕ
+unfoldable pub countOf : Bool → ℕ → List Placed → List Formula → ℕ
 countOf true n l ors = 0
 countOf false n l ors = settledCount n l ors
 

@@ -4,7 +4,7 @@ ghost use Prim.Native.Nat.{ℕ};
 ghost use Rattle.rules.specs.Formula.{Node};
 ghost use Rattle.table.specs.Table.{Forms};
 ghost use Rattle.round.specs.Views.{lentTable};
-ghost use Rattle.level.specs.Tree.{TreeHeld, RootIs, Simplified};
+ghost use Rattle.level.specs.Tree.{TreeHeld, RootIs, ShortenedIs};
 
 mod nesting;
 mod settling;
@@ -72,7 +72,7 @@ pub fn simplified(
     largest: usize,
 ) -> Shortened
     requires { ⌜ Forms (lentTable coefficient monomial terms variables) × ((tree : Node ℕ) × TreeHeld (now token) root tree) ⌝ }
-    ensures { λ r. let t = lentTable (coefficient .entry) (monomial .entry) (terms .entry) variables in ⌜ ((tree : Node ℕ) → TreeHeld (now (token .entry)) root tree → Simplified t tree largest r) ⌝ }
+    ensures { λ r. let t = lentTable (coefficient .entry) (monomial .entry) (terms .entry) variables in ⌜ ((tree : Node ℕ) → TreeHeld (now (token .entry)) root tree → ShortenedIs t tree largest r) ⌝ }
 {
     let finished = root_level(coefficient, monomial, terms, variables, token, root, largest);
     let level = finished.level;

@@ -8,7 +8,7 @@ ghost use Rattle.lift.specs.Lines.{Reports};
 use crate::Answer;
 use crate::Counts;
 use crate::Verdict;
-use crate::counting::counted;
+use crate::counting::with_rounds;
 use crate::length_in;
 use crate::placing::placed;
 use crate::report;
@@ -109,12 +109,12 @@ pub extern "C" fn placardpan_placed(input: &[u8], output: &mut [u8], places: &mu
     number_in(given)
 }
 
-// `counted`: the number as `placardpan_simplify` gives it; the largest number of rounds that one run took, 0 on refusal, through a number of the caller's.
+// `with_rounds`: the number as `placardpan_simplify` gives it; the largest number of rounds that one run took, 0 on refusal, through a number of the caller's.
 #[no_mangle]
 pub extern "C" fn placardpan_rounds(input: &[u8], output: &mut [u8], rounds: &mut usize) -> u32
     ensures { λ r. ⌜ ExportsRounds (now (input .entry)) (now (output .entry)) (now (output .exit)) r (now (rounds .exit)) ⌝ }
 {
-    let given = counted(input, output);
+    let given = with_rounds(input, output);
     *rounds = given.rounds;
     let answer = given.answer;
     number_in(answer)

@@ -18,13 +18,13 @@ mod exported; // the entries for C
 mod placing; // the entry with the places of the atoms
 
 pub use answer::Answer;
-pub use answer::Counted;
 pub use answer::Counts;
 pub use answer::Verdict;
+pub use answer::WithRounds;
 use answer::answer_to;
 use block::Contents;
 use block::read_into;
-pub use counting::counted;
+pub use counting::with_rounds;
 pub use placing::placed;
 use telling::tell_answer;
 use telling::tell_refusal;
@@ -33,7 +33,7 @@ use telling::tell_refusal;
 pub const MOST_ROUNDS: usize = 161;
 
 // Reads a block and answers it, where the output has room for it and the slice for the places of its atoms; with the largest number of rounds so far.
-fn answered(input: &[u8], output: &mut [u8], places: &mut [u8], largest: usize) -> Counted
+fn answered(input: &[u8], output: &mut [u8], places: &mut [u8], largest: usize) -> WithRounds
     requires { ⌜ (length (now input) ≤ length (now output)) × (255 ≤ length (now places)) ⌝ }
     ensures { λ r. ⌜ Answers (now (input .entry)) (now (output .entry)) (now (output .exit)) (r .answer)
         × (Places (now (input .entry)) (length (now (output .entry))) (now (places .entry)) (now (places .exit)) × CountsRounds (now (input .entry)) largest (r .rounds)) ⌝ }
@@ -50,7 +50,7 @@ fn answered(input: &[u8], output: &mut [u8], places: &mut [u8], largest: usize) 
         &mut token,
     );
     match contents {
-        Contents::Refused(number) => Counted {
+        Contents::Refused(number) => WithRounds {
             answer: Answer::Refused(number),
             rounds: largest,
         },

@@ -1,6 +1,6 @@
 // The program of document 01: a block on standard input, the report line and, except on refusal, the new block in hex on standard output.
 // Thin over `lift::report`. With the argument `places` it prints one line more, the places of the answer's atoms (02, #105), by `lift::placed`; with
-// `rounds` the largest number of rounds that one run took (#108), by `lift::counted`.
+// `rounds` the largest number of rounds that one run took (#108), by `lift::with_rounds`.
 use libc::STDIN_FILENO;
 use printing::asked_for;
 use printing::print_asked;

@@ -1,6 +1,6 @@
 // The lines for a block on standard output: what the two programs share.
 // What is printed is `lift::report`'s text, with the argument `places` the places that `lift::placed` tells, and with `rounds` the number that
-// `lift::counted` does; that standard output takes it is no promise of ours.
+// `lift::with_rounds` does; that standard output takes it is no promise of ours.
 use answer::Answer;
 use libc::STDOUT_FILENO;
 
@@ -95,9 +95,9 @@ fn print_places(input: &[u8], output: &mut [u8]) {
 
 // Answers an input, with the output to work in, and prints the line of its largest number of rounds; nothing on refusal.
 fn print_rounds(input: &[u8], output: &mut [u8]) {
-    let counted = lift::counted(input, output);
-    let rounds = counted.rounds;
-    let answer = counted.answer;
+    let known = lift::with_rounds(input, output);
+    let rounds = known.rounds;
+    let answer = known.answer;
     match answer {
         Answer::Refused(_) => {}
         Answer::Answered {
