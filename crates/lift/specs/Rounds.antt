@@ -2,7 +2,7 @@
 use mathlib.Core.Path.{_≡_, refl, sym, ap, _∙_}
 use mathlib.Core.List.{List}
 use Prim.Native.Nat.{ℕ, _<_, _≤_, max, zero-le}
-use native.Mathlib.Nat.{max-zero}
+use native.Mathlib.Nat.{max-zero, max-eq-right}
 use lib.ListN.{length}
 use Rattle.rules.specs.Block.{Block, Reading, refused, read, readBlock}
 use Rattle.rules.specs.Answer as book
@@ -55,7 +55,7 @@ refused-counts largest e = record { is = sym (ap (λ (reading : Reading Block). 
 -- And else the number is counted from 0.
 pub rounds-answer : {bytes before after : List ℕ} {returned : WithRounds} → length bytes ≤ length before → Answers bytes before after (returned .answer)
     → CountsRounds bytes 0 (returned .rounds) → RoundsAnswers bytes before after returned
-rounds-answer {bytes} {before} h answers counts = record { answers = answers; rounds = counts .is ∙ sym (rounds-enough (length before) bytes h) }
+rounds-answer {bytes} {before} h answers counts = record { answers = answers; rounds = counts .is ∙ max-eq-right zero-le ∙ sym (rounds-enough (length before) bytes h) }
 
 -- ---- the bound
 

@@ -12,12 +12,17 @@ use Rattle.rounds.specs.declared.Largest.{Largest}
 use Rattle.rounds.specs.Run.{RunOf, CountedRun, LargestRun}
 use Rattle.rounds.proofs.Ends.{length-atoms}
 
+module _ (t : Table) (list : Atoms) {largest : ℕ} where
+  pub none-larger : 2 * (t .variables + many (list .count)) + 1 ≤ largest → largest ≡ max largest (runCount (t .variables) (atomsOf t list))
+  none-larger h =
+      sym (no-larger (omega (arith, list-at-most (t .variables) (atomsOf t list), length-atoms t (list .number) (list .set) 0 (many (list .count)))))
+
 module _ {t : Table} (list : Atoms) {largest : ℕ} where
   pub largest-stays : {r : Ran} → RunOf t list r → 2 * (t .variables + many (list .count)) + 1 ≤ largest
       → LargestRun t list largest (record { contradiction = r .contradiction; largest = largest; state = r .state })
   largest-stays ran h = record {
     outcome = ran .outcome;
-    counts = sym (no-larger (omega (arith, list-at-most (t .variables) (atomsOf t list), length-atoms t (list .number) (list .set) 0 (many (list .count)))));
+    counts = none-larger t list h;
     variables = ran .variables;
     atoms = ran .atoms;
   }

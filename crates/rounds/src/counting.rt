@@ -1,5 +1,6 @@
 // Request #108: the largest number of rounds that one run took, over step 5's fresh runs. A run whose bound is no more than the largest so far is not run:
-// it cuts no atom and stays above the settled board, and each of its rounds but the last takes a sign from a variable (`count_laws/Fresh: fresh-at-most`).
+// the bound of any run (`count_laws/AtMost: list-at-most`), or that of a run that cuts no atom and stays above the settled board, each of whose rounds but the
+// last takes a sign from a variable (`count_laws/Fresh: fresh-at-most`).
 ghost use mathlib.Core.Path.{_≡_};
 ghost use Prim.Native.Nat.{max, _≤_};
 ghost use lib.ListN.{length};
@@ -13,6 +14,7 @@ ghost use Rattle.rounds.specs.Afresh.{AfreshFrom};
 use crate::start::start;
 use crate::turned::turned_rounds;
 use round::State;
+use round::list::many;
 use table::Atoms;
 use terms::few;
 
@@ -49,8 +51,8 @@ fn spares(sets: &[u8], n: usize) -> usize
     sum
 }
 
-// The larger of the largest number so far and that of the rounds run afresh over some of the atoms that carry the sets of a settled state.
-pub fn fresh_rounds(
+// The same as `fresh_rounds`, by the sharper bound of such runs.
+fn fresh_counted(
     coefficient: &[i32],
     monomial: &[u64],
     terms: &[u8],
@@ -77,4 +79,34 @@ pub fn fresh_rounds(
     }
     let rounds = turned_rounds(coefficient, monomial, terms, first);
     larger(largest, rounds)
+}
+
+// The larger of the largest number so far and that of the rounds run afresh over some of the atoms that carry the sets of a settled state.
+pub fn fresh_rounds(
+    coefficient: &[i32],
+    monomial: &[u64],
+    terms: &[u8],
+    variables: usize,
+    others: Atoms,
+    settled: State,
+    largest: usize,
+) -> usize
+    requires { let t = lentTable coefficient monomial terms variables in
+        ⌜ Forms t × AfreshFrom t settled (atomsOf t others) ⌝ }
+    ensures { λ r.
+        let t = lentTable (coefficient .entry) (monomial .entry) (terms .entry) variables in
+        ⌜ r ≡ max largest (runCount variables (atomsOf t others)) ⌝ }
+{
+    if 2 * (variables + many(others.count)) + 1 <= largest {
+        return largest;
+    }
+    fresh_counted(
+        coefficient,
+        monomial,
+        terms,
+        variables,
+        others,
+        settled,
+        largest,
+    )
 }

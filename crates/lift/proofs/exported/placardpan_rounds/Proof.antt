@@ -6,11 +6,11 @@ use Rattle.lift.proofs.exported.placardpan_rounds.Statement.{statement}
 use Rattle.lift.proofs.exported.placardpan_rounds.Tie as tie
 
 number-in-requires : tie.Need-number-in-requires
-number-in-requires c κs = length-short (c .before .before .before .with-rounds .ensures .0 .answers)
+number-in-requires c κs = length-short (c .before .before .with-rounds .ensures .0 .answers)
 
 returns : tie.Need-returns
 returns c =
-    let known = c .before .before .before .before .with-rounds .ensures .0 in
+    let known = c .before .before .before .with-rounds .ensures .0 in
     (c .number-in .ensures ∙ number-exported (known .answers), known .answers .output, known .rounds)
 
 pub placardpan-rounds-spec : {M : Type 1} → statement M
