@@ -38,23 +38,28 @@ fn begins(bytes: &[u8], length: usize, word: &[u8]) -> bool {
     true
 }
 
-// The one line more that the program's first argument asks for.
-pub enum Asked {
-    Nothing,
-    Places,
-    Rounds,
+// The lines more that the program's arguments ask for.
+pub struct Asked {
+    pub places: bool,
+    pub rounds: bool,
 }
 
-pub fn asked_for() -> Asked {
+fn is_argument(k: usize, word: &[u8]) -> bool {
     let mut argument = [0u8; 16];
-    let length = os::arg(1, &mut argument);
-    if begins(&argument, length, b"places") {
-        return Asked::Places;
+    let length = os::arg(k, &mut argument);
+    begins(&argument, length, word)
+}
+
+fn either(a: bool, b: bool) -> bool {
+    if a { true } else { b }
+}
+
+// Whether one of the first two arguments is `places`, and whether one is `rounds`.
+pub fn asked_for() -> Asked {
+    Asked {
+        places: either(is_argument(1, b"places"), is_argument(2, b"places")),
+        rounds: either(is_argument(1, b"rounds"), is_argument(2, b"rounds")),
     }
-    if begins(&argument, length, b"rounds") {
-        return Asked::Rounds;
-    }
-    Asked::Nothing
 }
 
 fn wide(byte: u8) -> u64 {
@@ -112,13 +117,15 @@ fn print_rounds(input: &[u8], output: &mut [u8]) {
     }
 }
 
-// ---- with the line that was asked for
+// ---- with the lines that were asked for
 
+// Answers an input and prints its lines, then that of its places and that of its rounds, if they were asked for.
 pub fn print_asked(input: &[u8], output: &mut [u8], text: &mut [u8], asked: Asked) {
     print_answer(input, output, text);
-    match asked {
-        Asked::Nothing => {}
-        Asked::Places => print_places(input, output),
-        Asked::Rounds => print_rounds(input, output),
+    if asked.places {
+        print_places(input, output);
+    }
+    if asked.rounds {
+        print_rounds(input, output);
     }
 }
