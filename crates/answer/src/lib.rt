@@ -80,8 +80,8 @@ fn plain_tokens(token: &mut [u32], count: usize)
     }
 }
 
-// The answer to what was read, the places of its atoms in the lent slice, and the largest number of rounds so far. The arrays that hold what was read are
-// filled anew with what is written.
+// The answer to what was read, the places of its atoms in the lent slice, and the largest number of rounds so far. The arrays that hold what was read
+// are filled anew with what is written.
 pub fn answer_to(
     variables: usize,
     polynomials: usize,
@@ -99,8 +99,8 @@ pub fn answer_to(
         × (255 ≤ length (now places)) ⌝ }
     ensures { λ r. ⌜ ((bytes : List ℕ)
         → Accepted bytes (heldBy variables polynomials root count (now (coefficient .entry)) (now (monomial .entry)) (now (terms .entry)) (now (token .entry)))
-        (length (now (output .entry))) → Answers bytes (now (output .entry)) (now (output .exit)) (r .answer) × (TellsPlaces bytes (now (places .entry)) (now (places .exit))
-        × CountsRounds bytes largest (r .rounds))) ⌝ }
+        (length (now (output .entry))) → Answers bytes (now (output .entry)) (now (output .exit)) (r .answer)
+        × (TellsPlaces bytes (now (places .entry)) (now (places .exit)) × CountsRounds bytes largest (r .rounds))) ⌝ }
 {
     let mut form_coefficient = [0i32; 1280];
     let mut form_monomial = [0u64; 1280];

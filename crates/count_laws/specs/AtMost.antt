@@ -1,5 +1,5 @@
--- Request #108: a run over a list takes at most 2(n + k) + 1 rounds, for k atoms of any kind. Where that is no more than the largest number so far, it
--- need not be counted.
+-- Request #108: a run over a list takes at most 2(n + k) + 1 rounds, for k atoms of any kind. Where that is no more than the largest number so far,
+-- it need not be counted.
 use mathlib.Core.Path.{_≡_}
 use mathlib.Core.List.{List, [], _∷_}
 use mathlib.Core.Option.{Option, none, some}

@@ -42,17 +42,43 @@ fn root_level(
     if root == 0 {
         let atoms = push(empty(), token[0]);
         let walked = begin();
-        return finish(coefficient, monomial, terms, variables, atoms, walked, largest);
+        return finish(
+            coefficient,
+            monomial,
+            terms,
+            variables,
+            atoms,
+            walked,
+            largest,
+        );
     }
     if root == 1 {
-        let found = and_rule(coefficient, monomial, terms, variables, token, 0, 6, largest);
+        let found = and_rule(
+            coefficient,
+            monomial,
+            terms,
+            variables,
+            token,
+            0,
+            6,
+            largest,
+        );
         let level = found.level;
         return Finished {
             level: level,
             rounds: found.rounds,
         };
     }
-    let found = or_rule(coefficient, monomial, terms, variables, token, 0, 6, largest);
+    let found = or_rule(
+        coefficient,
+        monomial,
+        terms,
+        variables,
+        token,
+        0,
+        6,
+        largest,
+    );
     let level = found.level;
     Finished {
         level: level,
@@ -60,8 +86,8 @@ fn root_level(
     }
 }
 
-// The tree that the tape holds, with its root's kind (0 is an atom, 1 is AND, 2 is OR), simplified. Runs that cannot take more rounds than the largest
-// number so far are not counted.
+// The tree that the tape holds, with its root's kind (0 is an atom, 1 is AND, 2 is OR), simplified. Runs that cannot take more rounds than the
+// largest number so far are not counted.
 pub fn simplified(
     coefficient: &[i32],
     monomial: &[u64],
@@ -74,7 +100,15 @@ pub fn simplified(
     requires { ⌜ Forms (lentTable coefficient monomial terms variables) × ((tree : Node ℕ) × TreeHeld (now token) root tree) ⌝ }
     ensures { λ r. let t = lentTable (coefficient .entry) (monomial .entry) (terms .entry) variables in ⌜ ((tree : Node ℕ) → TreeHeld (now (token .entry)) root tree → ShortenedIs t tree largest r) ⌝ }
 {
-    let finished = root_level(coefficient, monomial, terms, variables, token, root, largest);
+    let finished = root_level(
+        coefficient,
+        monomial,
+        terms,
+        variables,
+        token,
+        root,
+        largest,
+    );
     let level = finished.level;
     let tree = tree_of(level, root != 2);
     Shortened {

@@ -15,7 +15,7 @@ use tape::walks::Level;
 use tape::walks::add;
 use tape::walks::begin;
 
-// What a rule makes of the node at a place, the place after the node, and the largest number of rounds so far, the runs at the node and below counted.
+// What a rule makes of the node at a place, the place after the node, and the largest number of rounds so far, its runs and those below counted.
 pub struct Found {
     pub at: usize,
     pub level: Level,

@@ -39,12 +39,14 @@ rounds-enough : (room : ℕ) (bytes : List ℕ) → length bytes ≤ room → ro
 unfolding roundsIn ifAnswered roundsOf
 rounds-enough room bytes h = by-reading (readBlock bytes) refl
   where
-    by-reading : (reading : Reading Block) → readBlock bytes ≡ reading → ifAnswered (answer room bytes) (roundsOf (readBlock bytes)) ≡ roundsOf (readBlock bytes)
+    by-reading : (reading : Reading Block) → readBlock bytes ≡ reading
+        → ifAnswered (answer room bytes) (roundsOf (readBlock bytes)) ≡ roundsOf (readBlock bytes)
     by-reading (refused number) e = rw (answer-refused room bytes h e, e)
     by-reading (read given stream) e = rw (answer-accepted room bytes h e)
 
 -- Too little room.
-pub rounds-answer-short : (bytes before : List ℕ) → length before < length bytes → RoundsAnswers bytes before before (record { answer = Refused 1; rounds = 0 })
+pub rounds-answer-short : (bytes before : List ℕ) → length before < length bytes
+    → RoundsAnswers bytes before before (record { answer = Refused 1; rounds = 0 })
 rounds-answer-short bytes before h = record { answers = answers-short bytes before h; rounds = sym (rounds-short (length before) bytes h) }
 
 -- What the reader refuses has no run.
@@ -53,9 +55,12 @@ unfolding roundsOf
 refused-counts largest e = record { is = sym (ap (λ (reading : Reading Block). max largest (roundsOf reading)) e ∙ max-zero largest) }
 
 -- And else the number is counted from 0.
-pub rounds-answer : {bytes before after : List ℕ} {returned : WithRounds} → length bytes ≤ length before → Answers bytes before after (returned .answer)
-    → CountsRounds bytes 0 (returned .rounds) → RoundsAnswers bytes before after returned
-rounds-answer {bytes} {before} h answers counts = record { answers = answers; rounds = counts .is ∙ max-eq-right zero-le ∙ sym (rounds-enough (length before) bytes h) }
+pub rounds-answer : {bytes before after : List ℕ} {returned : WithRounds} → length bytes ≤ length before
+    → Answers bytes before after (returned .answer) → CountsRounds bytes 0 (returned .rounds) → RoundsAnswers bytes before after returned
+rounds-answer {bytes} {before} h answers counts = record {
+  answers = answers;
+  rounds = counts .is ∙ max-eq-right zero-le ∙ sym (rounds-enough (length before) bytes h);
+}
 
 -- ---- the bound
 

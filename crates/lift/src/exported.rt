@@ -109,7 +109,8 @@ pub extern "C" fn placardpan_placed(input: &[u8], output: &mut [u8], places: &mu
     number_in(given)
 }
 
-// `with_rounds`: the number as `placardpan_simplify` gives it; the largest number of rounds that one run took, 0 on refusal, through a number of the caller's.
+// `with_rounds`: the number as `placardpan_simplify` gives it; the largest number of rounds that one run took, 0 on refusal, through a number of the
+// caller's.
 #[no_mangle]
 pub extern "C" fn placardpan_rounds(input: &[u8], output: &mut [u8], rounds: &mut usize) -> u32
     ensures { λ r. ⌜ ExportsRounds (now (input .entry)) (now (output .entry)) (now (output .exit)) r (now (rounds .exit)) ⌝ }

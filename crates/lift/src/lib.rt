@@ -36,7 +36,8 @@ pub const MOST_ROUNDS: usize = 161;
 fn answered(input: &[u8], output: &mut [u8], places: &mut [u8], largest: usize) -> WithRounds
     requires { ⌜ (length (now input) ≤ length (now output)) × (255 ≤ length (now places)) ⌝ }
     ensures { λ r. ⌜ Answers (now (input .entry)) (now (output .entry)) (now (output .exit)) (r .answer)
-        × (Places (now (input .entry)) (length (now (output .entry))) (now (places .entry)) (now (places .exit)) × CountsRounds (now (input .entry)) largest (r .rounds)) ⌝ }
+        × (Places (now (input .entry)) (length (now (output .entry))) (now (places .entry)) (now (places .exit))
+        × CountsRounds (now (input .entry)) largest (r .rounds)) ⌝ }
 {
     let mut coefficient = [0i32; 1024];
     let mut monomial = [0u64; 1024];

@@ -1,5 +1,5 @@
-// How often, in 4 bytes, most significant first, then a block: `lift::simplify` is called so often, or with the argument `rounds` `lift::with_rounds`, and
-// document 01's lines are printed once, with those that the arguments ask for.
+// How often, in 4 bytes, most significant first, then a block: `lift::simplify` is called so often, with the argument `rounds`
+// `lift::with_rounds`, and document 01's lines are printed once, with those that the arguments ask for.
 // For measuring one call: a second run with another number takes reading, printing and the start of the program off.
 ghost use Prim.Native.Nat.{_≤_};
 use libc::STDIN_FILENO;

@@ -1,6 +1,6 @@
-// Request #108: the largest number of rounds that one run took, over step 5's fresh runs. A run whose bound is no more than the largest so far is not run:
-// the bound of any run (`count_laws/AtMost: list-at-most`), or that of a run that cuts no atom and stays above the settled board, each of whose rounds but the
-// last takes a sign from a variable (`count_laws/Fresh: fresh-at-most`).
+// Request #108: the largest number of rounds that one run took, over step 5's fresh runs. A run whose bound is no more than the largest so far is left
+// out: that of any run (`count_laws/AtMost: list-at-most`), or that of a run that cuts no atom and stays above the settled board, each of whose rounds
+// but the last takes a sign from a variable (`count_laws/Fresh: fresh-at-most`).
 ghost use mathlib.Core.Path.{_≡_};
 ghost use Prim.Native.Nat.{max, _≤_};
 ghost use lib.ListN.{length};

@@ -75,8 +75,8 @@ pub fn run(
     }
 }
 
-// The rounds in document 01's order, counted. What they come to is found first, with turns ahead of them; where that leaves each atom the set that it has at
-// the start, the rounds cut no atom, and they are counted on the board alone.
+// The rounds in document 01's order, counted. What they come to is found first, with turns ahead of them; where that leaves each atom the set that it
+// has at the start, the rounds cut no atom, and they are counted on the board alone.
 pub fn run_counted(
     coefficient: &[i32],
     monomial: &[u64],
@@ -104,8 +104,8 @@ pub fn run_counted(
     }
 }
 
-// The run over a list and the largest number of rounds so far, its own counted. A run over n variables and k atoms takes at most 2(n + k) + 1 rounds: where
-// that is no more than the largest number so far, it is not counted.
+// The run over a list and the largest number of rounds so far, its own counted. A run over n variables and k atoms takes at most 2(n + k) + 1 rounds:
+// where that is no more than the largest number so far, it is not counted.
 pub fn run_largest(
     coefficient: &[i32],
     monomial: &[u64],

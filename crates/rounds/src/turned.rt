@@ -1,4 +1,4 @@
-// Rounds that cut no atom, counted on the board alone: the variables' turns, round by round in document 01's order, on the board that is lent to them.
+// Rounds that cut no atom, counted on the board alone: the variables' turns, round by round in document 01's order, on the board that is lent them.
 // So are step 5's fresh runs, and step 3's run where its atoms have their settled sets from the start (crate count_laws).
 ghost use mathlib.Core.Path.{_≡_};
 ghost use Rattle.rules.specs.Rounds.{enough as enoughOf};

@@ -19,7 +19,8 @@ use signs::SignSet;
 use table::Atoms;
 use tape::tokens::with_set;
 
-// What step 3 leaves beside its list: the state of its rounds, or that they found a contradiction; and the largest number of rounds so far, its run counted.
+// What step 3 leaves beside its list: the state of its rounds, or that they found a contradiction; and the largest number of rounds so far, its run
+// counted.
 pub struct Carrying {
     pub state: State,
     pub contradiction: bool,
@@ -60,14 +61,7 @@ pub fn carry(
     ensures { λ r. let t = lentTable (coefficient .entry) (monomial .entry) (terms .entry) variables in ⌜ ((l : List ℕ) → Lists (rowOf (now (list .entry)) n) l → Carries t l largest (rowOf (now (list .exit)) n) r) ⌝ }
 {
     let atoms = atoms_in(list, n);
-    let ran = run_largest(
-        coefficient,
-        monomial,
-        terms,
-        variables,
-        atoms,
-        largest,
-    );
+    let ran = run_largest(coefficient, monomial, terms, variables, atoms, largest);
     let state = ran.state;
     if ran.contradiction {
         return Carrying {
