@@ -4,7 +4,7 @@
  *
  * A lent slice is a pointer and a length in bytes. In every call
  *   - the pointers are not null, also where the length is 0, and the bytes from each on are the caller's, as many as the length says;
- *   - input, output, text, places and the counts do not overlap each other;
+ *   - input, output, text, places, the counts and the number of rounds do not overlap each other;
  *   - the output is at least as long as the input, else the answer is refusal 1.
  * Nothing is kept after the call, and there is no state between calls: they may run in several threads at once.
  * A call takes some 120 KB of stack; give its thread 256 KiB or more.
@@ -85,6 +85,11 @@ uint32_t placardpan_counted(const uint8_t *input, size_t input_length, uint8_t *
  * as many as the new block has atoms; all others keep their values. A place is the number, from 0, of an atom of the given block in reading order, parent
  * before children, ANDs and ORs not counted. No place is there twice. A refusal leaves the output and the places as they are. */
 uint32_t placardpan_placed(const uint8_t *input, size_t input_length, uint8_t *output, size_t output_length, uint8_t *places, size_t places_length);
+
+/* placardpan_simplify, with the largest number of rounds that one run of the rounds took, through a number of the caller's: over all runs of document 01's
+ * description, the fresh ones of its step 5 among them, the last round of each counted. 0 if there was no run, and on refusal; never above 161. This call
+ * can take much longer than placardpan_simplify (docs/COST.md). */
+uint32_t placardpan_rounds(const uint8_t *input, size_t input_length, uint8_t *output, size_t output_length, size_t *rounds);
 
 /* Simplifies a block and returns the length of the filled part of the output, which is its start: the new block's length, 0 exactly on refusal.
  * The output is left as by placardpan_simplify. */

@@ -27,8 +27,8 @@ int main(int count, char **arguments)
 {
     FILE *file;
     size_t length, filled, lines, i;
-    size_t atoms_in, atoms_out, polynomials_in, polynomials_out;
-    uint32_t answer, again, placed;
+    size_t atoms_in, atoms_out, polynomials_in, polynomials_out, rounds;
+    uint32_t answer, again, placed, timed;
 
     if (count != 2 || (file = fopen(arguments[1], "rb")) == NULL) {
         fprintf(stderr, "usage: example FILE.block\n");
@@ -49,11 +49,14 @@ int main(int count, char **arguments)
         printf(" %u", (unsigned)places[i]);
     printf("\n");
 
+    timed = placardpan_rounds(input, length, output, sizeof output, &rounds);
+    printf("rounds %zu\n", rounds);
+
     filled = placardpan_simplified(input, length, output, sizeof output);
     printf("filled %zu\n", filled);
 
     lines = placardpan_report(input, length, output, sizeof output, text, sizeof text);
     fwrite(text, 1, lines, stdout);
 
-    return again == answer && placed == answer && filled == placardpan_length(answer) ? 0 : 1;
+    return again == answer && placed == answer && timed == answer && filled == placardpan_length(answer) ? 0 : 1;
 }

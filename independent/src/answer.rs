@@ -133,6 +133,11 @@ pub fn report_with_places(input: &[u8]) -> String {
     }
 }
 
+/// The same lines with both.
+pub fn report_with_both(input: &[u8]) -> String {
+    format!("{}{}", report_with_places(input), &report_with_rounds(input)[report(input).len()..])
+}
+
 /// What a reader alone prints: `ACCEPTED`, or `REFUSED` and the number.
 pub fn read_report(input: &[u8]) -> String {
     match read(&input[..input.len().min(MOST_READ)]) {

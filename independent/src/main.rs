@@ -4,13 +4,13 @@
 use std::io::{self, Read, Write};
 use std::process::ExitCode;
 
-use independent::answer::{answer, read_report, report, report_with_places, report_with_rounds, MOST_READ};
+use independent::answer::{answer, read_report, report, report_with_both, report_with_places, report_with_rounds, MOST_READ};
 use independent::cases::{cases, later_cases};
 use independent::count::work_of;
 use independent::{bench, block, book, check, corpus, edge, engine, evaluate, loading, plain, search, smt, uses};
 
 const USAGE: &str =
-    "usage: independent [rounds | places | many [rounds | places] | read | describe | deductions | plain | shown [NAME..] | lists | evaluations | live FILE |\n\
+    "usage: independent [rounds | places | many [rounds | places | places rounds] | read | describe | deductions | plain | shown [NAME..] | lists | evaluations | live FILE |\n\
                     loads | load | start | count | repeat | smt | bench NAME |\n\
                     corpus KIND SEED COUNT | book SEED COUNT | book-deductions SEED COUNT | check SEED COUNT]\n\
      KIND is valid, damaged, trees, uses, edge, long, cases, later, deductions, points, lists, evaluations, loads or candidates\n";
@@ -25,6 +25,7 @@ fn main() -> ExitCode {
         ["many"] => each_block(|_, block| report(block)),
         ["many", "rounds"] => each_block(|_, block| report_with_rounds(block)),
         ["many", "places"] => each_block(|_, block| report_with_places(block)),
+        ["many", "places", "rounds"] => each_block(|_, block| report_with_both(block)),
         ["read"] => each_block(|_, block| read_report(block)),
         ["describe"] => each_block(|index, block| format!("{index} {}", read_report(block))),
         ["deductions"] => each_block(|_, block| engine::deduction_line(block)),

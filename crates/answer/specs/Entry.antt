@@ -2,10 +2,10 @@
 -- book's answer to them.
 use mathlib.Core.Path.{_≡_}
 use mathlib.Core.List.{List, _++_}
-use Prim.Native.Nat.{ℕ, _≤_}
+use Prim.Native.Nat.{ℕ, _≤_, max}
 use lib.ListN.{length, drop}
 use Rattle.rules.specs.Block.{Block, Stream, read, editionNumber, headEdition, readBlock}
-use Rattle.rules.specs.Answer.{written, answer, readPlaces}
+use Rattle.rules.specs.Answer.{written, answer, readPlaces, roundsOf}
 use Rattle.block.specs.declared.Held.{Held}
 use Rattle.block.specs.Held.{heldOf}
 use Rattle.answer.specs.declared.Answer.{Answer}
@@ -32,3 +32,7 @@ pub record Answers (bytes before after : List ℕ) (returned : Answer) : Type 0 
 -- What the lent slice of places holds afterwards: the places of the answer's atoms, then what was there before.
 pub record TellsPlaces (bytes before after : List ℕ) : Type 0 where
   pub is : after ≡ readPlaces (readBlock bytes) ++ drop (length (readPlaces (readBlock bytes))) before
+
+-- The larger of the largest number of rounds so far and that of the bytes.
+pub record CountsRounds (bytes : List ℕ) (largest rounds : ℕ) : Type 0 where
+  pub is : rounds ≡ max largest (roundsOf (readBlock bytes))

@@ -8,6 +8,7 @@ use lib.ListN.{length}
 use Rattle.rules.specs.Polynomial.{Atom, normal}
 use Rattle.rules.specs.Formula.{Node, alone, eachAtomOf}
 use Rattle.rules.specs.Level.{placedTree, simplify}
+use Rattle.rules.specs.Count.{mostRounds}
 use Rattle.rules.specs.Block.{Block, Stream, read, headEdition, readBlock, blockLength}
 use Rattle.rules.specs.Limits.{BlockWithin}
 use Rattle.rules.specs.Answer.{lookedUp, formulaOf, used, withoutConstants, formsUsed, simplified, newBlock}
@@ -15,6 +16,7 @@ use Rattle.block_laws.specs.Blocks.{block-accepted, accepted-within}
 use Rattle.length_laws.specs.NeverLonger.{never-longer}
 use Rattle.length_laws.specs.NewWithin.{new-within}
 use Rattle.normal_first.specs.NormalFirst.{block-normal-first}
+use Rattle.normal_first.specs.Counts.{block-counted-first}
 use Rattle.block.specs.Held.{heldOf}
 use Rattle.forms.specs.declared.WorkingTable.{WorkingTable}
 use Rattle.forms.specs.Working.{tableOf, Worked}
@@ -33,6 +35,11 @@ module _ (given : Block) (within : BlockWithin given) (w : WorkingTable)
   slots-used =
       ap (λ (tree : Node Atom). withoutConstants (used [] (alone tree)))
       (normal-forms given within w worked ∙ sym (tree-after normal (lookedUp (given .table)) (given .tree)))
+
+  -- And its runs take as many rounds as the block's.
+  pub slots-counted : mostRounds (given .variables) (placedTree (eachAtomOf (inSlot (tableOf (given .variables) w)) (normalTree given within w worked)))
+      ≡ mostRounds (given .variables) (placedTree (formulaOf given))
+  slots-counted = ap (λ (tree : Node Atom). mostRounds (given .variables) (placedTree tree)) (normal-forms given within w worked) ∙ block-counted-first given within
 
 -- The new block of an accepted one can be written,
 pub new-writable : (bytes : List ℕ) {given : Block} {stream : Stream} → readBlock bytes ≡ read given stream → BlockWithin (newBlock given)

@@ -2,7 +2,7 @@
 -- Each step takes what the function of that step ensures, and gives what the next one asks.
 use mathlib.Core.Path.{_≡_, refl, sym, ap, ap₂, _∙_, subst}
 use mathlib.Core.List.{List, [], _∷_, _++_, map}
-use Prim.Native.Nat.{ℕ, suc, _%_, _<_, _≤_}
+use Prim.Native.Nat.{ℕ, suc, _%_, _<_, _≤_, max}
 use native.Mathlib.Nat.{zero-add}
 use native.Mathlib.Omega.{arith}
 use lib.IntN.{ℤ}
@@ -11,10 +11,11 @@ use lib.Seq.{sets, sets-eq, length-sets, take-at}
 use Rattle.rules.specs.Polynomial.{Atom}
 use Rattle.rules.specs.Formula.{Node, eachAtomOf, alone, atoms, nodes}
 use Rattle.rules.specs.Level.{Placed, plain as withoutPlace, placedTree, places, simplify}
-use Rattle.rules.specs.Block.{NumberedAtom, Block, Edition, editionNumber, editionOf, headEdition, writeBlock, blockLength}
+use Rattle.rules.specs.Count.{mostRounds}
+use Rattle.rules.specs.Block.{NumberedAtom, Block, Reading, Edition, editionNumber, editionOf, headEdition, writeBlock, blockLength}
 use Rattle.rules.specs.Limits.{PartsWithin, BlockWithin}
 use Rattle.rules.specs.Answer as book
-use Rattle.rules.specs.Answer.{lookedUp, formulaOf, used, withoutConstants, formsUsed, numbered, blockOf, simplified, newBlock, newPlaces, readPlaces}
+use Rattle.rules.specs.Answer.{lookedUp, formulaOf, used, withoutConstants, formsUsed, numbered, blockOf, simplified, newBlock, newPlaces, readPlaces, roundsOf}
 use Rattle.rules.specs.Demands.{atomsOf}
 use Rattle.block_laws.specs.Head.{edition-back}
 use Rattle.block_laws.specs.Blocks.{accepted-within}
@@ -40,10 +41,10 @@ use Rattle.array_laws.specs.Arrays.{held-table-read}
 use Rattle.answer.specs.Normal.{normalised, normalTree, normal-holds, normal-kind, normal-within}
 use Rattle.answer.specs.Tapes.{tokenTree, atoms-few, plain, plainTokens, tokens-in-slots, held-as-tokens, result, result-is, result-places, result-holds}
 use Rattle.answer.specs.Tapes.{result-kind}
-use Rattle.answer.specs.Travel.{slots-simplified, slots-used, new-writable, new-room}
+use Rattle.answer.specs.Travel.{slots-simplified, slots-used, slots-counted, new-writable, new-room}
 use Rattle.answer.specs.Answered.{verdictFrom, verdictOf, countsOf, answerOf, answer-accepted, answer-written, new-verdict, atoms-same}
 use Rattle.array_laws.specs.Writing.{writable}
-use Rattle.answer.specs.Entry.{Accepted, Answers, TellsPlaces}
+use Rattle.answer.specs.Entry.{Accepted, Answers, TellsPlaces, CountsRounds}
 
 -- ---- the tape that is simplified
 
@@ -56,6 +57,8 @@ pub record Prepared (given : Block) (held : Held) (w : WorkingTable) (token : Li
   pub simplifies : simplify (held .variables) (placedTree (eachAtomOf (inSlot (tableOf (held .variables) w)) tree)) ≡ simplified given
   pub counted : atoms (alone tree) ≡ atoms (alone (given .tree))
   pub uses : withoutConstants (used [] (alone (eachAtomOf (inSlot (tableOf (held .variables) w)) tree))) ≡ formsUsed (formulaOf given)
+  pub rounds : mostRounds (held .variables) (placedTree (eachAtomOf (inSlot (tableOf (held .variables) w)) tree))
+      ≡ mostRounds (given .variables) (placedTree (formulaOf given))
 
 module _ {bytes : List ℕ} {edition : ℕ} {held : Held} {room : ℕ} (accepted : Accepted bytes edition held room) where
   within : BlockWithin (accepted .given)
@@ -99,6 +102,7 @@ module _ {bytes : List ℕ} {edition : ℕ} {held : Held} {room : ℕ} (accepted
     simplifies = slots-simplified (accepted .given) within w worked;
     counted = atoms-same (normalised (w .number) (w .turned)) (accepted .given .tree);
     uses = slots-used (accepted .given) within w worked;
+    rounds = slots-counted (accepted .given) within w worked;
   }
 
   -- The tape brought to normal form is prepared.
@@ -163,6 +167,20 @@ module _ {given : Block} {held : Held} {w : WorkingTable} {token : List ℕ} (pr
     -- Its root is of the kind that is told.
     pub simpler-kind : reader.kindOf simplerTree ≡ r .root
     simpler-kind = result-kind (tableOf (held .variables) w) (tokenTree (prepared .tree)) r simpler
+
+-- The number of rounds is the block's.
+pub counts-rounds : {bytes : List ℕ} {edition : ℕ} {held : Held} {room : ℕ} (accepted : Accepted bytes edition held room) {w : WorkingTable} {token : List ℕ}
+    (prepared : Prepared (accepted .given) held w token) {largest rounds : ℕ}
+    → rounds ≡ max largest (mostRounds (held .variables) (eachAtomOf (atomOf (tableOf (held .variables) w)) (tokenTree (prepared .tree))))
+    → CountsRounds bytes largest rounds
+unfolding roundsOf
+counts-rounds {held} accepted {w} prepared {largest} counted = record {
+  is =
+      counted
+      ∙ ap (λ (tree : Node Placed). max largest (mostRounds (held .variables) tree))
+      (tokens-in-slots (prepared .tree) (prepared .within) (tableOf (held .variables) w) (omega (arith, prepared .holds .counted, prepared .holds .few)))
+      ∙ ap (max largest) (prepared .rounds) ∙ sym (ap (λ (reading : Reading Block). max largest (roundsOf reading)) (accepted .accepted));
+}
 
 -- ---- the new block
 

@@ -7,7 +7,7 @@ ghost use lib.ListN.{length};
 ghost use Rattle.block.specs.Held.{heldBy};
 ghost use Rattle.answer.specs.Tapes.{plainTokens};
 ghost use Rattle.answer.specs.Answered.{verdictFrom};
-ghost use Rattle.answer.specs.Entry.{Accepted, AcceptedSome, Answers, TellsPlaces};
+ghost use Rattle.answer.specs.Entry.{Accepted, AcceptedSome, Answers, TellsPlaces, CountsRounds};
 use forms::normal_tokens;
 use forms::work;
 use places::give;
@@ -43,6 +43,12 @@ pub enum Answer {
     },
 }
 
+// The answer, and the largest number of rounds so far, its runs counted (02, #108).
+pub struct WithRounds {
+    pub answer: Answer,
+    pub rounds: usize,
+}
+
 // "ALWAYS is written as an AND with no children, UNSATISFIABLE as an OR with none": the kind of the root, and how many nodes there are.
 fn verdict_of(root: u8, tokens: usize) -> Verdict
     ensures { λ r. ⌜ r ≡ verdictFrom root tokens ⌝ }
@@ -74,8 +80,8 @@ fn plain_tokens(token: &mut [u32], count: usize)
     }
 }
 
-// The answer to what was read, in the edition of what was read, and the places of its atoms in the lent slice. The arrays that hold it are filled
-// anew with what is written.
+// The answer to what was read, in the edition of what was read, the places of its atoms in the lent slice, and the largest number of rounds so far. The
+// arrays that hold what was read are filled anew with what is written.
 pub fn answer_to(
     edition: u64,
     variables: usize,
@@ -88,12 +94,14 @@ pub fn answer_to(
     token: &mut [u32],
     output: &mut [u8],
     places: &mut [u8],
-) -> Answer
+    largest: usize,
+) -> WithRounds
     requires { ⌜ AcceptedSome edition (heldBy variables polynomials root count (now coefficient) (now monomial) (now terms) (now token)) (length (now output))
         × (255 ≤ length (now places)) ⌝ }
     ensures { λ r. ⌜ ((bytes : List ℕ)
         → Accepted bytes edition (heldBy variables polynomials root count (now (coefficient .entry)) (now (monomial .entry)) (now (terms .entry)) (now (token .entry)))
-        (length (now (output .entry))) → Answers bytes (now (output .entry)) (now (output .exit)) r × TellsPlaces bytes (now (places .entry)) (now (places .exit))) ⌝ }
+        (length (now (output .entry))) → Answers bytes (now (output .entry)) (now (output .exit)) (r .answer)
+        × (TellsPlaces bytes (now (places .entry)) (now (places .exit)) × CountsRounds bytes largest (r .rounds))) ⌝ }
 {
     let mut form_coefficient = [0i32; 1280];
     let mut form_monomial = [0u64; 1280];
@@ -116,16 +124,17 @@ pub fn answer_to(
     let atoms_in = atoms(token, count);
     let polynomials_in = forms_used(&form_monomial, &form_terms, token, count);
     give(token, count);
-    let tree = level::simplified(
+    let short = level::simplified(
         &form_coefficient,
         &form_monomial,
         &form_terms,
         variables,
         token,
         root,
+        largest,
     );
-    let new_root = tree.root;
-    let row = tree.tokens;
+    let new_root = short.tree.root;
+    let row = short.tree.tokens;
     let new_count = row.count;
     let mut tape = row.token;
     tell(&tape, new_count, places);
@@ -162,9 +171,13 @@ pub fn answer_to(
         token,
         output,
     );
-    Answer::Answered {
+    let answer = Answer::Answered {
         verdict: verdict,
         length: length,
         counts: counts,
+    };
+    WithRounds {
+        answer: answer,
+        rounds: short.rounds,
     }
 }

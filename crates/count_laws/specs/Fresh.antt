@@ -17,12 +17,13 @@ use Rattle.sign_laws.specs.Lists.{every-none, every, every-getD}
 use Rattle.ending_laws.specs.Sizes.{spare, spare-part}
 use Rattle.ending_laws.specs.Cuts.{spareAll, spareOf, round-falls}
 use Rattle.ending_laws.specs.Cuts.{Low as AllLow}
-use Rattle.ending_laws.specs.Rounds.{Run, finds-contradiction, changes-nothing, goes-on}
+use Rattle.ending_laws.specs.Rounds.{Run, finds-contradiction, changes-nothing, goes-on, run-ends}
 use Rattle.ending_laws.specs.Counts.{run-counted}
 use Rattle.removal_laws.specs.Wider.{Wider, no-sets, sets}
 use Rattle.removal_laws.specs.Rounds.{LowBoard, LowAtoms, round-low}
-use Rattle.removal_laws.specs.Settled.{start-low}
-use Rattle.turn_laws.specs.Some.{Some, none-there, not-there, there}
+use Rattle.removal_laws.specs.Settled.{run-settles, start-low}
+use Rattle.turn_laws.specs.Some.{Some, none-there, not-there, there, all-there}
+use Rattle.turn_laws.specs.Equal.{Narrows, run-narrow}
 use Rattle.turn_laws.specs.Afresh.{Afresh, afresh-start, no-empty, no-atom-cut, afresh-round}
 
 -- A wider board has no fewer signs to lose.
@@ -45,6 +46,14 @@ some-low (there f) (every h hs) = every h (some-low f hs)
 
 pub all-low : {n : ℕ} {st su : State} → Afresh n st su → LowBoard (su .board) → AllLow n su
 all-low t low = record { board = λ i h. every-getD i full (lit< tt) low; atoms = atoms-low (some-low (t .lists) (t .still .low .atoms)) }
+
+-- Where the atoms of a list have their settled sets from the start, its own run is such a one.
+pub settled-start : (n : ℕ) (l : List Atom) {st : State} → run n l ≡ settled st → start n l .atoms ≡ st .atoms → Afresh n st (start n l)
+settled-start n l {st} e same = record {
+  still = run-settles n l e;
+  boards = subst (λ (o : Outcome). Narrows (start n l) o) e (run-narrow (run-ends n l)) .boards;
+  lists = rw same (all-there (st .atoms));
+}
 
 -- A run of such rounds.
 spends : {n : ℕ} {st su : State} {k : ℕ} {o : Outcome} → Afresh n st su → LowBoard (su .board) → Run n su k o

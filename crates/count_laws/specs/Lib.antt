@@ -2,3 +2,5 @@ pub mod Fresh
 pub mod Boards
 pub mod Common
 pub mod Sharper
+pub mod Removal
+pub mod AtMost

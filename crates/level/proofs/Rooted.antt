@@ -2,7 +2,7 @@
 use mathlib.Core.Path.{_≡_, refl, sym, _∙_, ap, ap₂, subst}
 use mathlib.Core.Bool.{Bool, true, false, not}
 use mathlib.Core.List.{List, [], _∷_, _++_, map, append-assoc, append-nil}
-use Prim.Native.Nat.{ℕ, zero, suc, _+_, _-_, _*_, _/_, _%_, _<_, _≤_}
+use Prim.Native.Nat.{ℕ, zero, suc, _+_, _-_, _*_, _/_, _%_, _<_, _≤_, max}
 use native.Mathlib.Omega.{arith}
 use borrow.Author.Tests.{ne-eqb}
 use lib.Dec.{eqb}
@@ -10,18 +10,20 @@ use lib.ListN.{length, take, drop, getD, length-append}
 use Rattle.rules.specs.Formula.{Parts, end, atom, and, or, Node, allOf, anyOf, eachAtom, eachAtomOf, alone, before, children, nodes, isEnd, open-formula}
 use Rattle.rules.specs.Formula as formula
 use Rattle.rules.specs.Level.{Formula, complemented, dual, dualNode, Walk, atomsOf, orsOf, still, gather, orParts, parts, nodeIf, asNode, andRule, simplify}
+use Rattle.rules.specs.Count.{gatherCount, ruleCount, mostRounds}
 use Rattle.table.specs.Table.{Table}
 use Rattle.tape.specs.declared.rows.Row.{Row}
 use Rattle.tape.specs.declared.walks.Level.{Level}
 use Rattle.level.specs.declared.writing.Tree.{Tree}
 use Rattle.level.specs.declared.nesting.Found.{Found}
+use Rattle.level.specs.declared.settling.Finished.{Finished}
 use Rattle.tape.specs.Row.{Lists}
 use Rattle.tape.specs.Token.{slot, place, atomOf, atomsIn, opposite}
 use Rattle.tape.specs.Tape.{Children, none, child, laid, orsIn}
 use Rattle.tape.specs.Walked.{Shows, sizeOf}
 use Rattle.level.specs.Source.{Forest, nothing, leaf, branch, count, size, flat, named, meant, taken, seen, Shaped, Below, Holds, Done}
 use Rattle.level.specs.Settled.{FinishIs}
-use Rattle.level.specs.Tree.{tokens, kindNumber, kindOf, TokensWithin, TreeHeld, rootParts, RootIs, Simplified}
+use Rattle.level.specs.Tree.{tokens, kindNumber, kindOf, TokensWithin, TreeHeld, rootParts, RootIs, ShortenedIs}
 use Rattle.level.specs.Written.{told, leaves, forest, howMany, Between, opening, rootOf, turned, TreeIs}
 use Rattle.tape.specs.Entering.{opposite-is, complemented-twice, dual-twice}
 use Rattle.tape.specs.Listing.{whole}
@@ -319,21 +321,25 @@ module _ {token : List ℕ} {root : ℕ} where
 -- ---- the whole
 
 -- what a rule made of the root
-pub root-done : {t : Table} {token : List ℕ} {b : Bool} {tree : Node ℕ} (n : RootNode token b tree) (found : Found) → Done t b 0 6 (n .kids) found → RootIs t tree (found .level)
+pub root-done : {t : Table} {token : List ℕ} {b : Bool} {tree : Node ℕ} {largest : ℕ} (n : RootNode token b tree) (found : Found) → Done t b 0 6 (n .kids) largest found
+    → RootIs t tree largest (record { level = found .level; rounds = found .rounds })
 root-done {t} n found d = record {
+  counts = rw (sym (n .seen-are t)) (d .counts);
   shows = rw (sym (n .seen-are t)) (d .shows);
   small = one-or-few (sizeOf (found .level)) (size (n .kids)) 254 (d .small) (n .holds .few) (omega arith);
 }
 
 -- a level of as many tokens said in another way
-pub finish-small : {t : Table} {l : List ℕ} {walk : Walk} {n m : ℕ} {level : Level} → n ≡ m → FinishIs t l walk n level → FinishIs t l walk m level
-finish-small {t} {l} {walk} {n} {m} {level} e f = subst (λ (k : ℕ). FinishIs t l walk k level) e f
+pub finish-small : {t : Table} {l : List ℕ} {walk : Walk} {n m k rounds : ℕ} {level : Level} → n ≡ m → FinishIs t l walk n k level rounds → FinishIs t l walk m k level rounds
+finish-small {t} {l} {walk} {k} {rounds} {level} e f = subst (λ (j : ℕ). FinishIs t l walk j k level rounds) e f
 
 -- a root atom is an AND of one
-pub root-atom : {t : Table} {token : List ℕ} {root : ℕ} {level : Level} (tree : Node ℕ) → TreeHeld token root tree → root ≡ 0 → FinishIs t (getD token 0 0 ∷ []) (still []) 1 level → RootIs t tree level
-unfolding open-formula tokens rootParts andRule atomsOf orsOf gather
+pub root-atom : {t : Table} {token : List ℕ} {root largest : ℕ} {r : Finished} (tree : Node ℕ) → TreeHeld token root tree → root ≡ 0
+    → FinishIs t (getD token 0 0 ∷ []) (still []) 1 largest (r .level) (r .rounds) → RootIs t tree largest r
+unfolding open-formula tokens rootParts andRule atomsOf orsOf gather ruleCount gatherCount
 root-atom (formula.leaf x) h e f = record {
   shows = rw (ap (λ (l : List ℕ). getD l 0 0) (h .here)) at (f .shows);
+  counts = omega (arith, rw (ap (λ (l : List ℕ). getD l 0 0) (h .here)) at (f .counts));
   small = one-or-few _ 1 254 (f .small) (omega arith) (omega arith);
 }
 root-atom (allOf kids) h e f = absurd (omega (arith, h .root-is))
@@ -352,13 +358,23 @@ simplify-is t (formula.leaf x) b e = rw e
 simplify-is t (allOf kids) b e = rw e
 simplify-is t (anyOf kids) b e = rw e
 
-pub whole-is : {t : Table} {token : List ℕ} {root : ℕ} {tree : Node ℕ} {r : Tree} (b : Bool) → TreeHeld token root tree → b ≡ not (eqb root 2)
-    → TreeIs t b (andRule (t .variables) 6 (rootParts t tree)) r → Simplified t tree r
-whole-is {t} {tree} b h e i = record {
-  result = i .result;
-  lists = i .lists;
-  root = i .root;
-  is = i .is ∙ simplify-is t tree b (e ∙ ap (λ (n : ℕ). not (eqb n 2)) (h .root-is));
-  few = i .few;
-  within = i .within;
+count-whole : (t : Table) (tree : Node ℕ) → ruleCount (t .variables) 6 (rootParts t tree) ≡ mostRounds (t .variables) (eachAtomOf (atomOf t) tree)
+unfolding mostRounds eachAtomOf rootParts
+count-whole t (formula.leaf x) = refl
+count-whole t (allOf kids) = refl
+count-whole t (anyOf kids) = refl
+
+pub whole-is : {t : Table} {token : List ℕ} {root : ℕ} {tree : Node ℕ} {r : Tree} {largest rounds : ℕ} (b : Bool) → TreeHeld token root tree → b ≡ not (eqb root 2)
+    → TreeIs t b (andRule (t .variables) 6 (rootParts t tree)) r → rounds ≡ max largest (ruleCount (t .variables) 6 (rootParts t tree))
+    → ShortenedIs t tree largest (record { tree = r; rounds = rounds })
+whole-is {t} {tree} {largest} b h e i counted = record {
+  simplified = record {
+    result = i .result;
+    lists = i .lists;
+    root = i .root;
+    is = i .is ∙ simplify-is t tree b (e ∙ ap (λ (n : ℕ). not (eqb n 2)) (h .root-is));
+    few = i .few;
+    within = i .within;
+  };
+  counts = counted ∙ ap (max largest) (count-whole t tree);
 }

@@ -2,10 +2,11 @@
 use mathlib.Core.Path.{_≡_}
 use mathlib.Core.Bool.{Bool, true, false, not}
 use mathlib.Core.List.{List, [], _∷_, _++_}
-use Prim.Native.Nat.{ℕ, suc, _+_, _-_, _<_, _≤_}
+use Prim.Native.Nat.{ℕ, suc, _+_, _-_, _<_, _≤_, max}
 use lib.ListN.{drop}
 use Rattle.rules.specs.Formula.{Parts, end, atom, and, or, eachAtom}
 use Rattle.rules.specs.Level.{Formula, dual, andRule}
+use Rattle.rules.specs.Count.{ruleCount}
 use Rattle.table.specs.Table.{Table}
 use Rattle.level.specs.declared.nesting.Found.{Found}
 use Rattle.tape.specs.Token.{atomOf, opposite}
@@ -78,7 +79,8 @@ abbrev pub Stood : List ℕ → ℕ → ℕ → Type 0
 Stood token at d = (kids : Forest) × ((rest : List ℕ) × Holds token at d kids rest)
 
 -- What a rule has made of it. The level has at most as many tokens as the node has parts and nodes below, or one.
-pub record Done (t : Table) (b : Bool) (at d : ℕ) (kids : Forest) (r : Found) : Type 0 where
+pub record Done (t : Table) (b : Bool) (at d : ℕ) (kids : Forest) (largest : ℕ) (r : Found) : Type 0 where
   pub next : r .at ≡ at + suc (size kids)
   pub shows : Shows t (r .level) (andRule (t .variables) d (seen t b kids))
+  pub counts : r .rounds ≡ max largest (ruleCount (t .variables) d (seen t b kids))
   pub small : 1 < sizeOf (r .level) → sizeOf (r .level) ≤ size kids

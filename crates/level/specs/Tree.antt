@@ -3,12 +3,14 @@
 use mathlib.Core.Path.{_≡_}
 use mathlib.Core.Bool.{Bool, true, false}
 use mathlib.Core.List.{List, [], _∷_, _++_}
-use Prim.Native.Nat.{ℕ, _+_, _-_, _<_, _≤_}
+use Prim.Native.Nat.{ℕ, _+_, _-_, _<_, _≤_, max}
 use Rattle.rules.specs.Formula.{Parts, end, atom, and, or, Node, leaf, allOf, anyOf, eachAtom, eachAtomOf, alone, children, nodes}
 use Rattle.rules.specs.Level.{Formula, dual, andRule, simplify}
+use Rattle.rules.specs.Count.{ruleCount, mostRounds}
 use Rattle.table.specs.Table.{Table}
-use Rattle.tape.specs.declared.walks.Level.{Level}
+use Rattle.level.specs.declared.settling.Finished.{Finished}
 use Rattle.level.specs.declared.writing.Tree.{Tree}
+use Rattle.level.specs.declared.Shortened.{Shortened}
 use Rattle.tape.specs.Row.{Lists}
 use Rattle.tape.specs.Token.{atomOf}
 use Rattle.tape.specs.Walked.{Shows, sizeOf}
@@ -51,9 +53,10 @@ rootParts t (leaf x) = atom (atomOf t x) end
 rootParts t (allOf kids) = eachAtom (atomOf t) kids
 rootParts t (anyOf kids) = dual (eachAtom (atomOf t) kids)
 
-pub record RootIs (t : Table) (tree : Node ℕ) (level : Level) : Type 0 where
-  pub shows : Shows t level (andRule (t .variables) 6 (rootParts t tree))
-  pub small : sizeOf level ≤ 254
+pub record RootIs (t : Table) (tree : Node ℕ) (largest : ℕ) (r : Finished) : Type 0 where
+  pub shows : Shows t (r .level) (andRule (t .variables) 6 (rootParts t tree))
+  pub counts : r .rounds ≡ max largest (ruleCount (t .variables) 6 (rootParts t tree))
+  pub small : sizeOf (r .level) ≤ 254
 
 -- The tree that the book's `simplify` gives, on a tape of its own, with its root's kind.
 pub record Simplified (t : Table) (tree : Node ℕ) (r : Tree) : Type 0 where
@@ -63,3 +66,8 @@ pub record Simplified (t : Table) (tree : Node ℕ) (r : Tree) : Type 0 where
   pub is : eachAtomOf (atomOf t) result ≡ simplify (t .variables) (eachAtomOf (atomOf t) tree)
   pub few : nodes (alone result) ≤ 255
   pub within : TokensWithin 255 0 (alone result)
+
+-- That tree, and the larger of the largest number of rounds so far and the book's `mostRounds`.
+pub record ShortenedIs (t : Table) (tree : Node ℕ) (largest : ℕ) (r : Shortened) : Type 0 where
+  pub simplified : Simplified t tree (r .tree)
+  pub counts : r .rounds ≡ max largest (mostRounds (t .variables) (eachAtomOf (atomOf t) tree))

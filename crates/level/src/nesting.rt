@@ -15,10 +15,11 @@ use tape::walks::Level;
 use tape::walks::add;
 use tape::walks::begin;
 
-// What a rule makes of the node at a place, and the place after the node.
+// What a rule makes of the node at a place, the place after the node, and the largest number of rounds so far, its runs and those below counted.
 pub struct Found {
     pub at: usize,
     pub level: Level,
+    pub rounds: usize,
 }
 
 // The place after the node at this place.
@@ -48,14 +49,16 @@ pub fn and_rule(
     token: &[u32],
     at: usize,
     nesting: usize,
+    largest: usize,
 ) -> Found
     requires { ⌜ Forms (lentTable coefficient monomial terms variables) × Stood (now token) at nesting ⌝ }
-    ensures { λ r. let t = lentTable (coefficient .entry) (monomial .entry) (terms .entry) variables in ⌜ ((kids : Forest) (rest : List ℕ) → Holds (now (token .entry)) at nesting kids rest → Done t true at nesting kids r) ⌝ }
+    ensures { λ r. let t = lentTable (coefficient .entry) (monomial .entry) (terms .entry) variables in ⌜ ((kids : Forest) (rest : List ℕ) → Holds (now (token .entry)) at nesting kids rest → Done t true at nesting kids largest r) ⌝ }
 {
     let parts = token[at] - NODE;
     let mut list = [0u32; 256];
     let mut count = 0;
     let mut walked = begin();
+    let mut rounds = largest;
     let mut place = at + 1;
     let mut i: u32 = 0;
     while i < parts {
@@ -77,8 +80,10 @@ pub fn and_rule(
                     token,
                     place,
                     nesting - 1,
+                    rounds,
                 );
                 place = found.at;
+                rounds = found.rounds;
                 let level = found.level;
                 walked = add(walked, level);
             }
@@ -88,10 +93,20 @@ pub fn and_rule(
         token: list,
         count: count,
     };
-    let level = finish(coefficient, monomial, terms, variables, atoms, walked);
+    let finished = finish(
+        coefficient,
+        monomial,
+        terms,
+        variables,
+        atoms,
+        walked,
+        rounds,
+    );
+    let level = finished.level;
     Found {
         at: place,
         level: level,
+        rounds: finished.rounds,
     }
 }
 
@@ -104,14 +119,16 @@ pub fn or_rule(
     token: &[u32],
     at: usize,
     nesting: usize,
+    largest: usize,
 ) -> Found
     requires { ⌜ Forms (lentTable coefficient monomial terms variables) × Stood (now token) at nesting ⌝ }
-    ensures { λ r. let t = lentTable (coefficient .entry) (monomial .entry) (terms .entry) variables in ⌜ ((kids : Forest) (rest : List ℕ) → Holds (now (token .entry)) at nesting kids rest → Done t false at nesting kids r) ⌝ }
+    ensures { λ r. let t = lentTable (coefficient .entry) (monomial .entry) (terms .entry) variables in ⌜ ((kids : Forest) (rest : List ℕ) → Holds (now (token .entry)) at nesting kids rest → Done t false at nesting kids largest r) ⌝ }
 {
     let parts = token[at] - NODE;
     let mut list = [0u32; 256];
     let mut count = 0;
     let mut walked = begin();
+    let mut rounds = largest;
     let mut place = at + 1;
     let mut i: u32 = 0;
     while i < parts {
@@ -133,8 +150,10 @@ pub fn or_rule(
                     token,
                     place,
                     nesting - 1,
+                    rounds,
                 );
                 place = found.at;
+                rounds = found.rounds;
                 let level = found.level;
                 walked = add(walked, level);
             }
@@ -144,9 +163,19 @@ pub fn or_rule(
         token: list,
         count: count,
     };
-    let level = finish(coefficient, monomial, terms, variables, atoms, walked);
+    let finished = finish(
+        coefficient,
+        monomial,
+        terms,
+        variables,
+        atoms,
+        walked,
+        rounds,
+    );
+    let level = finished.level;
     Found {
         at: place,
         level: level,
+        rounds: finished.rounds,
     }
 }

@@ -19,23 +19,32 @@ use tape::rows::lay;
 use tape::walks::Level;
 use tape::walks::Walked;
 
-// How many atoms a node has and how many tokens of OR children, in two lists that are lent, between two turns or when the last turn is over.
+// How many atoms a node has and how many tokens of OR children, in two lists that are lent, between two turns or when the last turn is over;
+// and the largest number of rounds so far.
 pub struct Stage {
     pub atoms: usize,
     pub ors: usize,
     pub over: bool,
+    pub rounds: usize,
+}
+
+// What steps 2 to 6 make of a node, and the largest number of rounds so far, its runs counted.
+pub struct Finished {
+    pub level: Level,
+    pub rounds: usize,
 }
 
 // "the node is false": its one part is an OR with no parts, whose head counts nothing.
-fn never(ors: &mut [u32]) -> Stage
+fn never(ors: &mut [u32], rounds: usize) -> Stage
     requires { ⌜ 0 < length (now ors) ⌝ }
-    ensures { λ r. ⌜ ((list : List ℕ) → NodeIsFalse (rowOf list (r .atoms)) (rowOf (now (ors .exit)) (r .ors)) (r .over)) ⌝ }
+    ensures { λ r. ⌜ ((list : List ℕ) → NodeIsFalse (rowOf list (r .atoms)) (rowOf (now (ors .exit)) (r .ors)) rounds r) ⌝ }
 {
     ors[0] = 0;
     Stage {
         atoms: 0,
         ors: 1,
         over: true,
+        rounds: rounds,
     }
 }
 
@@ -49,33 +58,52 @@ fn turn(
     n: usize,
     ors: &mut [u32],
     m: usize,
+    largest: usize,
 ) -> Stage
     requires { ⌜ Forms (lentTable coefficient monomial terms variables) × Ready (now list) n (now ors) m ⌝ }
     ensures { λ r. let t = lentTable (coefficient .entry) (monomial .entry) (terms .entry) variables in
         ⌜ ((l : List ℕ) (children : Children) → Lists (rowOf (now (list .entry)) n) l → Lists (rowOf (now (ors .entry)) m) (laid children)
-        → StageIs t l children 1 (now (list .exit)) (now (ors .exit)) r) ⌝ }
+        → StageIs t l children largest 1 (now (list .exit)) (now (ors .exit)) r) ⌝ }
 {
     let kept = tidy(coefficient, monomial, terms, variables, list, n);
     if kept.broken {
-        return never(ors);
+        return never(ors, largest);
     }
     let count = kept.count;
-    let carrying = carry(coefficient, monomial, terms, variables, list, count);
+    let carrying = carry(
+        coefficient,
+        monomial,
+        terms,
+        variables,
+        list,
+        count,
+        largest,
+    );
     if carrying.contradiction {
-        return never(ors);
+        return never(ors, carrying.rounds);
     }
     let state = carrying.state;
     if m == 0 {
-        let alone = without_implied(coefficient, monomial, terms, variables, list, count, state);
+        let alone = without_implied(
+            coefficient,
+            monomial,
+            terms,
+            variables,
+            list,
+            count,
+            state,
+            carrying.rounds,
+        );
         return Stage {
-            atoms: alone,
+            atoms: alone.count,
             ors: 0,
             over: true,
+            rounds: alone.rounds,
         };
     }
     let walked = sweep(coefficient, monomial, terms, variables, state, ors, m);
     if walked.falls {
-        return never(ors);
+        return never(ors, carrying.rounds);
     }
     let stay = walked.ors;
     let left = stay.token;
@@ -90,13 +118,24 @@ fn turn(
             atoms: count + more,
             ors: rest,
             over: false,
+            rounds: carrying.rounds,
         };
     }
-    let remaining = without_implied(coefficient, monomial, terms, variables, list, count, state);
+    let remaining = without_implied(
+        coefficient,
+        monomial,
+        terms,
+        variables,
+        list,
+        count,
+        state,
+        carrying.rounds,
+    );
     Stage {
-        atoms: remaining,
+        atoms: remaining.count,
         ors: rest,
         over: true,
+        rounds: remaining.rounds,
     }
 }
 
@@ -110,16 +149,18 @@ fn settle(
     n: usize,
     ors: &mut [u32],
     m: usize,
+    largest: usize,
 ) -> Stage
     requires { ⌜ Forms (lentTable coefficient monomial terms variables) × Ready (now list) n (now ors) m ⌝ }
     ensures { λ r. let t = lentTable (coefficient .entry) (monomial .entry) (terms .entry) variables in
         ⌜ ((l : List ℕ) (children : Children) → Lists (rowOf (now (list .entry)) n) l → Lists (rowOf (now (ors .entry)) m) (laid children)
-        → SettleIs t l children (levelOf (now (list .exit)) (now (ors .exit)) r)) ⌝ }
+        → SettleIs t l children largest (levelOf (now (list .exit)) (now (ors .exit)) r) (r .rounds)) ⌝ }
 {
     let mut stage = Stage {
         atoms: n,
         ors: m,
         over: false, // no turn is taken yet
+        rounds: largest,
     };
     while !stage.over {
         stage = turn(
@@ -131,6 +172,7 @@ fn settle(
             stage.atoms,
             ors,
             stage.ors,
+            stage.rounds,
         );
     }
     stage
@@ -144,25 +186,29 @@ pub fn finish(
     variables: usize,
     atoms: Row,
     walked: Walked,
-) -> Level
+    largest: usize,
+) -> Finished
     requires { ⌜ Forms (lentTable coefficient monomial terms variables) × Gathered atoms walked ⌝ }
-    ensures { λ r. let t = lentTable (coefficient .entry) (monomial .entry) (terms .entry) variables in ⌜ ((l : List ℕ) (walk : Walk) → Lists atoms l → Stands t walked walk → FinishIs t l walk (atoms .count + room walked) r) ⌝ }
+    ensures { λ r. let t = lentTable (coefficient .entry) (monomial .entry) (terms .entry) variables in ⌜ ((l : List ℕ) (walk : Walk) → Lists atoms l → Stands t walked walk → FinishIs t l walk (atoms .count + room walked) largest (r .level) (r .rounds)) ⌝ }
 {
     let mut list = atoms.token;
     let n = atoms.count;
     let stay = walked.ors;
     let mut ors = stay.token;
     if walked.falls {
-        let stage = never(&mut ors);
-        return Level {
-            atoms: Row {
-                token: list,
-                count: stage.atoms,
+        let stage = never(&mut ors, largest);
+        return Finished {
+            level: Level {
+                atoms: Row {
+                    token: list,
+                    count: stage.atoms,
+                },
+                ors: Row {
+                    token: ors,
+                    count: stage.ors,
+                },
             },
-            ors: Row {
-                token: ors,
-                count: stage.ors,
-            },
+            rounds: stage.rounds,
         };
     }
     let join = walked.new;
@@ -178,15 +224,19 @@ pub fn finish(
         n + more,
         &mut ors,
         stay.count,
+        largest,
     );
-    Level {
-        atoms: Row {
-            token: list,
-            count: stage.atoms,
+    Finished {
+        level: Level {
+            atoms: Row {
+                token: list,
+                count: stage.atoms,
+            },
+            ors: Row {
+                token: ors,
+                count: stage.ors,
+            },
         },
-        ors: Row {
-            token: ors,
-            count: stage.ors,
-        },
+        rounds: stage.rounds,
     }
 }

@@ -22,6 +22,7 @@ use Rattle.lift.specs.Bounds.{Bounded, by-number, by-block, answer-bound
 use Rattle.answer.specs.Entry.{Answers}
 use Rattle.lift.specs.Part.{part-length}
 use Rattle.lift.specs.Places.{PlacedAnswers, by-places}
+use Rattle.lift.specs.Rounds.{roundsIn}
 
 -- "a verdict (formula, always, unsatisfiable)", counted from 1
 unfoldable pub verdictNumber : book.Verdict → ℕ
@@ -58,6 +59,10 @@ abbrev pub ExportsPlaces : List ℕ → List ℕ → List ℕ → List ℕ → L
 ExportsPlaces bytes before after slice told r =
     let given = placedAnswer (length before) (length slice) bytes in
     (r ≡ exported given) × (after ≡ written given before) × (told ≡ placesWritten given (readBlock bytes) slice)
+
+abbrev pub ExportsRounds : List ℕ → List ℕ → List ℕ → ℕ → ℕ → Type 0
+ExportsRounds bytes before after r rounds =
+    let given = answer (length before) bytes in (r ≡ exported given) × (after ≡ written given before) × (rounds ≡ roundsIn (length before) bytes)
 
 -- ---- the same over what the first entry returns
 

@@ -3,6 +3,7 @@ pub mod Entry
 pub mod Bounds
 pub mod Part
 pub mod Places
+pub mod Rounds
 pub mod Exported
 pub mod Lines
 pub mod OneResult

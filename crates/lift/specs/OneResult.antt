@@ -7,11 +7,13 @@ use Rattle.rules.specs.Block.{readBlock}
 use Rattle.block.specs.declared.Outcome.{Outcome}
 use Rattle.block.specs.Held.{outcomeOf}
 use Rattle.answer.specs.declared.Answer.{Answer}
+use Rattle.answer.specs.declared.WithRounds.{WithRounds}
 use Rattle.answer.specs.Entry.{Answers}
 use Rattle.lift.specs.Part.{Fills}
-use Rattle.lift.specs.Exported.{ExportsAnswer, ExportsLength, ExportsCounts, ExportsPlaces}
+use Rattle.lift.specs.Exported.{ExportsAnswer, ExportsLength, ExportsCounts, ExportsPlaces, ExportsRounds}
 use Rattle.lift.specs.Lines.{Reports}
 use Rattle.lift.specs.Places.{PlacedAnswers}
+use Rattle.lift.specs.Rounds.{RoundsAnswers}
 
 -- Two that are one third are each other.
 both : {A : Type 0} {a b c : A} → a ≡ c → b ≡ c → a ≡ b
@@ -45,6 +47,19 @@ one-placed bytes before slice left other a b =
     let output = both (a .output) (b .output) in
     let places = both (a .places) (b .places) in
     λ i. record { returned = returned i; output = output i; places = places i }
+
+-- `lift::with_rounds`: the answer with the number of rounds, and the output.
+pub record LeftByRounds : Type 0 where
+  pub returned : WithRounds
+  pub output : List ℕ
+
+pub one-number-of-rounds : (bytes before : List ℕ) (left other : LeftByRounds)
+    → RoundsAnswers bytes before (left .output) (left .returned) → RoundsAnswers bytes before (other .output) (other .returned) → left ≡ other
+one-number-of-rounds bytes before left other a b =
+    let answer = both (a .answers .returns) (b .answers .returns) in
+    let rounds = both (a .rounds) (b .rounds) in
+    let output = both (a .answers .output) (b .answers .output) in
+    λ i. record { returned = record { answer = answer i; rounds = rounds i }; output = output i }
 
 -- `lift::simplified`: the part's bytes and the place where it begins. (The output itself is spent: of the bytes past the part nothing is said.)
 pub record LeftBySimplified : Type 0 where
@@ -138,6 +153,21 @@ one-exported-places bytes before slice left other a b =
     let output = both (a .1) (b .1) in
     let places = both (a .2) (b .2) in
     λ i. record { returned = returned i; output = output i; places = places i }
+
+-- `placardpan_rounds`: a number, the output and the number of rounds.
+pub record LeftByExportedRounds : Type 0 where
+  pub returned : ℕ
+  pub output : List ℕ
+  pub rounds : ℕ
+
+pub one-exported-rounds : (bytes before : List ℕ) (left other : LeftByExportedRounds)
+    → ExportsRounds bytes before (left .output) (left .returned) (left .rounds)
+    → ExportsRounds bytes before (other .output) (other .returned) (other .rounds) → left ≡ other
+one-exported-rounds bytes before left other a b =
+    let returned = both (a .0) (b .0) in
+    let output = both (a .1) (b .1) in
+    let rounds = both (a .2) (b .2) in
+    λ i. record { returned = returned i; output = output i; rounds = rounds i }
 
 -- ---- the reader
 

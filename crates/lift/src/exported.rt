@@ -3,11 +3,12 @@
 ghost use mathlib.Core.Path.{_≡_};
 ghost use Prim.Native.Nat.{_<_};
 ghost use Rattle.answer.specs.Answered.{lengthIn};
-ghost use Rattle.lift.specs.Exported.{packedOf, numberIn, countsOrZero, ExportsAnswer, ExportsLength, ExportsCounts, ExportsPlaces};
+ghost use Rattle.lift.specs.Exported.{packedOf, numberIn, countsOrZero, ExportsAnswer, ExportsLength, ExportsCounts, ExportsPlaces, ExportsRounds};
 ghost use Rattle.lift.specs.Lines.{Reports};
 use crate::Answer;
 use crate::Counts;
 use crate::Verdict;
+use crate::counting::with_rounds;
 use crate::length_in;
 use crate::placing::placed;
 use crate::report;
@@ -106,6 +107,18 @@ pub extern "C" fn placardpan_placed(input: &[u8], output: &mut [u8], places: &mu
 {
     let given = placed(input, output, places);
     number_in(given)
+}
+
+// `with_rounds`: the number as `placardpan_simplify` gives it; the largest number of rounds that one run took, 0 on refusal, through a number of the
+// caller's.
+#[no_mangle]
+pub extern "C" fn placardpan_rounds(input: &[u8], output: &mut [u8], rounds: &mut usize) -> u32
+    ensures { λ r. ⌜ ExportsRounds (now (input .entry)) (now (output .entry)) (now (output .exit)) r (now (rounds .exit)) ⌝ }
+{
+    let given = with_rounds(input, output);
+    *rounds = given.rounds;
+    let answer = given.answer;
+    number_in(answer)
 }
 
 // `report`: the program's lines in the caller's text, and how many bytes they are; 0 if they do not fit.

@@ -8,30 +8,37 @@ ghost use Rattle.rules.specs.Block.{readBlock};
 ghost use Rattle.rules.specs.Answer.{answer};
 ghost use Rattle.rules.specs.Demands.{SameLifts, NeverLonger};
 ghost use Rattle.answer.specs.Answered.{lengthIn};
-ghost use Rattle.answer.specs.Entry.{Answers};
+ghost use Rattle.answer.specs.Entry.{Answers, CountsRounds};
 ghost use Rattle.lift.specs.Part.{Fills};
 ghost use Rattle.lift.specs.Lines.{Reports};
 ghost use Rattle.lift.specs.Places.{Places};
 
+mod counting; // the entry with the number of rounds
 mod exported; // the entries for C
 mod placing; // the entry with the places of the atoms
 
 pub use answer::Answer;
 pub use answer::Counts;
 pub use answer::Verdict;
+pub use answer::WithRounds;
 use answer::answer_to;
 use block::Contents;
 use block::edition;
 use block::read_into;
+pub use counting::with_rounds;
 pub use placing::placed;
 use telling::tell_answer;
 use telling::tell_refusal;
 
-// Reads a block and answers it, where the output has room for it and the slice for the places of its atoms.
-fn answered(input: &[u8], output: &mut [u8], places: &mut [u8]) -> Answer
+// No run takes more rounds (`laws/Rounds: few-rounds`): where this is the largest number so far, none is counted.
+pub const MOST_ROUNDS: usize = 161;
+
+// Reads a block and answers it, where the output has room for it and the slice for the places of its atoms; with the largest number of rounds so far.
+fn answered(input: &[u8], output: &mut [u8], places: &mut [u8], largest: usize) -> WithRounds
     requires { ⌜ (length (now input) ≤ length (now output)) × (255 ≤ length (now places)) ⌝ }
-    ensures { λ r. ⌜ Answers (now (input .entry)) (now (output .entry)) (now (output .exit)) r
-        × Places (now (input .entry)) (length (now (output .entry))) (now (places .entry)) (now (places .exit)) ⌝ }
+    ensures { λ r. ⌜ Answers (now (input .entry)) (now (output .entry)) (now (output .exit)) (r .answer)
+        × (Places (now (input .entry)) (length (now (output .entry))) (now (places .entry)) (now (places .exit))
+        × CountsRounds (now (input .entry)) largest (r .rounds)) ⌝ }
 {
     let mut coefficient = [0i32; 1024];
     let mut monomial = [0u64; 1024];
@@ -45,7 +52,10 @@ fn answered(input: &[u8], output: &mut [u8], places: &mut [u8]) -> Answer
         &mut token,
     );
     match contents {
-        Contents::Refused(number) => Answer::Refused(number),
+        Contents::Refused(number) => WithRounds {
+            answer: Answer::Refused(number),
+            rounds: largest,
+        },
         Contents::Numbers {
             variables,
             polynomials,
@@ -65,6 +75,7 @@ fn answered(input: &[u8], output: &mut [u8], places: &mut [u8]) -> Answer
                 &mut token,
                 output,
                 places,
+                largest,
             )
         }
     }
@@ -80,7 +91,8 @@ pub fn simplify(input: &[u8], output: &mut [u8]) -> Answer
         return Answer::Refused(1);
     }
     let mut places = [0u8; 255];
-    answered(input, output, &mut places)
+    let known = answered(input, output, &mut places, MOST_ROUNDS);
+    known.answer
 }
 
 // "A refusal returns its number and length 0"; an answer has its length.

@@ -6,6 +6,7 @@ ghost use Rattle.rules.specs.Answer.{placedAnswer};
 ghost use Rattle.rules.specs.Demands.{SameLifts, NeverLonger, PlacesTell};
 ghost use Rattle.lift.specs.Places.{PlacedAnswers};
 use crate::Answer;
+use crate::MOST_ROUNDS;
 use crate::answered;
 
 // As `simplify`, and the place of the input atom that each atom of the new block comes from, in order: the first bytes of the lent slice of places.
@@ -20,5 +21,6 @@ pub fn placed(input: &[u8], output: &mut [u8], places: &mut [u8]) -> Answer
     if places.len() < 255 {
         return Answer::Refused(18);
     }
-    answered(input, output, places)
+    let known = answered(input, output, places, MOST_ROUNDS);
+    known.answer
 }

@@ -1,7 +1,8 @@
 // The program of document 01: a block on standard input, the report line and, except on refusal, the new block in hex on standard output.
-// Thin over `lift::report`. With the argument `places` it prints one line more, the places of the answer's atoms (02, #105), by `lift::placed`.
+// Thin over `lift::report`. With the argument `places` it prints one line more, the places of the answer's atoms (02, #105), by `lift::placed`; with
+// `rounds` the largest number of rounds that one run took (#108), by `lift::with_rounds`.
 use libc::STDIN_FILENO;
-use printing::asked_for_places;
+use printing::asked_for;
 use printing::print_asked;
 
 // "It reads at most 32,768 bytes of a block on standard input; the rest is not read." The lines of an answer take at most 64,578 bytes
@@ -11,6 +12,6 @@ fn main() {
     let length = io::read_full(STDIN_FILENO, &mut space);
     let mut output = [0u8; 32768];
     let mut text = [0u8; 64578];
-    let places = asked_for_places();
-    print_asked(&space[..length], &mut output, &mut text, places);
+    let asked = asked_for();
+    print_asked(&space[..length], &mut output, &mut text, asked);
 }

@@ -1,6 +1,6 @@
 // The lines for a block on standard output: what the two programs share.
-// What is printed is `lift::report`'s text, and with the argument `places` the places that `lift::placed` tells; that standard output takes it is no
-// promise of ours.
+// What is printed is `lift::report`'s text, with the argument `places` the places that `lift::placed` tells, and with `rounds` the number that
+// `lift::with_rounds` does; that standard output takes it is no promise of ours.
 use answer::Answer;
 use libc::STDOUT_FILENO;
 
@@ -38,11 +38,28 @@ fn begins(bytes: &[u8], length: usize, word: &[u8]) -> bool {
     true
 }
 
-// Whether the program's first argument is `places`.
-pub fn asked_for_places() -> bool {
+// The lines more that the program's arguments ask for.
+pub struct Asked {
+    pub places: bool,
+    pub rounds: bool,
+}
+
+fn is_argument(k: usize, word: &[u8]) -> bool {
     let mut argument = [0u8; 16];
-    let length = os::arg(1, &mut argument);
-    begins(&argument, length, b"places")
+    let length = os::arg(k, &mut argument);
+    begins(&argument, length, word)
+}
+
+fn either(a: bool, b: bool) -> bool {
+    if a { true } else { b }
+}
+
+// Whether one of the first two arguments is `places`, and whether one is `rounds`.
+pub fn asked_for() -> Asked {
+    Asked {
+        places: either(is_argument(1, b"places"), is_argument(2, b"places")),
+        rounds: either(is_argument(1, b"rounds"), is_argument(2, b"rounds")),
+    }
 }
 
 fn wide(byte: u8) -> u64 {
@@ -79,10 +96,36 @@ fn print_places(input: &[u8], output: &mut [u8]) {
     }
 }
 
-// Answers an input and prints its lines, with that of its places if it was asked for.
-pub fn print_asked(input: &[u8], output: &mut [u8], text: &mut [u8], places: bool) {
+// ---- the number of rounds, 02 #108
+
+// Answers an input, with the output to work in, and prints the line of its largest number of rounds; nothing on refusal.
+fn print_rounds(input: &[u8], output: &mut [u8]) {
+    let known = lift::with_rounds(input, output);
+    let rounds = known.rounds;
+    let answer = known.answer;
+    match answer {
+        Answer::Refused(_) => {}
+        Answer::Answered {
+            verdict: _,
+            length: _,
+            counts: _,
+        } => {
+            io::write_all(STDOUT_FILENO, b"ROUNDS ");
+            io::print_decimal(STDOUT_FILENO, rounds as u64);
+            io::write_all(STDOUT_FILENO, b"\n");
+        }
+    }
+}
+
+// ---- with the lines that were asked for
+
+// Answers an input and prints its lines, then that of its places and that of its rounds, if they were asked for.
+pub fn print_asked(input: &[u8], output: &mut [u8], text: &mut [u8], asked: Asked) {
     print_answer(input, output, text);
-    if places {
+    if asked.places {
         print_places(input, output);
+    }
+    if asked.rounds {
+        print_rounds(input, output);
     }
 }

@@ -58,7 +58,7 @@ module _ (t : Table) (numbers : List ℕ) (sets : List SignSet) where
   sets-are i zero = refl
   sets-are i (suc k) = ap (λ (l : List SignSet). getD sets i 0 ∷ l) (sets-are (suc i) k)
 
-  length-atoms : (i k : ℕ) → length (atomsFrom t numbers sets i k) ≡ k
+  pub length-atoms : (i k : ℕ) → length (atomsFrom t numbers sets i k) ≡ k
   unfolding atomsFrom
   length-atoms i zero = refl
   length-atoms i (suc k) = ap suc (length-atoms (suc i) k)

@@ -2,17 +2,20 @@
 use mathlib.Core.Path.{_≡_}
 use mathlib.Core.Bool.{true}
 use mathlib.Core.List.{List, map}
-use Prim.Native.Nat.{ℕ, _<_}
+use Prim.Native.Nat.{ℕ, _<_, max}
 use Rattle.rules.specs.Polynomial.{Atom, Polynomial}
 use Rattle.rules.specs.Rounds.{run, start, begun, enough, nonVariable}
+use Rattle.rules.specs.Count.{runCount}
 use Rattle.turn_laws.specs.AfterTurns.{AfterTurns, Idle}
 use Rattle.terms.specs.View.{setsOf}
 use Rattle.table.specs.declared.Atoms.{Atoms}
 use Rattle.table.specs.Table.{Table, atomsOf}
+use Rattle.round.specs.Views.{stateOf}
 use Rattle.rounds.specs.declared.Ran.{Ran}
 use Rattle.rounds.specs.declared.Counted.{Counted}
+use Rattle.rounds.specs.declared.Largest.{Largest}
 use Rattle.rounds.specs.declared.narrow.Beginning.{Beginning}
-use Rattle.rounds.specs.Views.{outcomeOf, countedOutcome}
+use Rattle.rounds.specs.Views.{outcomeOf, countedOutcome, ending}
 
 -- the polynomials of a list
 abbrev pub polynomialsOf : List Atom → List Polynomial
@@ -32,6 +35,13 @@ pub record RunOf (t : Table) (list : Atoms) (r : Ran) : Type 0 where
 pub record CountedRun (t : Table) (list : Atoms) (r : Counted) : Type 0 where
   pub outcome : countedOutcome t r ≡ run (t .variables) (atomsOf t list)
   pub begun : r .begun ≡ begun (t .variables) (enough (start (t .variables) (atomsOf t list))) (start (t .variables) (atomsOf t list))
+  pub variables : r .state .board .variables ≡ t .variables
+  pub atoms : NonVariable t list (r .state .atoms)
+
+-- the same with the larger of the largest number so far and that of the rounds begun
+pub record LargestRun (t : Table) (list : Atoms) (largest : ℕ) (r : Largest) : Type 0 where
+  pub outcome : ending (r .contradiction) (stateOf t (r .state)) ≡ run (t .variables) (atomsOf t list)
+  pub counts : r .largest ≡ max largest (runCount (t .variables) (atomsOf t list))
   pub variables : r .state .board .variables ≡ t .variables
   pub atoms : NonVariable t list (r .state .atoms)
 

@@ -2,12 +2,16 @@
 // The table of forms is lent as three slices.
 ghost use Rattle.table.specs.Table.{Forms};
 ghost use Rattle.round.specs.Views.{lentTable};
-ghost use Rattle.rounds.specs.Run.{RunOf, CountedRun};
+ghost use Rattle.rounds.specs.Run.{RunOf, CountedRun, LargestRun};
+use crate::counting::larger;
 use crate::narrow::narrowed;
 use crate::settle::rounds;
+use crate::settle::same_atoms;
 use crate::start::start;
+use crate::turned::turned_rounds;
 use ahead::no_order;
 use round::State;
+use round::list::many;
 use signs::SignSet;
 use table::Atoms;
 use terms::Board;
@@ -15,6 +19,8 @@ use terms::Board;
 pub mod settle; // the rounds to their end
 pub mod start; // where they start
 pub mod narrow; // the start, narrowed ahead of them
+pub mod turned; // rounds on the board alone
+pub mod counting; // the largest number of rounds of fresh runs
 
 // How the rounds ended, and the state that the last one left.
 pub struct Ran {
@@ -29,23 +35,11 @@ pub struct Counted {
     pub state: State,
 }
 
-// The rounds in document 01's order, counted.
-pub fn run_counted(
-    coefficient: &[i32],
-    monomial: &[u64],
-    terms: &[u8],
-    variables: usize,
-    list: Atoms,
-) -> Counted
-    requires { ⌜ Forms (lentTable coefficient monomial terms variables) ⌝ }
-    ensures { λ r. ⌜ CountedRun (lentTable (coefficient .entry) (monomial .entry) (terms .entry) variables) list r ⌝ }
-{
-    rounds(
-        coefficient,
-        monomial,
-        terms,
-        start(coefficient, monomial, terms, variables, list),
-    )
+// The same, and the largest number of rounds so far, this run counted.
+pub struct Largest {
+    pub contradiction: bool,
+    pub largest: usize,
+    pub state: State,
 }
 
 // What the rounds come to, with turns ahead of them.
@@ -78,5 +72,65 @@ pub fn run(
     Ran {
         contradiction: end.contradiction,
         state: left,
+    }
+}
+
+// The rounds in document 01's order, counted. What they come to is found first, with turns ahead of them; where that leaves each atom the set that it
+// has at the start, the rounds cut no atom, and they are counted on the board alone.
+pub fn run_counted(
+    coefficient: &[i32],
+    monomial: &[u64],
+    terms: &[u8],
+    variables: usize,
+    list: Atoms,
+) -> Counted
+    requires { ⌜ Forms (lentTable coefficient monomial terms variables) ⌝ }
+    ensures { λ r. ⌜ CountedRun (lentTable (coefficient .entry) (monomial .entry) (terms .entry) variables) list r ⌝ }
+{
+    let first = start(coefficient, monomial, terms, variables, list);
+    let ran = run(coefficient, monomial, terms, variables, list);
+    let last = ran.state;
+    if ran.contradiction {
+        return rounds(coefficient, monomial, terms, first);
+    }
+    if !same_atoms(first, last) {
+        return rounds(coefficient, monomial, terms, first);
+    }
+    let begun = turned_rounds(coefficient, monomial, terms, first);
+    Counted {
+        contradiction: false,
+        begun,
+        state: last,
+    }
+}
+
+// The run over a list and the largest number of rounds so far, its own counted. A run over n variables and k atoms takes at most 2(n + k) + 1 rounds:
+// where that is no more than the largest number so far, it is not counted.
+pub fn run_largest(
+    coefficient: &[i32],
+    monomial: &[u64],
+    terms: &[u8],
+    variables: usize,
+    list: Atoms,
+    largest: usize,
+) -> Largest
+    requires { ⌜ Forms (lentTable coefficient monomial terms variables) ⌝ }
+    ensures { λ r. ⌜ LargestRun (lentTable (coefficient .entry) (monomial .entry) (terms .entry) variables) list largest r ⌝ }
+{
+    if 2 * (variables + many(list.count)) + 1 <= largest {
+        let ran = run(coefficient, monomial, terms, variables, list);
+        let state = ran.state;
+        return Largest {
+            contradiction: ran.contradiction,
+            largest,
+            state,
+        };
+    }
+    let counted = run_counted(coefficient, monomial, terms, variables, list);
+    let state = counted.state;
+    Largest {
+        contradiction: counted.contradiction,
+        largest: larger(largest, counted.begun),
+        state,
     }
 }

@@ -6,7 +6,7 @@ ghost use lib.ListN.{length};
 ghost use Rattle.rules.specs.Deduce.{anyEmpty};
 ghost use Rattle.rules.specs.Rounds.{sameSets, hasEmpty, unchanged as unchangedOf};
 ghost use Rattle.terms.specs.View.{numbersFrom};
-ghost use Rattle.table.specs.Table.{Table, Forms};
+ghost use Rattle.table.specs.Table.{Table, Forms, many as manyOf};
 ghost use Rattle.round.specs.Views.{lentTable, stateOf};
 ghost use Rattle.rounds.specs.Ended.{Ended};
 use crate::Counted;
@@ -33,7 +33,7 @@ fn any_empty(sets: &[u8], n: usize) -> bool
 }
 
 // Whether the first n sets are the same.
-fn same_sets(before: &[u8], after: &[u8], n: usize) -> bool
+pub fn same_sets(before: &[u8], after: &[u8], n: usize) -> bool
     requires { ⌜ (n ≤ length (now before)) × (n ≤ length (now after)) ⌝ }
     ensures { λ r. ⌜ r ≡ sameSets (numbersFrom (now (before .entry)) 0 n) (numbersFrom (now (after .entry)) 0 n) ⌝ }
 {
@@ -80,6 +80,17 @@ fn unchanged(before: State, after: State) -> bool
     } else {
         false
     }
+}
+
+// Whether each atom of the one state has the set that it has in the other.
+pub fn same_atoms(first: State, last: State) -> bool
+    ensures { λ r. let k = manyOf (first .atoms .count) in ⌜ r ≡ sameSets (numbersFrom (first .atoms .set) 0 k) (numbersFrom (last .atoms .set) 0 k) ⌝ }
+{
+    let atoms = first.atoms;
+    let others = last.atoms;
+    let held = atoms.set;
+    let left = others.set;
+    same_sets(&held, &left, many(atoms.count))
 }
 
 pub fn rounds(coefficient: &[i32], monomial: &[u64], terms: &[u8], start: State) -> Counted

@@ -3,7 +3,7 @@
 use mathlib.Core.Path.{_≡_, sym, _∙_, ap}
 use mathlib.Core.Bool.{Bool, true, false, not, _&&_}
 use mathlib.Core.List.{List, [], _∷_, _++_, append-nil}
-use Prim.Native.Nat.{ℕ, zero, suc, _+_, _-_, _<_, _≤_}
+use Prim.Native.Nat.{ℕ, zero, suc, _+_, _-_, _<_, _≤_, max}
 use native.Mathlib.Nat.{add-zero, zero-add}
 use mathlib.Core.Logic.{dite}
 use native.Mathlib.Decide.{decLt}
@@ -12,11 +12,13 @@ use borrow.Author.Tests.{ne-eqb}
 use Rattle.rules.specs.Signs.{SignSet, inside}
 use Rattle.rules.specs.Polynomial.{Polynomial, Atom, byTerms, which}
 use Rattle.rules.specs.Rounds.{cutBy}
-use Rattle.rules.specs.Level.{removeImplied}
+use Rattle.rules.specs.Level.{Placed, plains, removeImplied}
+use Rattle.rules.specs.Count.{removalCount}
 use Rattle.sign_laws.specs.Lists.{Every, every-none, every}
 use Rattle.removal_laws.specs.Apart.{Other, Apart}
 use Rattle.removal_laws.specs.Said.{saidByOthers}
 use Rattle.removal_laws.specs.Staying.{noVariable, staysBy, removeFaster, removes-the-same, said-at, said-nowhere, settled-apart}
+use Rattle.count_laws.specs.Removal.{countFaster, counts-the-same}
 use Rattle.terms.specs.View.{setsOf}
 use Rattle.table.specs.declared.Atoms.{Atoms}
 use Rattle.table.specs.Table.{Table, Forms, formAt, atomAt, atomsFrom, atomsOf, many}
@@ -109,6 +111,15 @@ module _ (t : Table) (st : State) (a : Atom) {holds : Holds} (is : variableOf ho
 pub test-first : {t : Table} {state : State} {list : Atoms} {r : Remaining} → CarriedFrom t state (atomsOf t list)
     → RemainingOf t list (removeFaster (t .variables) (stateOf t state) []) r → RemainingOf t list (removeImplied (t .variables) []) r
 test-first {t} from h = record { keep = λ l e. h .keep l e ∙ removes-the-same (t .variables) (from .given) (from .settles) (from .distinct) l (e ∙ from .atoms) }
+
+-- and counts the same
+pub count-first : {t : Table} {state : State} (list : Atoms) {k : ℕ} (largest : ℕ) → CarriedFrom t state (atomsOf t list)
+    → k ≡ max largest (countFaster (t .variables) (stateOf t state) [] (atomsOf t list))
+    → (carrying : List Placed) → plains carrying ≡ atomsOf t list → k ≡ max largest (removalCount (t .variables) [] carrying)
+count-first {t} {state} list largest from e carrying h =
+    let same : countFaster (t .variables) (stateOf t state) [] (atomsOf t list) ≡ removalCount (t .variables) [] carrying =
+    rw (sym h) (counts-the-same (t .variables) (from .given) (from .settles) (from .distinct) carrying (h ∙ from .atoms)) in
+    omega (arith, e, same)
 
 -- the settled atoms have no polynomial twice
 pub state-apart : {t : Table} {state : State} {l : List Atom} → CarriedFrom t state l → Apart (atomsOf t (state .atoms))

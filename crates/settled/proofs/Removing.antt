@@ -4,7 +4,7 @@ use mathlib.Core.Path.{_≡_, refl, sym, _∙_, ap, ap₂}
 use mathlib.Core.Bool.{Bool, true, false, not, _&&_}
 use mathlib.Core.List.{List, [], _∷_, _++_, map, map-append, append-nil}
 use mathlib.Core.Option.{none}
-use Prim.Native.Nat.{ℕ, zero, suc, _+_, _-_, _<_, _≤_}
+use Prim.Native.Nat.{ℕ, zero, suc, _+_, _-_, _<_, _≤_, max}
 use native.Mathlib.Nat.{sub-zero, add-zero, zero-add}
 use native.Mathlib.Numerals.{add-one}
 use native.Mathlib.Omega.{arith}
@@ -14,7 +14,9 @@ use Rattle.rules.specs.Signs.{SignSet, empty, inside}
 use Rattle.rules.specs.Polynomial.{Atom}
 use Rattle.rules.specs.Rounds.{unlessVariable, State, run, says, saysIn}
 use Rattle.rules.specs.Level.{Placed, plain, plains, keptUnless, implied}
+use Rattle.rules.specs.Count.{runCount}
 use Rattle.removal_laws.specs.Staying.{staysBy, removeFaster, kept-plain}
+use Rattle.count_laws.specs.Removal.{countFaster}
 use Rattle.turn_laws.specs.Some.{Some, all-there, some-without, some-next}
 use Rattle.table.specs.declared.Atoms.{Atoms}
 use Rattle.table.specs.Table.{Table, atomAt, atomsFrom, atomsOf, many}
@@ -178,6 +180,32 @@ unfolding removeFaster
 removing-last {t} {st} {list} {i} {r} removing e = record {
   keep = λ l h. rw (take-all i l (omega (arith, long t list i l h)), drop-of-length-le l {i = i} (omega (arith, long t list i l h))) at (removing .removes l h);
 }
+
+-- ---- the rounds
+
+-- with the largest number so far, what is left of the list counts what all of it counts with the first one
+pub record Counting (t : Table) (st : State) (list : Atoms) (largest i : ℕ) (r : Remaining) (rounds : ℕ) : Type 0 where
+  pub counts : max rounds (countFaster (t .variables) st (atomsOf t (r .atoms)) (rest t list i)) ≡ max largest (countFaster (t .variables) st [] (atomsOf t list))
+
+pub counting-first : (t : Table) (st : State) (list : Atoms) (largest : ℕ) (numbers : List ℕ) (sets : List SignSet) (keep : List Bool)
+    → Counting t st list largest 0 (record { atoms = record { count = 0; number = numbers; set = sets }; keep = keep }) largest
+unfolding atomsFrom
+counting-first t st list largest numbers sets keep = record { counts = rw sub-zero }
+
+pub counting-next : {t : Table} {st : State} {list : Atoms} {largest i rounds more : ℕ} {kept r : Remaining} {out : Bool} → Counting t st list largest i kept rounds
+    → i < many (list .count)
+    → let a = atomAt t (list .number) (list .set) i in
+    out ≡ not (staysBy (t .variables) st a) && implied (t .variables) (atomsOf t (kept .atoms) ++ rest t list (i + 1)) a
+    → more ≡ max rounds (runCount (t .variables) (atomsOf t (kept .atoms) ++ rest t list (i + 1))) → KeptUnless out kept list i r
+    → Counting t st list largest (i + 1) r more
+unfolding countFaster
+counting-next {t} {st} {list} {i} counting low e counted one =
+    record { counts = rw (one .atoms t, e) (omega (arith, counted, rw (rest-cons t list i low) at (counting .counts))) }
+
+pub counting-last : {t : Table} {st : State} {list : Atoms} {largest i rounds : ℕ} {r : Remaining} → Counting t st list largest i r rounds → i ≡ many (list .count)
+    → rounds ≡ max largest (countFaster (t .variables) st [] (atomsOf t list))
+unfolding countFaster
+counting-last {t} {list} {i} counting e = omega (arith, rw (rest-nil t list i (omega arith)) at (counting .counts))
 
 -- ---- the others
 

@@ -2,12 +2,14 @@
 // An atom that stays by the settled state stays without rounds; for any other, rounds are run afresh over the others, from the sets that they carry.
 ghost use mathlib.Core.Path.{_≡_};
 ghost use mathlib.Core.Bool.{not, _&&_};
-ghost use mathlib.Core.List.{[]};
-ghost use Prim.Native.Nat.{_<_};
+ghost use mathlib.Core.List.{List, []};
+ghost use Prim.Native.Nat.{_<_, max};
 ghost use Rattle.rules.specs.Polynomial.{Atom};
-ghost use Rattle.rules.specs.Level.{implied as impliedOf, removeImplied};
+ghost use Rattle.rules.specs.Level.{Placed, plains, implied as impliedOf, removeImplied};
+ghost use Rattle.rules.specs.Count.{removalCount};
 ghost use Rattle.removal_laws.specs.Apart.{Apart};
 ghost use Rattle.removal_laws.specs.Staying.{staysBy, removeFaster};
+ghost use Rattle.count_laws.specs.Removal.{countFaster};
 ghost use Rattle.terms.specs.View.{setsOf};
 ghost use Rattle.table.specs.Table.{Forms, formAt, atomsOf};
 ghost use Rattle.round.specs.Views.{lentTable, stateOf};
@@ -24,6 +26,7 @@ use round::list::many;
 use round::list::push;
 use round::slots::sign_list;
 use round::slots::sign_slot;
+use rounds::counting::fresh_rounds;
 use rounds::narrow::afresh;
 use signs::SignSet;
 use table::Atoms;
@@ -32,6 +35,12 @@ use table::Atoms;
 pub struct Remaining {
     pub atoms: Atoms,
     pub keep: [bool; 64],
+}
+
+// What remains of a list after step 5, and the largest number of rounds so far, its fresh runs counted.
+pub struct Removed {
+    pub remaining: Remaining,
+    pub rounds: usize,
 }
 
 // Whether an atom is implied or goes, and the order of turns that is worth trying for the next one.
@@ -170,14 +179,16 @@ fn remove(
     variables: usize,
     list: Atoms,
     state: State,
-) -> Remaining
+    largest: usize,
+) -> Removed
     requires { let t = lentTable coefficient monomial terms variables in
         ⌜ Ready t (setsOf (state .board)) (state .atoms) (now sign) × CarriedFrom t state (atomsOf t list) ⌝ }
     requires { let t = lentTable coefficient monomial terms variables in
         ⌜ Ready t (setsOf (state .board)) list (now sign) ⌝ }
     ensures { λ r.
         let t = lentTable (coefficient .entry) (monomial .entry) (terms .entry) variables in
-        ⌜ RemainingOf t list (removeFaster variables (stateOf t state) []) r ⌝ }
+        ⌜ RemainingOf t list (removeFaster variables (stateOf t state) []) (r .remaining)
+        × (r .rounds ≡ max largest (countFaster variables (stateOf t state) [] (atomsOf t list))) ⌝ }
 {
     let end = many(list.count);
     let mut kept = Remaining {
@@ -189,6 +200,7 @@ fn remove(
         keep: [false; 64],
     };
     let mut order = no_order();
+    let mut rounds = largest;
     let mut i = 0;
     while i < end {
         let number = list.number[i];
@@ -210,10 +222,22 @@ fn remove(
         );
         let out = told.yes;
         order = told.order;
+        rounds = fresh_rounds(
+            coefficient,
+            monomial,
+            terms,
+            variables,
+            others,
+            state,
+            rounds,
+        );
         kept = kept_unless(out, kept, list, i);
         i += 1;
     }
-    kept
+    Removed {
+        remaining: kept,
+        rounds,
+    }
 }
 
 // The list is the one that step 3 left, with the sets that its atoms carry from the state that its rounds settled in.
@@ -224,17 +248,28 @@ pub fn remove_implied(
     variables: usize,
     list: Atoms,
     state: State,
-) -> Remaining
+    largest: usize,
+) -> Removed
     requires { let t = lentTable coefficient monomial terms variables in
         ⌜ Forms t × CarriedFrom t state (atomsOf t list) ⌝ }
     ensures { λ r.
         let t = lentTable (coefficient .entry) (monomial .entry) (terms .entry) variables in
-        ⌜ RemainingOf t list (removeImplied variables []) r ⌝ }
+        ⌜ RemainingOf t list (removeImplied variables []) (r .remaining)
+        × ((carrying : List Placed) → plains carrying ≡ atomsOf t list → r .rounds ≡ max largest (removalCount variables [] carrying)) ⌝ }
 {
     let board = state.board;
     let atoms = state.atoms;
     let mut sign = [0u8; 1280];
     sign_list(board, monomial, terms, atoms, &mut sign);
     sign_list(board, monomial, terms, list, &mut sign);
-    remove(coefficient, monomial, terms, &sign, variables, list, state)
+    remove(
+        coefficient,
+        monomial,
+        terms,
+        &sign,
+        variables,
+        list,
+        state,
+        largest,
+    )
 }

@@ -2,13 +2,14 @@
 use mathlib.Core.Path.{_≡_, refl, sym, _∙_, ap, ap₂}
 use mathlib.Core.Bool.{Bool, true, false}
 use mathlib.Core.List.{List, [], _∷_, _++_, map, append-assoc, append-nil}
-use Prim.Native.Nat.{ℕ, zero, suc, _+_, _*_, _/_, _%_, _<_, _≤_}
+use Prim.Native.Nat.{ℕ, zero, suc, _+_, _*_, _/_, _%_, _<_, _≤_, max}
 use native.Mathlib.Numerals.{add-one}
 use native.Mathlib.Omega.{arith}
 use lib.ListN.{length, getD, drop, length-append}
 use Rattle.rules.specs.Polynomial.{Atom}
 use Rattle.rules.specs.Rounds.{State, Outcome, run, settled, carried}
 use Rattle.rules.specs.Level.{Placed, plains, carry, removeImplied}
+use Rattle.rules.specs.Count.{runCount, removalCount}
 use Rattle.sign_laws.specs.Lists.{every-none, every}
 use Rattle.length_laws.specs.RoundsKeep.{AllSmall, carried-small}
 use Rattle.terms.specs.View.{setsOf}
@@ -16,15 +17,15 @@ use Rattle.table.specs.declared.Atoms.{Atoms}
 use Rattle.table.specs.Table.{Table, many, atomsFrom, atomsOf}
 use Rattle.tape.specs.declared.rows.Row.{Row}
 use Rattle.round.specs.declared.State.{State as Left}
-use Rattle.rounds.specs.declared.Ran.{Ran}
+use Rattle.rounds.specs.declared.Largest.{Largest}
 use Rattle.steps.specs.declared.carrying.Carrying.{Carrying}
 use Rattle.tape.specs.Row.{Lists}
 use Rattle.tape.specs.Token.{slot, place, atomOf, atomsIn}
 use Rattle.tape.specs.Entering.{same-place}
 use Rattle.round.specs.Views.{stateOf}
 use Rattle.settled.specs.declared.removal.Remaining.{Remaining}
-use Rattle.rounds.specs.Views.{ending, outcomeOf}
-use Rattle.rounds.specs.Run.{RunOf}
+use Rattle.rounds.specs.Views.{ending}
+use Rattle.rounds.specs.Run.{LargestRun}
 use Rattle.settled.specs.Carried.{Carried}
 use Rattle.settled.specs.Remaining.{keptWhen, remaining, RemainingOf}
 use Rattle.steps.specs.Carried.{withSets, Carries, Remains}
@@ -73,16 +74,21 @@ carry-are t (x ∷ l) numbers sets i (every h hs) =
 
 -- ---- step 3
 
-module _ {t : Table} (l : List ℕ) {list : Atoms} (n : list .count ≡ length l) (few : length l ≤ 64) (same : atomsOf t list ≡ plains (atomsIn t l)) {ran : Ran} (o : RunOf t list ran) where
+module _ {t : Table} (l : List ℕ) {list : Atoms} (n : list .count ≡ length l) (few : length l ≤ 64) (same : atomsOf t list ≡ plains (atomsIn t l)) (largest : ℕ) {ran : Largest}
+    (o : LargestRun t list largest ran) where
   ran-is : run (t .variables) (plains (atomsIn t l)) ≡ ending (ran .contradiction) (stateOf t (ran .state))
   ran-is = ap (run (t .variables)) (sym same) ∙ sym (o .outcome)
+
+  counts-are : ran .largest ≡ max largest (runCount (t .variables) (plains (atomsIn t l)))
+  counts-are = rw same at (o .counts)
 
   settled-is : ran .contradiction ≡ false → run (t .variables) (atomsOf t list) ≡ settled (stateOf t (ran .state))
   settled-is e = sym (o .outcome) ∙ rw e
 
-  pub contradicts : ran .contradiction ≡ true → (row : Row) → Lists row l → Carries t l row (record { contradiction = true; state = ran .state })
+  pub contradicts : ran .contradiction ≡ true → (row : Row) → Lists row l → Carries t l largest row (record { contradiction = true; state = ran .state; rounds = ran .largest })
   contradicts e row h = record {
     is = rw e at ran-is;
+    counts = counts-are;
     variables = o .variables;
     list = l;
     lists = h;
@@ -91,12 +97,13 @@ module _ {t : Table} (l : List ℕ) {list : Atoms} (n : list .count ≡ length l
   }
 
   pub carries-on : ran .contradiction ≡ false → {cut : Atoms} → Carried t list (carried (t .variables) (setsOf (ran .state .board)) (atomsOf t list) (atomsOf t (ran .state .atoms))) cut
-      → (row : Row) → Lists row (withSets (cut .set) 0 l) → Carries t l row (record { contradiction = false; state = ran .state })
+      → (row : Row) → Lists row (withSets (cut .set) 0 l) → Carries t l largest row (record { contradiction = false; state = ran .state; rounds = ran .largest })
   carries-on e {cut} c row h =
       let many-cut : many (cut .count) ≡ length l = omega (arith, c .count) in
       let small : AllSmall (atomsOf t cut) = rw (c .atoms) (carried-small (t .variables) (settled-is e) (rw same (tokens-small t l))) in
       record {
         is = rw e at ran-is;
+        counts = counts-are;
         variables = o .variables;
         list = withSets (cut .set) 0 l;
         lists = h;
@@ -154,8 +161,10 @@ length-remaining keep i [] = omega arith
 length-remaining keep i (x ∷ l) = omega (arith, length-kept (getD keep i false) x (remaining keep (suc i) l), length-remaining keep (suc i) l)
 
 pub remains : {t : Table} {l : List ℕ} (list : Atoms) → atomsOf t list ≡ plains (atomsIn t l) → {kept : Remaining} → RemainingOf t list (removeImplied (t .variables) []) kept
-    → (row : Row) → Lists row (remaining (kept .keep) 0 l) → Remains t l row
-remains {t} {l} list same {kept} r row h = record {
+    → {k largest : ℕ} → ((carrying : List Placed) → plains carrying ≡ atomsOf t list → k ≡ max largest (removalCount (t .variables) [] carrying))
+    → (row : Row) → Lists row (remaining (kept .keep) 0 l) → Remains t l largest row k
+remains {t} {l} list same {kept} r counted row h = record {
+  counts = counted (atomsIn t l) (sym same);
   list = remaining (kept .keep) 0 l;
   lists = h;
   small = length-remaining (kept .keep) 0 l;

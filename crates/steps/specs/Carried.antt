@@ -2,10 +2,11 @@
 use mathlib.Core.Path.{_≡_}
 use mathlib.Core.Bool.{false}
 use mathlib.Core.List.{List, [], _∷_}
-use Prim.Native.Nat.{ℕ, suc, _+_, _*_, _/_, _%_, _≤_}
+use Prim.Native.Nat.{ℕ, suc, _+_, _*_, _/_, _%_, _≤_, max}
 use lib.ListN.{length, getD}
 use Rattle.rules.specs.Rounds.{run, carried}
 use Rattle.rules.specs.Level.{plains, carry, removeImplied}
+use Rattle.rules.specs.Count.{runCount, removalCount}
 use Rattle.terms.specs.View.{setsOf}
 use Rattle.table.specs.Table.{Table, atomsOf}
 use Rattle.tape.specs.declared.rows.Row.{Row}
@@ -24,8 +25,9 @@ withSets sets i (x ∷ l) = (x / 8 * 8 + getD sets i 0 % 8) ∷ withSets sets (s
 
 -- ---- The two steps.
 
-pub record Carries (t : Table) (l : List ℕ) (row : Row) (r : Carrying) : Type 0 where
+pub record Carries (t : Table) (l : List ℕ) (largest : ℕ) (row : Row) (r : Carrying) : Type 0 where
   pub is : run (t .variables) (plains (atomsIn t l)) ≡ ending (r .contradiction) (stateOf t (r .state))
+  pub counts : r .rounds ≡ max largest (runCount (t .variables) (plains (atomsIn t l)))
   pub variables : r .state .board .variables ≡ t .variables
   pub list : List ℕ
   pub lists : Lists row list
@@ -39,8 +41,9 @@ pub record LeftBy (t : Table) (state : State) (row : Row) : Type 0 where
   pub lists : Lists row list
   pub carries : CarriedFrom t state (plains (atomsIn t list))
 
-pub record Remains (t : Table) (l : List ℕ) (row : Row) : Type 0 where
+pub record Remains (t : Table) (l : List ℕ) (largest : ℕ) (row : Row) (rounds : ℕ) : Type 0 where
   pub list : List ℕ
   pub lists : Lists row list
   pub small : length list ≤ length l
   pub is : removeImplied (t .variables) [] (atomsIn t l) ≡ atomsIn t list
+  pub counts : rounds ≡ max largest (removalCount (t .variables) [] (atomsIn t l))

@@ -11,7 +11,7 @@ ghost use Rattle.settled.specs.Remaining.{remaining};
 ghost use Rattle.steps.specs.Carried.{withSets, Carries, LeftBy, Remains};
 use crate::tidying::atoms_in;
 use round::State;
-use rounds::run;
+use rounds::run_largest;
 use settled::carried;
 use settled::removal::Remaining;
 use settled::removal::remove_implied;
@@ -19,10 +19,18 @@ use signs::SignSet;
 use table::Atoms;
 use tape::tokens::with_set;
 
-// What step 3 leaves beside its list: the state of its rounds, or that they found a contradiction.
+// What step 3 leaves beside its list: the state of its rounds, or that they found a contradiction; and the largest number of rounds so far, its run
+// counted.
 pub struct Carrying {
     pub state: State,
     pub contradiction: bool,
+    pub rounds: usize,
+}
+
+// How many tokens step 5 leaves, and the largest number of rounds so far, its fresh runs counted.
+pub struct Left {
+    pub count: usize,
+    pub rounds: usize,
 }
 
 // The tokens with the atoms' sets.
@@ -47,17 +55,19 @@ pub fn carry(
     variables: usize,
     list: &mut [u32],
     n: usize,
+    largest: usize,
 ) -> Carrying
     requires { ⌜ Forms (lentTable coefficient monomial terms variables) × ((n ≤ length (now list)) × (n ≤ 64)) ⌝ }
-    ensures { λ r. let t = lentTable (coefficient .entry) (monomial .entry) (terms .entry) variables in ⌜ ((l : List ℕ) → Lists (rowOf (now (list .entry)) n) l → Carries t l (rowOf (now (list .exit)) n) r) ⌝ }
+    ensures { λ r. let t = lentTable (coefficient .entry) (monomial .entry) (terms .entry) variables in ⌜ ((l : List ℕ) → Lists (rowOf (now (list .entry)) n) l → Carries t l largest (rowOf (now (list .exit)) n) r) ⌝ }
 {
     let atoms = atoms_in(list, n);
-    let ran = run(coefficient, monomial, terms, variables, atoms);
+    let ran = run_largest(coefficient, monomial, terms, variables, atoms, largest);
     let state = ran.state;
     if ran.contradiction {
         return Carrying {
             state: state,
             contradiction: true,
+            rounds: ran.largest,
         };
     }
     let cut = carried(coefficient, monomial, terms, variables, atoms, state);
@@ -65,6 +75,7 @@ pub fn carry(
     Carrying {
         state: state,
         contradiction: false,
+        rounds: ran.largest,
     }
 }
 
@@ -88,7 +99,7 @@ fn kept_of(list: &mut [u32], n: usize, kept: Remaining) -> usize
 }
 
 // Step 5: "In order, an atom is removed if what the other remaining atoms say of it lies inside its carried set." The state is the one of step 3.
-// The tokens that remain are moved to the front; how many they are.
+// The tokens that remain are moved to the front.
 pub fn without_implied(
     coefficient: &[i32],
     monomial: &[u64],
@@ -97,12 +108,26 @@ pub fn without_implied(
     list: &mut [u32],
     n: usize,
     state: State,
-) -> usize
+    largest: usize,
+) -> Left
     requires { let t = lentTable coefficient monomial terms variables in
         ⌜ Forms t × ((n ≤ length (now list)) × ((n ≤ 64) × LeftBy t state (rowOf (now list) n))) ⌝ }
-    ensures { λ r. let t = lentTable (coefficient .entry) (monomial .entry) (terms .entry) variables in ⌜ ((l : List ℕ) → Lists (rowOf (now (list .entry)) n) l → Remains t l (rowOf (now (list .exit)) r)) ⌝ }
+    ensures { λ r. let t = lentTable (coefficient .entry) (monomial .entry) (terms .entry) variables in ⌜ ((l : List ℕ) → Lists (rowOf (now (list .entry)) n) l → Remains t l largest (rowOf (now (list .exit)) (r .count)) (r .rounds)) ⌝ }
 {
     let atoms = atoms_in(list, n);
-    let kept = remove_implied(coefficient, monomial, terms, variables, atoms, state);
-    kept_of(list, n, kept)
+    let removed = remove_implied(
+        coefficient,
+        monomial,
+        terms,
+        variables,
+        atoms,
+        state,
+        largest,
+    );
+    let kept = removed.remaining;
+    let count = kept_of(list, n, kept);
+    Left {
+        count: count,
+        rounds: removed.rounds,
+    }
 }

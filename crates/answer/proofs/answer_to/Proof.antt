@@ -18,7 +18,7 @@ use Rattle.used.specs.Tape.{Holds}
 use Rattle.answer.specs.Tapes.{tokenTree}
 use Rattle.answer.specs.Entry.{Accepted}
 use Rattle.answer.specs.Way.{Prepared, asks-table, asks-room, counts-tokens, prepares, asks-tree, asks-atoms, counts-row, counts-few}
-use Rattle.answer.specs.Way.{simplerTree, simpler-holds, newHeld, collects, writes, answers, places-told}
+use Rattle.answer.specs.Way.{simplerTree, simpler-holds, newHeld, collects, writes, answers, places-told, counts-rounds}
 use Rattle.answer.proofs.answer_to.Statement.{statement}
 use Rattle.answer.proofs.answer_to.Tie as tie
 
@@ -82,17 +82,17 @@ module _ (c : tie.After-give) {bytes : List ℕ} (accepted : ReadFrom bytes (sta
 module _ (c : tie.After-simplified) {bytes : List ℕ} (accepted : ReadFrom bytes (start (working (normalising c)))) where
   -- simplified,
   simpler : Simplified (tableOf (start (working (normalising c)) .args .variables) (table (working (normalising c))))
-      (tokenTree (prepared (normalising c) accepted .tree)) (c .simplified .result)
-  simpler = c .simplified .ensures (tokenTree (prepared (normalising c) accepted .tree)) (placed (giving c) accepted)
+      (tokenTree (prepared (normalising c) accepted .tree)) (c .simplified .result .tree)
+  simpler = c .simplified .ensures (tokenTree (prepared (normalising c) accepted .tree)) (placed (giving c) accepted) .simplified
 
   abbrev tree : Node NumberedAtom
-  tree = simplerTree (prepared (normalising c) accepted) (c .simplified .result) simpler
+  tree = simplerTree (prepared (normalising c) accepted) (c .simplified .result .tree) simpler
 
 module _ (c : tie.After-plain-tokens) {bytes : List ℕ} (accepted : ReadFrom bytes (start (working (normalising (simplifying c))))) where
   -- plain,
-  holds : Holds (c .plain-tokens .last .0) (simplifying c .simplified .result .tokens .count) (tree (simplifying c) accepted)
+  holds : Holds (c .plain-tokens .last .0) (simplifying c .simplified .result .tree .tokens .count) (tree (simplifying c) accepted)
   holds =
-      simpler-holds (prepared (normalising (simplifying c)) accepted) (simplifying c .simplified .result) (simpler (simplifying c) accepted) (c .plain-tokens .last .0)
+      simpler-holds (prepared (normalising (simplifying c)) accepted) (simplifying c .simplified .result .tree) (simpler (simplifying c) accepted) (c .plain-tokens .last .0)
       (c .plain-tokens .ensures)
 
 module _ (c : tie.After-collect) where
@@ -111,21 +111,21 @@ module _ (c : tie.After-collect) where
   abbrev new : Held
   new =
       let last = c .collect .last .1 .1 .1 .1 .1 .1 in
-      let simplified = simplified-at .simplified .result in
+      let simplified = simplified-at .simplified .result .tree in
       heldBy (first .args .variables) (c .collect .result) (simplified .root) (simplified .tokens .count) (last .0) (last .1 .0) (last .1 .1 .0) (last .1 .1 .1 .0)
 
   module _ {bytes : List ℕ} (accepted : ReadFrom bytes first) where
     -- and collected to the new block,
-    new-is : new ≡ newHeld (first .args .output .now) accepted (prepared normal-at accepted) (simplified-at .simplified .result) (simpler simplified-at accepted)
+    new-is : new ≡ newHeld (first .args .output .now) accepted (prepared normal-at accepted) (simplified-at .simplified .result .tree) (simpler simplified-at accepted)
         (given-at .give .last .0)
     new-is =
-        collects (first .args .output .now) accepted (prepared normal-at accepted) (simplified-at .simplified .result) (simpler simplified-at accepted)
+        collects (first .args .output .now) accepted (prepared normal-at accepted) (simplified-at .simplified .result .tree) (simpler simplified-at accepted)
         (given-at .give .last .0) (c .collect .ensures (tree simplified-at accepted) (holds (plaining c) accepted))
 
     -- which can be written.
     new-writable : Writable (first .args .edition) new (length (first .args .output .now)) (newBlock (accepted .given))
     new-writable =
-        writes (first .args .output .now) accepted (prepared normal-at accepted) (simplified-at .simplified .result) (simpler simplified-at accepted)
+        writes (first .args .output .now) accepted (prepared normal-at accepted) (simplified-at .simplified .result .tree) (simpler simplified-at accepted)
         (given-at .give .last .0) new new-is (long given-at accepted)
 
     new-room : BlockRoom (new .coefficient) (new .monomial) (new .terms) (new .token)
@@ -176,15 +176,15 @@ tell-requires c κs =
     let here = c .before .before .before .before in
     let accepted = start (working (normalising here)) .pre .0 .accepted in
     let ready = prepared (normalising here) accepted in (
-      counts-row ready (here .simplified .result) (simpler here accepted),
-      omega (arith, counts-few ready (here .simplified .result) (simpler here accepted), start (working (normalising here)) .pre .1),
+      counts-row ready (here .simplified .result .tree) (simpler here accepted),
+      omega (arith, counts-few ready (here .simplified .result .tree) (simpler here accepted), start (working (normalising here)) .pre .1),
     )
 
 plain-tokens-requires : tie.Need-plain-tokens-requires
 plain-tokens-requires c κs =
     let here = c .before .before .before .before .before .before .before .before in
     let accepted = start (working (normalising here)) .pre .0 .accepted in
-    counts-row (prepared (normalising here) accepted) (here .simplified .result) (simpler here accepted)
+    counts-row (prepared (normalising here) accepted) (here .simplified .result .tree) (simpler here accepted)
 
 atoms-requires-2 : tie.Need-atoms-requires-2
 atoms-requires-2 c κs =
@@ -250,12 +250,15 @@ returns c bytes accepted =
     let worked = working (normal-at here) in
     let written = writing .ensures _ (new-writable here accepted) in
     let tape = given-at here .give .last .0 in (
-      answers (first here .args .output .now) accepted ready (simplified .simplified .result) (simpler simplified accepted) tape (new here) (new-is here accepted)
+      answers (first here .args .output .now) accepted ready (simplified .simplified .result .tree) (simpler simplified accepted) tape (new here) (new-is here accepted)
           (writing .last .1 .1 .1 .1 .1 .1 .1 .1 .1 .0) (counted .result) (counting .result) (uses .result) (writing .result) (telling .result) (written .0) (written .1)
           (counted .ensures (ready .tree) (ready .holds)) (counting .ensures (tree simplified accepted) (holds (plaining here) accepted))
           (uses .ensures (first here .args .variables) (table worked .coefficient) (ready .tree) (worked .work .ensures .forms) (ready .holds)) (telling .ensures),
-      places-told (first here .args .output .now) accepted ready (simplified .simplified .result) (simpler simplified accepted) tape
-          (first here .args .places .now) (told .last .1 .1 .0) (told .ensures),
+      (
+        places-told (first here .args .output .now) accepted ready (simplified .simplified .result .tree) (simpler simplified accepted) tape
+            (first here .args .places .now) (told .last .1 .1 .0) (told .ensures),
+        counts-rounds accepted ready (simplified .simplified .ensures (tokenTree (ready .tree)) (placed (giving simplified) accepted) .counts),
+      ),
     )
 
 pub answer-to-spec : {M : Type 1} → statement M

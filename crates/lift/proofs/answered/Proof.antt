@@ -1,9 +1,10 @@
--- `answered` meets its contract: what the reader refuses changes nothing, what it accepts is answered, and its places are told.
+-- `answered` meets its contract: what the reader refuses changes nothing, what it accepts is answered, its places are told and its rounds counted.
 use borrow.Author.Needs.{needs}
 use native.Mathlib.Omega.{arith}
 use lib.ListN.{length}
 use Rattle.lift.specs.Entry.{answers-refused, found-refused, found-accepted}
 use Rattle.lift.specs.Places.{places-refused, places-accepted}
+use Rattle.lift.specs.Rounds.{refused-counts}
 use Rattle.lift.proofs.answered.Statement.{statement}
 use Rattle.lift.proofs.answered.Tie as tie
 
@@ -34,7 +35,7 @@ returns c =
     let a = start reading .args in
     let is = found-refused (reading .read-into .ensures) (chosen .contents .given .1) in (
       answers-refused (a .input .now) (a .output .now) (start reading .pre .0) is,
-      places-refused (a .input .now) (length (a .output .now)) (start reading .pre .0) (a .places .now) is,
+      (places-refused (a .input .now) (length (a .output .now)) (start reading .pre .0) (a .places .now) is, refused-counts (a .largest) is),
     )
 
 returns-2 : tie.Need-returns-2
@@ -47,7 +48,7 @@ returns-2 c =
     let accepted = found-accepted (reading .read-into .ensures) (length (a .output .now)) (chosen .contents2 .given .1) (start reading .pre .0)
     (edition .edition .ensures) in
     let told = answering .answer-to .ensures (a .input .now) accepted in
-    (told .0, places-accepted (a .input .now) (length (a .output .now)) (start reading .pre .0) (a .places .now) (accepted .accepted) (told .1))
+    (told .0, (places-accepted (a .input .now) (length (a .output .now)) (start reading .pre .0) (a .places .now) (accepted .accepted) (told .1 .0), told .1 .1))
 
 pub answered-spec : {M : Type 1} → statement M
 answered-spec =

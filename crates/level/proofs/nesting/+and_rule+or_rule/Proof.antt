@@ -44,18 +44,18 @@ or-rule-below t = and 4 or-rule-kinds.ps (falls 4 or-rule-kinds.ps _<_ μ-or-rul
 
 -- the loop over the parts, the same for both rules but for the polarity
 abbrev and-rule-Inv-loop : and-rule-lts.InvT-loop
-and-rule-Inv-loop coefficient monomial terms variables token at nesting parts list₀ count₀ walked₀ place₀ i₀ list count walked place i =
-    (parts ≡ getD token at 0 - 16777216) × ((i ≤ parts) × ((length list ≡ 256) × Runs (tableOf coefficient monomial terms variables) token true at nesting (rowOf list count) walked place i))
+and-rule-Inv-loop coefficient monomial terms variables token at nesting largest parts list₀ count₀ walked₀ rounds₀ place₀ i₀ list count walked rounds place i =
+    (parts ≡ getD token at 0 - 16777216) × ((i ≤ parts) × ((length list ≡ 256) × Runs (tableOf coefficient monomial terms variables) token true at nesting largest (rowOf list count) walked rounds place i))
 
 abbrev and-rule-μ-loop : and-rule-lts.MeasureT-loop
-and-rule-μ-loop coefficient monomial terms variables token at nesting parts list₀ count₀ walked₀ place₀ i₀ list count walked place i = parts - i
+and-rule-μ-loop coefficient monomial terms variables token at nesting largest parts list₀ count₀ walked₀ rounds₀ place₀ i₀ list count walked rounds place i = parts - i
 
 abbrev or-rule-Inv-loop : or-rule-lts.InvT-loop
-or-rule-Inv-loop coefficient monomial terms variables token at nesting parts list₀ count₀ walked₀ place₀ i₀ list count walked place i =
-    (parts ≡ getD token at 0 - 16777216) × ((i ≤ parts) × ((length list ≡ 256) × Runs (tableOf coefficient monomial terms variables) token false at nesting (rowOf list count) walked place i))
+or-rule-Inv-loop coefficient monomial terms variables token at nesting largest parts list₀ count₀ walked₀ rounds₀ place₀ i₀ list count walked rounds place i =
+    (parts ≡ getD token at 0 - 16777216) × ((i ≤ parts) × ((length list ≡ 256) × Runs (tableOf coefficient monomial terms variables) token false at nesting largest (rowOf list count) walked rounds place i))
 
 abbrev or-rule-μ-loop : or-rule-lts.MeasureT-loop
-or-rule-μ-loop coefficient monomial terms variables token at nesting parts list₀ count₀ walked₀ place₀ i₀ list count walked place i = parts - i
+or-rule-μ-loop coefficient monomial terms variables token at nesting largest parts list₀ count₀ walked₀ rounds₀ place₀ i₀ list count walked rounds place i = parts - i
 
 pub +and-rule+or-rule-spec : {M : Type 1} → statement M
 +and-rule+or-rule-spec = close μ-and-rule μ-or-rule (λ t. and-rule-lts.spec (
@@ -94,11 +94,11 @@ pub +and-rule+or-rule-spec : {M : Type 1} → statement M
     (λ c. (refl, (omega (arith, c .before .before .before .before .loop-test .taken), (c .before .before .before .before .before .loop .inv .1 .1 .0, runs-skip (c .before .before .before .before .before .loop .inv .1 .1 .1) _ (c .before .before .before .before .before .loop .inv .0) (c .before .before .before .before .loop-test .taken) (c .before .before .if1 .left) (c .before .if2 .taken) _ (c .skip .ensures)))))
     (λ c. omega (arith, runs-ready (c .before .before .before .before .loop .inv .1 .1 .1) _ (c .before .before .before .before .loop .inv .0) (c .before .before .before .loop-test .taken) (c .before .before .before .before .before .before .before .before .before .before .pre .1 .1) (c .before .if1 .left) .0))
     (λ c κs. let below = runs-ready (c .before .before .before .before .loop .inv .1 .1 .1) _ (c .before .before .before .before .loop .inv .0) (c .before .before .before .loop-test .taken) (c .before .before .before .before .before .before .before .before .before .before .pre .1 .1) (c .before .if1 .left) in (omega (arith, below .0, c .before .before .before .before .before .before .before .before .before .before .pre .0), (c .before .before .before .before .before .before .before .before .before .before .pre .1 .0, below .1)))
-    (λ c κs. runs-room (c .before .before .before .before .before .before .loop .inv .1 .1 .1) _ (c .before .before .before .before .before .before .loop .inv .0) (c .before .before .before .before .before .loop-test .taken) (c .before .before .before .if1 .left) _ (c .before .or-rule .ensures) (c .before .before .before .before .before .before .before .before .before .before .before .before .pre .1 .1))
+    (λ c κs. runs-room (c .before .before .before .before .before .before .loop .inv .1 .1 .1) _ (c .before .before .before .before .before .before .loop .inv .0) (c .before .before .before .before .before .loop-test .taken) (c .before .before .before .if1 .left) (c .before .before .if2 .left) _ (c .before .or-rule .ensures) (c .before .before .before .before .before .before .before .before .before .before .before .before .pre .1 .1))
     (λ c. omega (arith, c .before .before .before .before .before .before .loop-test .taken))
-    (λ c. (refl, (omega (arith, c .before .before .before .before .before .before .loop-test .taken), (c .before .before .before .before .before .before .before .loop .inv .1 .1 .0, runs-node (c .before .before .before .before .before .before .before .loop .inv .1 .1 .1) _ (c .before .before .before .before .before .before .before .loop .inv .0) (c .before .before .before .before .before .before .loop-test .taken) (c .before .before .before .before .if1 .left) _ (c .before .before .or-rule .ensures) _ (c .add .ensures _)))))
+    (λ c. (refl, (omega (arith, c .before .before .before .before .before .before .loop-test .taken), (c .before .before .before .before .before .before .before .loop .inv .1 .1 .0, runs-node (c .before .before .before .before .before .before .before .loop .inv .1 .1 .1) _ (c .before .before .before .before .before .before .before .loop .inv .0) (c .before .before .before .before .before .before .loop-test .taken) (c .before .before .before .before .if1 .left) (c .before .before .before .if2 .left) _ (c .before .before .or-rule .ensures) _ (c .add .ensures _)))))
     (λ c κs. (c .before .before .before .before .before .before .before .pre .1 .0, runs-gathered (c .before .loop .inv .1 .1 .1) (c .before .before .before .before .before .before .before .pre .1 .1)))
-    (λ c. runs-end (c .before .before .loop .inv .1 .1 .1) _ (c .before .before .loop .inv .0) (c .before .loop-test .left) _ (c .finish .ensures)))
+    (λ c. runs-end (c .before .before .before .loop .inv .1 .1 .1) _ (c .before .before .before .loop .inv .0) (c .before .before .loop-test .left) _ _ (c .before .finish .ensures)))
     (λ t. or-rule-lts.spec (
       begin-reads.Asked,
       begin-reads.Learnt,
@@ -138,8 +138,8 @@ pub +and-rule+or-rule-spec : {M : Type 1} → statement M
     (λ c. (refl, (omega (arith, c .before .before .before .before .loop-test .taken), (c .before .before .before .before .before .loop .inv .1 .1 .0, runs-skip (c .before .before .before .before .before .loop .inv .1 .1 .1) _ (c .before .before .before .before .before .loop .inv .0) (c .before .before .before .before .loop-test .taken) (c .before .before .if1 .left) (c .before .if2 .taken) _ (c .skip .ensures)))))
     (λ c. omega (arith, runs-ready (c .before .before .before .before .loop .inv .1 .1 .1) _ (c .before .before .before .before .loop .inv .0) (c .before .before .before .loop-test .taken) (c .before .before .before .before .before .before .before .before .before .before .pre .1 .1) (c .before .if1 .left) .0))
     (λ c κs. let below = runs-ready (c .before .before .before .before .loop .inv .1 .1 .1) _ (c .before .before .before .before .loop .inv .0) (c .before .before .before .loop-test .taken) (c .before .before .before .before .before .before .before .before .before .before .pre .1 .1) (c .before .if1 .left) in (omega (arith, below .0, c .before .before .before .before .before .before .before .before .before .before .pre .0), (c .before .before .before .before .before .before .before .before .before .before .pre .1 .0, below .1)))
-    (λ c κs. runs-room (c .before .before .before .before .before .before .loop .inv .1 .1 .1) _ (c .before .before .before .before .before .before .loop .inv .0) (c .before .before .before .before .before .loop-test .taken) (c .before .before .before .if1 .left) _ (c .before .and-rule .ensures) (c .before .before .before .before .before .before .before .before .before .before .before .before .pre .1 .1))
+    (λ c κs. runs-room (c .before .before .before .before .before .before .loop .inv .1 .1 .1) _ (c .before .before .before .before .before .before .loop .inv .0) (c .before .before .before .before .before .loop-test .taken) (c .before .before .before .if1 .left) (c .before .before .if2 .left) _ (c .before .and-rule .ensures) (c .before .before .before .before .before .before .before .before .before .before .before .before .pre .1 .1))
     (λ c. omega (arith, c .before .before .before .before .before .before .loop-test .taken))
-    (λ c. (refl, (omega (arith, c .before .before .before .before .before .before .loop-test .taken), (c .before .before .before .before .before .before .before .loop .inv .1 .1 .0, runs-node (c .before .before .before .before .before .before .before .loop .inv .1 .1 .1) _ (c .before .before .before .before .before .before .before .loop .inv .0) (c .before .before .before .before .before .before .loop-test .taken) (c .before .before .before .before .if1 .left) _ (c .before .before .and-rule .ensures) _ (c .add .ensures _)))))
+    (λ c. (refl, (omega (arith, c .before .before .before .before .before .before .loop-test .taken), (c .before .before .before .before .before .before .before .loop .inv .1 .1 .0, runs-node (c .before .before .before .before .before .before .before .loop .inv .1 .1 .1) _ (c .before .before .before .before .before .before .before .loop .inv .0) (c .before .before .before .before .before .before .loop-test .taken) (c .before .before .before .before .if1 .left) (c .before .before .before .if2 .left) _ (c .before .before .and-rule .ensures) _ (c .add .ensures _)))))
     (λ c κs. (c .before .before .before .before .before .before .before .pre .1 .0, runs-gathered (c .before .loop .inv .1 .1 .1) (c .before .before .before .before .before .before .before .pre .1 .1)))
-    (λ c. runs-end (c .before .before .loop .inv .1 .1 .1) _ (c .before .before .loop .inv .0) (c .before .loop-test .left) _ (c .finish .ensures)))
+    (λ c. runs-end (c .before .before .before .loop .inv .1 .1 .1) _ (c .before .before .before .loop .inv .0) (c .before .before .loop-test .left) _ _ (c .before .finish .ensures)))

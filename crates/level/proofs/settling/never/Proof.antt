@@ -9,6 +9,7 @@ use Rattle.level.proofs.settling.never.Tie as tie
 returns : tie.Need-returns
 returns c list = record {
   ends = refl;
+  counts = refl;
   lists = record { is = refl; size = refl };
   lies = stored (c .args .ors .now) 0 0 (c .pre) [] (record { is = refl; size = refl });
 }

@@ -14,12 +14,12 @@ use Rattle.level.proofs.settling.settle.Statement.{statement}
 use Rattle.level.proofs.settling.settle.Tie as tie
 
 abbrev Inv-loop : tie.InvT-loop
-Inv-loop coefficient monomial terms variables list₀ n ors₀ m stage₀ list ors stage =
+Inv-loop coefficient monomial terms variables list₀ n ors₀ m largest stage₀ list ors stage =
     (length list ≡ length list₀) × ((length ors ≡ length ors₀) × ((l : List ℕ) (children : Children) → Lists (rowOf list₀ (stage₀ .atoms)) l → Lists (rowOf ors₀ (stage₀ .ors)) (laid children)
-    → StageIs (tableOf coefficient monomial terms variables) l children 0 list ors stage))
+    → StageIs (tableOf coefficient monomial terms variables) l children largest 0 list ors stage))
 
 abbrev μ-loop : tie.MeasureT-loop
-μ-loop coefficient monomial terms variables list₀ n ors₀ m stage₀ list ors stage = due (stage .over) (stage .atoms + stage .ors)
+μ-loop coefficient monomial terms variables list₀ n ors₀ m largest stage₀ list ors stage = due (stage .over) (stage .atoms + stage .ors)
 
 turn-requires : tie.Need-turn-requires Inv-loop μ-loop
 turn-requires c κs =

@@ -88,7 +88,7 @@ over c l children h k =
     (laid-first _ (laid (w .stands .children)) (c .before .before .before .before .before .before .before .lay .ensures _ [] _ (record { is = refl; size = refl }) (w .stands .lies) (omega (arith, w .stands .lies .size))) (w .stands .lies .size)) (c .before .before .before .before .if5 .left)
     (c .before .before .without-implied2 .ensures (g .list) (g .lists))
 
-adds : tie.Need-add-t47
+adds : tie.Need-add-t48
 adds c =
     let ready = c .before .before .before .before .before .before .before .before .before .before .before .before .before .before .before .before .before .before .before .before .before .before .before .before .before .before .before .before .before .before .before .before .before .before .pre .1 in
     let f = c .before .before .before .before .before .before .before .before .before .before .before .before .before .before .before .before .before .before .before .before .before .before .before .before .before .before .before .before .tidy .ensures (ready .list) (ready .lists) in

@@ -5,7 +5,7 @@ use lib.ListN.{length-replicate}
 use Rattle.table.specs.Table.{Table}
 use Rattle.round.specs.Views.{lentTable}
 use Rattle.round.specs.SignedSlots.{list-ready, list-keeps}
-use Rattle.settled.proofs.Others.{test-first}
+use Rattle.settled.proofs.Others.{test-first, count-first}
 use Rattle.settled.proofs.removal.remove_implied.Statement.{statement}
 use Rattle.settled.proofs.removal.remove_implied.Tie as tie
 
@@ -27,4 +27,5 @@ pub remove-implied-spec : {M : Type 1} → statement M
 remove-implied-spec =
     tie.close
     (tie.spec (λ c. search needs) (λ c κs. search needs) (λ c. search needs) (λ c κs. search needs) (λ c. search needs) remove-requires
-    (λ c. test-first (c .before .before .before .before .before .before .before .before .before .before .before .before .pre .1) (c .remove .ensures)))
+    (λ c. let s = c .before .before .before .before .before .before .before .before .before .before .before .before in
+    (test-first (s .pre .1) (c .remove .ensures .0), count-first (s .args .list) (s .args .largest) (s .pre .1) (c .remove .ensures .1))))

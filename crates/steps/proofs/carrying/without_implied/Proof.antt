@@ -12,8 +12,9 @@ remove-implied-requires c κs =
 
 returns : tie.Need-returns
 returns c l h =
-    let atoms = c .before .before .before .before .before .atoms-in in
-    remains (atoms .result) (atoms .ensures .1 _ l h) (c .before .before .before .before .remove-implied .ensures) _ (c .before .before .kept-of .ensures l h)
+    let atoms = c .before .before .before .before .before .before .atoms-in in
+    let removed = c .before .before .before .before .before .remove-implied in
+    remains (atoms .result) (atoms .ensures .1 _ l h) (removed .ensures .0) (removed .ensures .1) _ (c .before .before .kept-of .ensures l h)
 
 pub without-implied-spec : {M : Type 1} → statement M
 without-implied-spec =
