@@ -39,9 +39,15 @@ returns c t i =
     let h = held-c (s .pre .0) in
     let d = held-d (s .pre .0) in
     c .sign-between .ensures
-    ∙ rw (wide (s .fits .a), back (s .args .self .d) (wider d), back (s .args .a *ℤ s .args .self .d) (product-in (s .args .a) (s .args .self .d) (s .pre .1 .first) d (omega arith)), back (s .args .self .c) (wider h),
-    back (pos 0 -ℤ s .args .self .c) (minus-in (s .args .self .c) (wider h)), wide (s .fits .b),
-    back ((pos 0 -ℤ s .args .self .c) *ℤ s .args .b) (product-in (pos 0 -ℤ s .args .self .c) (s .args .b) (minus-in (s .args .self .c) h) (s .pre .1 .second) (omega arith)))
+    ∙ rw (
+      wide (s .fits .a),
+      back (s .args .self .d) (wider d),
+      back (s .args .a *ℤ s .args .self .d) (product-in (s .args .a) (s .args .self .d) (s .pre .1 .first) d (omega arith)),
+      back (s .args .self .c) (wider h),
+      back (pos 0 -ℤ s .args .self .c) (minus-in (s .args .self .c) (wider h)),
+      wide (s .fits .b),
+      back ((pos 0 -ℤ s .args .self .c) *ℤ s .args .b) (product-in (pos 0 -ℤ s .args .self .c) (s .args .b) (minus-in (s .args .self .c) h) (s .pre .1 .second) (omega arith)),
+    )
     (compared t (s .args .a) (s .args .b) i)
 
 pub sign-at-spec : {M : Type 1} → statement M

@@ -1,11 +1,14 @@
 -- Numbers of 64 signed bits: what fits, what is read back from its bits, and the terms of a listed fraction.
 use mathlib.Core.Path.{_≡_, refl, sym, ap, _∙_, subst}
 use mathlib.Core.Bool.{Bool, true, false, true≢false, false≢true}
-use Prim.Native.Nat.{ℕ, zero, suc, _+_, _*_, _≤_}
+use Prim.Native.Nat.{ℕ, zero, suc, _+_, _*_, _≤_, _<_}
+use native.Mathlib.Nat.{eq-or-lt-of-le}
 use native.Mathlib.Omega.{arith}
-use borrow.Author.Tests.{ltb-true}
-use mathlib.Core.List.{[], _∷_}
+use borrow.Author.Tests.{ltb-true, ltb-false}
+use mathlib.Core.List.{List, [], _∷_}
+use mathlib.Core.Logic.{_⊎_, inl, inr}
 use lib.IntN.{ℤ, pos, negsuc, negℤ, natAbs, _+ℤ_, _-ℤ_, _*ℤ_, +ℤ-idl, +ℤ-idr}
+use lib.ListN.{getD}
 use lib.Signed.{ltZ}
 use mir.Syntax.{w32, w64}
 use mir.Val.{SFits, toZ, ofZ}
@@ -20,6 +23,7 @@ use Rattle.rules.specs.Plain.{signAt, oneLess, oneMore, between}
 use Rattle.deduction_laws.specs.Fractions.{combined}
 use Rattle.plain_laws.specs.Bounds.{largest, Small, magnitude-sum, magnitude-negated, product-fits}
 use Rattle.plain_laws.specs.Same.{sign-at}
+use Rattle.deduce.specs.Merge.{AtMost}
 use Rattle.plain.specs.declared.value.Value.{Value}
 use Rattle.plain.specs.Values.{Is, Held}
 
@@ -41,10 +45,10 @@ wide {z} f = rw (toZ-ofZ w32 z f) (toZ-ofZ w64 z (widened f))
 pub negated-fits : {z : ℤ} → SFits w32 z → SFits w64 (pos 0 -ℤ z)
 negated-fits {z} f = fits (rw (+ℤ-idl (negℤ z), magnitude-negated z) (omega (arith, magnitude f)))
 
-at-same : {t u : Fraction} → at t ≡ at u → t ≡ u
+pub at-same : {t u : Fraction} → at t ≡ at u → t ≡ u
 at-same {t} e = ap (λ (x : End). elim x as (λ _. Fraction) [ free ↦ t | at r ↦ r ]) e
 
-no-end : {X : Type 0} {t : Fraction} → free ≡ at t → X
+pub no-end : {X : Type 0} {t : Fraction} → free ≡ at t → X
 no-end e = absurd (coerce e)
   where
     coerce : {t : Fraction} → free ≡ at t → ⊥
@@ -146,3 +150,21 @@ none-beside t {v} h i = subst (λ (e : End). Is v (beside t e)) (sym h) i
 pub one-beside : (t u : Fraction) {v : Value} {e : End} → e ≡ at u → Is v (between t u) → Is v (beside t e)
 unfolding beside
 one-beside t u {v} h i = subst (λ (e : End). Is v (beside t e)) (sym h) i
+
+-- ---- which coefficients a block has
+
+pub is-small : {z : ℤ} → SFits w32 z → ltZ z (negsuc 2147483646) ≡ false → natAbs z ≤ largest
+is-small {z = pos n} f h = omega (arith, f .sfits)
+is-small {z = negsuc n} f h = omega (arith, ltb-false 2147483646 n h)
+
+pub not-small : (z : ℤ) → ltZ z (negsuc 2147483646) ≡ true → natAbs z ≤ largest → ⊥
+not-small (pos n) h k = absurd (false≢true h)
+not-small (negsuc n) h k = omega (arith, ltb-true 2147483646 n h)
+
+-- one more
+pub more-small : {cs : List ℤ} {i₀ i : ℕ} → AtMost largest cs i₀ i → natAbs (getD cs i (pos 0)) ≤ largest → AtMost largest cs i₀ (i + 1)
+more-small {cs} {i₀} {i} h k = record { each = λ j l m. by j l (eq-or-lt-of-le (omega arith)) }
+  where
+    by : (j : ℕ) → i₀ ≤ j → (j ≡ i) ⊎ (j < i) → natAbs (getD cs j (pos 0)) ≤ largest
+    by j l (inl e) = subst (λ (n : ℕ). natAbs (getD cs n (pos 0)) ≤ largest) (sym e) k
+    by j l (inr m) = h .each j l m

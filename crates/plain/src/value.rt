@@ -27,7 +27,11 @@ pub fn listed(e: End) -> Value
 {
     let a = e.a as i64;
     let b = e.b as i64;
-    if b < 0 { Value { c: a, d: -b } } else { Value { c: -a, d: b } }
+    if b < 0 {
+        Value { c: a, d: -b }
+    } else {
+        Value { c: -a, d: b }
+    }
 }
 
 // "One value between each two neighbours: numerators added, denominators added"; where there is none above, 1 is added.
@@ -40,10 +44,16 @@ pub fn beside(f: End, near: End) -> Value
     let x = listed(f);
     let b = near.b;
     if b == 0 {
-        return Value { c: x.c + x.d, d: x.d };
+        return Value {
+            c: x.c + x.d,
+            d: x.d,
+        };
     }
     let y = listed(near);
-    Value { c: x.c + y.c, d: x.d + y.d }
+    Value {
+        c: x.c + y.c,
+        d: x.d + y.d,
+    }
 }
 
 // "One below the least: the least less 1".
@@ -53,7 +63,10 @@ pub fn under(e: End) -> Value
     ensures { λ r. ⌜ ((t : Fraction) → endOf e ≡ at t → Is r (underOf (at t))) ⌝ }
 {
     let x = listed(e);
-    Value { c: x.c - x.d, d: x.d }
+    Value {
+        c: x.c - x.d,
+        d: x.d,
+    }
 }
 
 impl Value {

@@ -27,9 +27,10 @@ returns c =
     let i = x .ensures (there .fraction) (there .is) in
     let small = s .pre .1 .small (there .fraction) (there .is) in
     let r = x .result in
-    rw (back (r .c) (term-in (listed-c i small)), back (r .d) (term-in (listed-d i small)), back (r .c -ℤ r .d) (difference-in (r .c) (r .d) (listed-c i small) (listed-d i small)))
-    (record { t = oneLess (there .fraction); is = less-is (i .c) (i .d); small = one-less-small small },
-    λ t e. less-is (x .ensures t e .c) (x .ensures t e .d))
+    rw (back (r .c) (term-in (listed-c i small)), back (r .d) (term-in (listed-d i small)), back (r .c -ℤ r .d) (difference-in (r .c) (r .d) (listed-c i small) (listed-d i small))) (
+      record { t = oneLess (there .fraction); is = less-is (i .c) (i .d); small = one-less-small small },
+      λ t e. less-is (x .ensures t e .c) (x .ensures t e .d),
+    )
 
 pub under-spec : {M : Type 1} → statement M
 under-spec = tie.close (tie.spec (λ c κs. search needs) sub-t3 returns)

@@ -37,10 +37,14 @@ returns c =
     let d = c .before .before .before .before .before in
     let r = d .listed .result in
     let none = none-there (d .before .args .near .a) (d .before .args .near .b) (is-zero (near-fits (c .before .before .before .before)) (c .before .before .before .if1 .taken)) in
-    rw (back (r .c) (term-in (listed-c (first d) (first-small d))), back (r .d) (term-in (listed-d (first d) (first-small d))),
-    back (r .c +ℤ r .d) (sum-in (r .c) (r .d) (listed-c (first d) (first-small d)) (listed-d (first d) (first-small d))))
-    (record { t = oneMore (d .before .pre .0 .0 .fraction); is = more-is (first d .c) (first d .d); small = one-more-small (first-small d) },
-    λ t e. none-beside t none (more-is (d .listed .ensures t e .c) (d .listed .ensures t e .d)))
+    rw (
+      back (r .c) (term-in (listed-c (first d) (first-small d))),
+      back (r .d) (term-in (listed-d (first d) (first-small d))),
+      back (r .c +ℤ r .d) (sum-in (r .c) (r .d) (listed-c (first d) (first-small d)) (listed-d (first d) (first-small d))),
+    ) (
+      record { t = oneMore (d .before .pre .0 .0 .fraction); is = more-is (first d .c) (first d .d); small = one-more-small (first-small d) },
+      λ t e. none-beside t none (more-is (d .listed .ensures t e .c) (d .listed .ensures t e .d)),
+    )
 
 -- the neighbour above it
 other : (c : tie.Else1) → There (c .before .before .before .args .near)
@@ -80,14 +84,21 @@ returns-2 c =
     let xd = listed-d (first d) (first-small d) in
     let yc = listed-c (second e) (second-small e) in
     let yd = listed-d (second e) (second-small e) in
-    rw (back (x .c) (term-in xc), back (x .d) (term-in xd), back (y .c) (term-in yc), back (y .d) (term-in yd),
-    back (x .c +ℤ y .c) (sum-in (x .c) (y .c) xc yc), back (x .d +ℤ y .d) (sum-in (x .d) (y .d) xd yd))
-    (record {
-      t = between (d .before .pre .0 .0 .fraction) (other (e .before) .fraction);
-      is = between-is (first d .c) (first d .d) (second e .c) (second e .d);
-      small = between-small (first-small d) (second-small e);
-    },
-    λ t k. one-beside t (other (e .before) .fraction) (other (e .before) .is) (between-is (d .listed .ensures t k .c) (d .listed .ensures t k .d) (second e .c) (second e .d)))
+    rw (
+      back (x .c) (term-in xc),
+      back (x .d) (term-in xd),
+      back (y .c) (term-in yc),
+      back (y .d) (term-in yd),
+      back (x .c +ℤ y .c) (sum-in (x .c) (y .c) xc yc),
+      back (x .d +ℤ y .d) (sum-in (x .d) (y .d) xd yd),
+    ) (
+      record {
+        t = between (d .before .pre .0 .0 .fraction) (other (e .before) .fraction);
+        is = between-is (first d .c) (first d .d) (second e .c) (second e .d);
+        small = between-small (first-small d) (second-small e);
+      },
+      λ t k. one-beside t (other (e .before) .fraction) (other (e .before) .is) (between-is (d .listed .ensures t k .c) (d .listed .ensures t k .d) (second e .c) (second e .d)),
+    )
 
 pub beside-spec : {M : Type 1} → statement M
 beside-spec = tie.close (tie.spec (λ c κs. search needs) add-t7 returns (λ c κs. other c) add-t8 add-t9 returns-2)
