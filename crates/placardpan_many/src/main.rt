@@ -1,18 +1,19 @@
 // Answers each block of a stream, each after its length in 2 bytes, most significant first: the lines of document 01's program for each.
-// Thin over `lift::report`; a frame that is cut off gets a line that says so. The argument `places` is as for `placardpan`.
+// Thin over `lift::report_by`; a frame that is cut off gets a line that says so. The arguments `places` and `plain` are as for `placardpan`.
 use frames::Kind;
 use libc::STDOUT_FILENO;
 use printing::asked_for_places;
+use printing::asked_for_plain;
 use printing::print_asked;
 
 // One frame; whether there may be more.
-fn one(space: &mut [u8], output: &mut [u8], text: &mut [u8], places: bool) -> bool {
+fn one(plain: bool, space: &mut [u8], output: &mut [u8], text: &mut [u8], places: bool) -> bool {
     let frame = frames::next(space);
     let n = frame.length;
     let kind = frame.kind;
     match kind {
         Kind::Block => {
-            print_asked(&space[..n], output, text, places);
+            print_asked(plain, &space[..n], output, text, places);
             true
         }
         Kind::CutOff => {
@@ -32,8 +33,9 @@ fn main() {
     let mut lines = io::large_buffer();
     let text: &mut [u8] = &mut lines;
     let places = asked_for_places();
+    let plain = asked_for_plain();
     let mut turns = u64::MAX;
-    while turns > 0 && one(room, output, text, places) {
+    while turns > 0 && one(plain, room, output, text, places) {
         turns -= 1;
     }
 }

@@ -1,7 +1,9 @@
-// How often, in 4 bytes, most significant first, then a block: `lift::simplify` is called so often, and document 01's lines are printed once.
-// For measuring one call: a second run with another number takes reading, printing and the start of the program off.
+// How often, in 4 bytes, most significant first, then a block: `lift::simplify_by` is called so often, and document 01's lines are printed once.
+// For measuring one call: a second run with another number takes reading, printing and the start of the program off. The argument `plain` is as for
+// `placardpan`.
 ghost use Prim.Native.Nat.{_≤_};
 use libc::STDIN_FILENO;
+use printing::asked_for_plain;
 use printing::print_answer;
 
 fn wide(byte: u8) -> u64
@@ -18,13 +20,13 @@ fn times() -> u64 {
 }
 
 // Answers the block so many times, and once at least; the last answer is printed.
-fn repeat(input: &[u8], output: &mut [u8], text: &mut [u8], times: u64) {
+fn repeat(plain: bool, input: &[u8], output: &mut [u8], text: &mut [u8], times: u64) {
     let mut left = times;
     while 1 < left {
-        lift::simplify(input, output);
+        lift::simplify_by(plain, input, output);
         left -= 1;
     }
-    print_answer(input, output, text);
+    print_answer(plain, input, output, text);
 }
 
 // "It reads at most 32,768 bytes of a block"
@@ -34,5 +36,6 @@ fn main() {
     let length = io::read_full(STDIN_FILENO, &mut space);
     let mut output = [0u8; 32768];
     let mut text = [0u8; 38082];
-    repeat(&space[..length], &mut output, &mut text, often);
+    let plain = asked_for_plain();
+    repeat(plain, &space[..length], &mut output, &mut text, often);
 }

@@ -1,11 +1,11 @@
--- `placed` meets its contract: 1, then 18, then what the reader and the answer say.
+-- `placed_by` meets its contract: 1, then 18, then what the reader and the answer say.
 use borrow.Author.Needs.{needs}
 use native.Mathlib.Omega.{arith}
 use Rattle.laws.specs.Answers.{places-tell}
 use lib.ListN.{length}
 use Rattle.lift.specs.Places.{placed-refused-1, placed-refused-18, placed-answers, placed-same-lifts, placed-never-longer}
-use Rattle.lift.proofs.placing.placed.Statement.{statement}
-use Rattle.lift.proofs.placing.placed.Tie as tie
+use Rattle.lift.proofs.placing.placed_by.Statement.{statement}
+use Rattle.lift.proofs.placing.placed_by.Tie as tie
 
 returns : tie.Need-returns
 returns c =
@@ -36,5 +36,5 @@ returns-3 c =
       places-tell (a .input .now),
     )
 
-pub placed-spec : {M : Type 1} → statement M
-placed-spec = tie.close (tie.spec returns returns-2 (λ c κs. search needs) (λ c. search needs) (λ c. search needs) returns-3)
+pub placed-by-spec : {M : Type 1} → statement M
+placed-by-spec = tie.close (tie.spec returns returns-2 (λ c κs. search needs) (λ c. search needs) (λ c. search needs) returns-3)

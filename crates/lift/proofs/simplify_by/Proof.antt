@@ -1,11 +1,11 @@
--- `simplify` meets its contract.
+-- `simplify_by` meets its contract.
 use borrow.Author.Needs.{needs}
 use native.Mathlib.Omega.{arith}
 use Rattle.laws.specs.Answers.{same-lifts, never-longer-answer}
 use lib.ListN.{length}
 use Rattle.lift.specs.Entry.{answers-short}
-use Rattle.lift.proofs.simplify.Statement.{statement}
-use Rattle.lift.proofs.simplify.Tie as tie
+use Rattle.lift.proofs.simplify_by.Statement.{statement}
+use Rattle.lift.proofs.simplify_by.Tie as tie
 
 returns : tie.Need-returns
 returns c =
@@ -24,5 +24,5 @@ returns-2 c =
       never-longer-answer (length (a .output .now)) (a .input .now),
     )
 
-pub simplify-spec : {M : Type 1} → statement M
-simplify-spec = tie.close (tie.spec returns (λ c. search needs) (λ c κs. search needs) (λ c. search needs) returns-2)
+pub simplify-by-spec : {M : Type 1} → statement M
+simplify-by-spec = tie.close (tie.spec returns (λ c. search needs) (λ c κs. search needs) (λ c. search needs) returns-2)
