@@ -62,7 +62,15 @@ pub fn cut_down(
         i += 1;
         let k = (number % 64) as usize;
         let q = places(terms, k);
-        sofar = sofar.intersect(deduce_from(coefficient, monomial, terms, sign, run, q, SignSet(held)));
+        sofar = sofar.intersect(deduce_from(
+            coefficient,
+            monomial,
+            terms,
+            sign,
+            run,
+            q,
+            SignSet(held),
+        ));
         if sofar.0 == floor.0 {
             return sofar;
         }

@@ -24,7 +24,7 @@ lends-block : tie.Need-slice-aggregate-tell-answer
 lends-block c =
     let told = c .before .before in
     let simplifying = told .before .before .before .before .simplify-by in
-    sym (length-take-le _ (simplifying .last .1 .0) (answer-inside (simplifying .ensures .0) (told .answer2 .given .1)))
+    sym (length-take-le _ (simplifying .last .1 .1 .0) (answer-inside (simplifying .ensures .0) (told .answer2 .given .1)))
 
 small : tie.Need-tell-answer-requires
 small c κs =
