@@ -71,6 +71,16 @@ static inline size_t placardpan_length(uint32_t answer)
     return answer < 256 ? 0 : answer & 0xffff;
 }
 
+/* The engines that deduce (request #110): the fast one, which every other function takes, and the plain one, which tests single values as a person would.
+ * Both give the same answer; the plain one takes some 2 to 200 times as long. */
+enum {
+    PLACARDPAN_FAST = 0,
+    PLACARDPAN_PLAIN = 1
+};
+
+/* placardpan_simplify by the chosen engine; a number that names none is the fast one. */
+uint32_t placardpan_simplify_by(uint8_t engine, const uint8_t *input, size_t input_length, uint8_t *output, size_t output_length);
+
 /* The same, with the counts over the two blocks, each through a number of the caller's; all 0 on refusal.
  * Polynomials in: the different non-constant normal forms that the input's tree uses. Equal, multiple and negated polynomials are one form, a constant
  * is none, a polynomial that no atom names is none; an atom with the empty or the full set uses its polynomial all the same. Polynomials out: the size

@@ -28,7 +28,7 @@ int main(int count, char **arguments)
     FILE *file;
     size_t length, filled, lines, i;
     size_t atoms_in, atoms_out, polynomials_in, polynomials_out, rounds;
-    uint32_t answer, again, placed, timed;
+    uint32_t answer, again, placed, timed, plain;
 
     if (count != 2 || (file = fopen(arguments[1], "rb")) == NULL) {
         fprintf(stderr, "usage: example FILE.block\n");
@@ -39,6 +39,9 @@ int main(int count, char **arguments)
 
     answer = placardpan_simplify(input, length, output, sizeof output);
     printf("refusal %u, verdict %s, %zu bytes\n", (unsigned)placardpan_refusal(answer), word(placardpan_verdict(answer)), placardpan_length(answer));
+
+    plain = placardpan_simplify_by(PLACARDPAN_PLAIN, input, length, output, sizeof output);
+    printf("by the plain engine %s\n", plain == answer ? "the same" : "another answer");
 
     again = placardpan_counted(input, length, output, sizeof output, &atoms_in, &atoms_out, &polynomials_in, &polynomials_out);
     printf("atoms %zu to %zu, polynomials %zu to %zu\n", atoms_in, atoms_out, polynomials_in, polynomials_out);
@@ -58,5 +61,5 @@ int main(int count, char **arguments)
     lines = placardpan_report(input, length, output, sizeof output, text, sizeof text);
     fwrite(text, 1, lines, stdout);
 
-    return again == answer && placed == answer && timed == answer && filled == placardpan_length(answer) ? 0 : 1;
+    return again == answer && placed == answer && timed == answer && plain == answer && filled == placardpan_length(answer) ? 0 : 1;
 }

@@ -1,6 +1,7 @@
 -- The way of an accepted block through the crates below: what is held, made normal, simplified, collected and written, step by step.
 -- Each step takes what the function of that step ensures, and gives what the next one asks.
 use mathlib.Core.Path.{_≡_, refl, sym, ap, ap₂, _∙_, subst}
+use mathlib.Core.Bool.{Bool}
 use mathlib.Core.List.{List, [], _∷_, _++_, map}
 use Prim.Native.Nat.{ℕ, suc, _%_, _<_, _≤_, max}
 use native.Mathlib.Nat.{zero-add}
@@ -89,7 +90,7 @@ module _ {bytes : List ℕ} {edition : ℕ} {held : Held} {room : ℕ} (accepted
   counts-tokens = subst (λ (h : Held). h .tokens ≤ length (h .token)) (sym (accepted .is))
       (rw (length-sets, length-replicate) (within .nodes))
 
-  prepared-block : (w : WorkingTable) → Worked (heldOf (accepted .given) .coefficient) (heldOf (accepted .given) .monomial) (heldOf (accepted .given) .terms)
+  prepared-block : {plain : Bool} (w : WorkingTable) → Worked plain (heldOf (accepted .given) .coefficient) (heldOf (accepted .given) .monomial) (heldOf (accepted .given) .terms)
       (heldOf (accepted .given) .polynomials) (heldOf (accepted .given) .variables) w
       → Prepared (accepted .given) (heldOf (accepted .given)) w
       (normalTokens (w .number) (w .turned) (heldOf (accepted .given) .tokens) (heldOf (accepted .given) .token))
@@ -106,11 +107,11 @@ module _ {bytes : List ℕ} {edition : ℕ} {held : Held} {room : ℕ} (accepted
   }
 
   -- The tape brought to normal form is prepared.
-  pub prepares : (w : WorkingTable) → Worked (held .coefficient) (held .monomial) (held .terms) (held .polynomials) (held .variables) w
+  pub prepares : {plain : Bool} (w : WorkingTable) → Worked plain (held .coefficient) (held .monomial) (held .terms) (held .polynomials) (held .variables) w
       → (token : List ℕ) → token ≡ normalTokens (w .number) (w .turned) (held .tokens) (held .token) → Prepared (accepted .given) held w token
-  prepares w worked token is =
+  prepares {plain} w worked token is =
       subst (Prepared (accepted .given) held w) (sym is)
-      (subst (λ (h : Held). Worked (h .coefficient) (h .monomial) (h .terms) (h .polynomials) (h .variables) w
+      (subst (λ (h : Held). Worked plain (h .coefficient) (h .monomial) (h .terms) (h .polynomials) (h .variables) w
       → Prepared (accepted .given) h w (normalTokens (w .number) (w .turned) (h .tokens) (h .token))) (sym (accepted .is)) (prepared-block w) worked)
 
 -- ---- the tape that comes out

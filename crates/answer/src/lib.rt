@@ -4,10 +4,13 @@ ghost use mathlib.Core.Path.{_≡_};
 ghost use mathlib.Core.List.{List};
 ghost use Prim.Native.Nat.{ℕ, _≤_};
 ghost use lib.ListN.{length};
+ghost use Rattle.rules.specs.Signs.{bit};
 ghost use Rattle.block.specs.Held.{heldBy};
 ghost use Rattle.answer.specs.Tapes.{plainTokens};
 ghost use Rattle.answer.specs.Answered.{verdictFrom};
 ghost use Rattle.answer.specs.Entry.{Accepted, AcceptedSome, Answers, TellsPlaces, CountsRounds};
+use engines::PLACE;
+use engines::PLAIN;
 use forms::normal_tokens;
 use forms::work;
 use places::give;
@@ -80,9 +83,17 @@ fn plain_tokens(token: &mut [u32], count: usize)
     }
 }
 
-// The answer to what was read, in the edition of what was read, the places of its atoms in the lent slice, and the largest number of rounds so far. The
-// arrays that hold what was read are filled anew with what is written.
+// The mark of an engine, for the working table.
+fn mark(plain: bool) -> u8
+    ensures { λ r. ⌜ r ≡ bit plain ⌝ }
+{
+    if plain { PLAIN } else { 0 }
+}
+
+// The answer to what was read, in the edition of what was read and by the engine that is chosen, the places of its atoms in the lent slice, and the largest
+// number of rounds so far. The arrays that hold what was read are filled anew with what is written.
 pub fn answer_to(
+    plain: bool,
     edition: u64,
     variables: usize,
     polynomials: usize,
@@ -105,7 +116,8 @@ pub fn answer_to(
 {
     let mut form_coefficient = [0i32; 1280];
     let mut form_monomial = [0u64; 1280];
-    let mut form_terms = [0u8; 80];
+    let mut form_terms = [0u8; 81];
+    form_terms[PLACE] = mark(plain);
     let mut number = [0u8; 64];
     let mut turned = [false; 64];
     work(

@@ -20,7 +20,7 @@ use Rattle.deduce.specs.declared.merge.Step.{Step}
 use Rattle.deduce.specs.declared.Run.{Run}
 use Rattle.deduce.specs.Merge.{Gathered, gatherRow, gather, gatherRest, foundFrom, On, Next, Found}
 use Rattle.deduce.specs.Last.{lastOf, Kept, FoundAtZero}
-use Rattle.deduce.proofs.Rows.{Walked, of-none}
+use Rattle.deduce.proofs.Rows.{Walked, of-none, taken-off}
 use Rattle.deduce.proofs.Lasts.{Alike, alike, last-row, last-gone, zero-row, zero-end}
 
 -- ---- where the last t is 0
@@ -75,7 +75,7 @@ last-walk-on {p = p} {q = q} {i = i} {j = j} {y = y} {n = n} w step v kept = rec
   t = kept .t ∙ w .t;
   rest = λ {board} s t k e.
       let here = ap endOf (w .t) ∙ e .is in
-      let more = step .row (signed-within i p (w .first .on) (le-refl p) s) (signed-within j q (w .second .on) (le-refl q) t) (lastOf y) in
+      let more = taken-off (step .row (signed-within i p (w .first .on) (le-refl p) s) (signed-within j q (w .second .on) (le-refl q) t)) (lastOf y) in
       sym (alike (last-row (n .a) (n .b) (e .fraction) here (v (e .fraction) here) kept) k _) ∙ ap (foundFrom k) (sym more) ∙ w .rest s t k e;
 }
 
@@ -107,7 +107,7 @@ module _ {cs : List ℤ} {ms : List ℕ} {ss : List SignSet} {p q : Run} {i j : 
   left-on k s t =
       let mine = signed-within i (p .to) (w .first .on) (le-refl (p .to)) s in
       let its = signed-within j (q .to) (w .second .on) (le-refl (q .to)) t in
-      sym (alike same k _) ∙ ap (foundFrom k) (sym (step .row mine its g) ∙ w .rest s t)
+      sym (alike same k _) ∙ ap (foundFrom k) (sym (taken-off (step .row mine its) g) ∙ w .rest s t)
 
   -- what is found after it is what is found
   pub left-zero : {set v : SignSet} → FoundAtZero cs ss (record { from = n .i; to = p .to }) set x v → Found cs ms ss p q set g₀ v

@@ -15,35 +15,38 @@ use Rattle.deduction_laws.specs.Vanishing.{vanishRows, finding-in-one-pass}
 use Rattle.terms.specs.View.{terms-cons, terms-nil}
 use Rattle.terms.specs.Signed.{Signed, signed-within}
 use Rattle.deduce.specs.declared.merge.Step.{Step}
-use Rattle.deduce.specs.Merge.{Gathered, nothing, gatherRow, gather, gatherRest, foundFrom, On, Next}
+use Rattle.deduce.specs.Merge.{Gathered, nothing, gatherRow, gather, gatherRest, foundFrom, Taken, On, Next}
 
--- what is gathered from the rows of two runs, with the signs that are lent
-module _ {board : Board} (cs : List ℤ) {ms : List ℕ} {ss : List SignSet} {i p j q : ℕ}
-    (first : Signed board ms ss i p) (second : Signed board ms ss j q) (g : Gathered) where
+-- the first of the rows of two runs, with the signs that are lent
+module _ {board : Board} (cs : List ℤ) {ms : List ℕ} {ss : List SignSet} {i p j q : ℕ} (first : Signed board ms ss i p) (second : Signed board ms ss j q) where
   pub of-both : i < p → j < q → getD ms i 0 ≡ getD ms j 0
-      → gatherRest board cs ms i p j q g ≡ gatherRest board cs ms (i + 1) p (j + 1) q (gatherRow (kind (getD ss i 0)) (getD cs i (pos 0)) (getD cs j (pos 0)) g)
-  unfolding rows rowsFrom ofThree row gather
-  of-both h k e = rw (first .at i (le-refl i) h, terms-cons cs ms i p h, terms-cons cs ms j q k) (simp (eq-eqb _ _ e))
+      → Taken board cs ms i p j q (getD cs i (pos 0)) (getD cs j (pos 0)) (kind (getD ss i 0)) (i + 1) (j + 1)
+  unfolding rows rowsFrom ofThree row
+  of-both h k e = record { monomial = getD ms i 0; is = rw (first .at i (le-refl i) h, terms-cons cs ms i p h, terms-cons cs ms j q k) (simp (eq-eqb _ _ e)) }
 
   pub of-p : i < p → j < q → (getD ms i 0 ≡ getD ms j 0 → ⊥) → getD ms j 0 < getD ms i 0
-      → gatherRest board cs ms i p j q g ≡ gatherRest board cs ms (i + 1) p j q (gatherRow (kind (getD ss i 0)) (getD cs i (pos 0)) (pos 0) g)
-  unfolding rows rowsFrom ofThree row gather
-  of-p h k e l = rw (first .at i (le-refl i) h, terms-cons cs ms i p h, terms-cons cs ms j q k) (simp (ne-eqb _ _ e, lt-ltb _ _ l))
+      → Taken board cs ms i p j q (getD cs i (pos 0)) (pos 0) (kind (getD ss i 0)) (i + 1) j
+  unfolding rows rowsFrom ofThree row
+  of-p h k e l = record { monomial = getD ms i 0; is = rw (first .at i (le-refl i) h, terms-cons cs ms i p h, terms-cons cs ms j q k) (simp (ne-eqb _ _ e, lt-ltb _ _ l)) }
 
   pub of-q : i < p → j < q → (getD ms i 0 ≡ getD ms j 0 → ⊥) → getD ms i 0 ≤ getD ms j 0
-      → gatherRest board cs ms i p j q g ≡ gatherRest board cs ms i p (j + 1) q (gatherRow (kind (getD ss j 0)) (pos 0) (getD cs j (pos 0)) g)
-  unfolding rows rowsFrom ofThree row gather
-  of-q h k e l = rw (second .at j (le-refl j) k, terms-cons cs ms i p h, terms-cons cs ms j q k) (simp (ne-eqb _ _ e, le-ltb _ _ l))
+      → Taken board cs ms i p j q (pos 0) (getD cs j (pos 0)) (kind (getD ss j 0)) i (j + 1)
+  unfolding rows rowsFrom ofThree row
+  of-q h k e l = record { monomial = getD ms j 0; is = rw (second .at j (le-refl j) k, terms-cons cs ms i p h, terms-cons cs ms j q k) (simp (ne-eqb _ _ e, le-ltb _ _ l)) }
 
-  pub of-p-alone : i < p → q ≤ j
-      → gatherRest board cs ms i p j q g ≡ gatherRest board cs ms (i + 1) p j q (gatherRow (kind (getD ss i 0)) (getD cs i (pos 0)) (pos 0) g)
-  unfolding rows rowsFrom row gather
-  of-p-alone h k = rw (first .at i (le-refl i) h, terms-cons cs ms i p h, terms-nil cs ms j q k)
+  pub of-p-alone : i < p → q ≤ j → Taken board cs ms i p j q (getD cs i (pos 0)) (pos 0) (kind (getD ss i 0)) (i + 1) j
+  unfolding rows rowsFrom row
+  of-p-alone h k = record { monomial = getD ms i 0; is = rw (first .at i (le-refl i) h, terms-cons cs ms i p h, terms-nil cs ms j q k) }
 
-  pub of-q-alone : p ≤ i → j < q
-      → gatherRest board cs ms i p j q g ≡ gatherRest board cs ms i p (j + 1) q (gatherRow (kind (getD ss j 0)) (pos 0) (getD cs j (pos 0)) g)
-  unfolding rows rowsOfQ row gather
-  of-q-alone h k = rw (second .at j (le-refl j) k, terms-nil cs ms i p h, terms-cons cs ms j q k)
+  pub of-q-alone : p ≤ i → j < q → Taken board cs ms i p j q (pos 0) (getD cs j (pos 0)) (kind (getD ss j 0)) i (j + 1)
+  unfolding rows rowsOfQ row
+  of-q-alone h k = record { monomial = getD ms j 0; is = rw (second .at j (le-refl j) k, terms-nil cs ms i p h, terms-cons cs ms j q k) }
+
+-- what is gathered with it
+pub taken-off : {board : Board} {cs : List ℤ} {ms : List ℕ} {i p j q : ℕ} {a b : ℤ} {s : Kind} {i′ j′ : ℕ} → Taken board cs ms i p j q a b s i′ j′ → (g : Gathered)
+    → gatherRest board cs ms i p j q g ≡ gatherRest board cs ms i′ p j′ q (gatherRow s a b g)
+unfolding gather
+taken-off t g = ap (gather g) (t .is)
 
 -- both runs at their end
 pub of-none : (board : Board) (cs : List ℤ) (ms : List ℕ) (i p j q : ℕ) (g : Gathered) → p ≤ i → q ≤ j → gatherRest board cs ms i p j q g ≡ g
@@ -63,7 +66,7 @@ pub walk-on : {cs : List ℤ} {ms : List ℕ} {ss : List SignSet} {i₀ p j₀ q
 walk-on {p = p} {q = q} {i = i} {j = j} {g = g} w n e = record {
   first = omega arith;
   second = omega arith;
-  rest = λ s t. rw e (sym (n .row (signed-within i p (w .first .on) (le-refl p) s) (signed-within j q (w .second .on) (le-refl q) t) g) ∙ w .rest s t);
+  rest = λ s t. rw e (sym (taken-off (n .row (signed-within i p (w .first .on) (le-refl p) s) (signed-within j q (w .second .on) (le-refl q) t)) g) ∙ w .rest s t);
 }
 
 -- ---- the three results apart

@@ -3,8 +3,8 @@
 use mathlib.Core.Path.{_≡_}
 use mathlib.Core.List.{List, [], _∷_}
 use Prim.Native.Nat.{ℕ, _+_, _<_, _≤_}
-use lib.IntN.{ℤ}
-use lib.ListN.{length}
+use lib.IntN.{ℤ, pos, natAbs}
+use lib.ListN.{length, getD}
 use Rattle.rules.specs.Signs.{SignSet, Kind, kind}
 use Rattle.rules.specs.Polynomial.{Board}
 use Rattle.rules.specs.Deduce.{Interval, cutL, cutU, Row, rows, everyT}
@@ -58,13 +58,23 @@ pub record On (i₀ i p : ℕ) : Type 0 where
   pub on : i₀ ≤ i
   pub within : i ≤ p
 
+-- the rows of the terms at i..p and j..q are a row with this a, b and s, and the rows of those at i′..p and j′..q
+pub record Taken (board : Board) (cs : List ℤ) (ms : List ℕ) (i p j q : ℕ) (a b : ℤ) (s : Kind) (i′ j′ : ℕ) : Type 0 where
+  pub monomial : ℕ
+  pub is : rows board (termsOf cs ms i p) (termsOf cs ms j q)
+      ≡ record { a = a; b = b; monomial = monomial; s = s } ∷ rows board (termsOf cs ms i′ p) (termsOf cs ms j′ q)
+
+-- no coefficient at i..p has a greater magnitude
+pub record AtMost (m : ℕ) (cs : List ℤ) (i p : ℕ) : Type 0 where
+  pub each : (k : ℕ) → i ≤ k → k < p → natAbs (getD cs k (pos 0)) ≤ m
+
 -- a row is taken off the two runs
 pub record Next (cs : List ℤ) (ms : List ℕ) (ss : List SignSet) (i p j q : ℕ) (r : Step) : Type 0 where
-  pub row : {board : Board} → Signed board ms ss i p → Signed board ms ss j q → (g : Gathered)
-      → gatherRest board cs ms i p j q g ≡ gatherRest board cs ms (r .i) p (r .j) q (gatherRow (kind (r .s)) (r .a) (r .b) g)
+  pub row : {board : Board} → Signed board ms ss i p → Signed board ms ss j q → Taken board cs ms i p j q (r .a) (r .b) (kind (r .s)) (r .i) (r .j)
   pub first : On i (r .i) p
   pub second : On j (r .j) q
   pub less-left : i + j < r .i + r .j
+  pub magnitudes : (m : ℕ) → AtMost m cs i p → AtMost m cs j q → (natAbs (r .a) ≤ m) × (natAbs (r .b) ≤ m)
 
 -- what is found from what is gathered
 abbrev pub foundFrom : Kind → Gathered → SignSet

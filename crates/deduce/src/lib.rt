@@ -1,7 +1,7 @@
 // Deducing p from q, 01 "Deducing p from q": what an atom of q says of p, on a board of the variables' sign sets.
 // p and q are runs of places of lent slices; the sign of each monomial on the board is lent beside them.
-mod last; // one t that is left of L and U
-mod merge; // L, U and where the strict monomials vanish, from the monomials of p or q
+pub mod last; // one t that is left of L and U
+pub mod merge; // L, U and where the strict monomials vanish, from the monomials of p or q
 mod found; // what is found from all of them
 
 ghost use mathlib.Core.Path.{_≡_};

@@ -1,6 +1,6 @@
 -- The working table is what its callers rely on: the four passes, taken together, from what the reader left.
 -- The last law is what the function `working` returns.
-use mathlib.Core.Path.{_≡_, refl, sym, ap, _∙_}
+use mathlib.Core.Path.{_≡_, refl, sym, ap, _∙_, subst}
 use mathlib.Core.Bool.{Bool, true, false}
 use mathlib.Core.List.{List}
 use mathlib.Core.Logic.{⊎-elim}
@@ -10,8 +10,9 @@ use native.Mathlib.Omega.{arith}
 use borrow.Author.Tests.{lt-ltb, ltb-true, eq-eqb, eqb-true, eqb-false}
 use lib.Dec.{eqb, ltb}
 use lib.IntN.{ℤ, pos, natAbs}
-use lib.ListN.{length, getD, replicate, length-replicate}
-use Rattle.rules.specs.Signs.{SignSet}
+use lib.ListN.{length, getD, set, length-set, replicate, length-replicate}
+use lib.Seq.{getD-set-same, getD-set-other}
+use Rattle.rules.specs.Signs.{SignSet, bit}
 use Rattle.rules.specs.Polynomial.{Polynomial, Atom, normal, same}
 use Rattle.rules.specs.Limits.{TermsWithin, terms}
 use Rattle.terms.specs.View.{termsFrom}
@@ -65,15 +66,28 @@ no-count zero k = omega arith
 no-count (suc n) zero = omega arith
 no-count (suc n) (suc k) = no-count n k
 
+one-bit : (b : Bool) → bit b ≤ 16
+unfolding bit
+one-bit true = omega arith
+one-bit false = omega arith
+
+few-counts : (plain : Bool) (k : ℕ) → getD (set (replicate 81 0) 80 (bit plain)) k 0 ≤ 16
+few-counts plain k = by (eqb 80 k) refl
+  where
+    by : (b : Bool) → eqb 80 k ≡ b → getD (set (replicate 81 0) 80 (bit plain)) k 0 ≤ 16
+    by true e = subst (λ (k : ℕ). getD (set (replicate 81 0) 80 (bit plain)) k 0 ≤ 16) (eqb-true 80 k e)
+        (rw (getD-set-same (replicate 81 0) 80 (bit plain) 0 (omega (arith, length-replicate {A = ℕ} 81 0))) (one-bit plain))
+    by false e = rw (getD-set-other (replicate 81 0) 80 k (bit plain) 0 (λ f. eqb-false 80 k e (sym f))) (no-count 81 k)
+
 -- The empty table has its lengths.
-pub blank-sized : Sized blank
+pub blank-sized : (plain : Bool) → Sized (blank plain)
 unfolding blank
-blank-sized = record {
+blank-sized plain = record {
   laid = record {
     coefficients = length-replicate 1280 (pos 0);
     monomials = length-replicate {A = ℕ} 1280 0;
-    counts = length-replicate {A = ℕ} 80 0;
-    few = no-count 80;
+    counts = length-set (replicate 81 0) 80 (bit plain) ∙ length-replicate {A = ℕ} 81 0;
+    few = few-counts plain;
   };
   numbers = length-replicate {A = ℕ} 64 0;
   flags = length-replicate 64 false;
@@ -117,9 +131,9 @@ module _ (m : ℕ) (few : m ≤ 64) (w : WorkingTable) (sized : Sized w) where
 
 -- ---- The whole table.
 
-module _ (cs : List ℤ) (ms ts : List ℕ) (m n : ℕ) (read : TableRead cs ms ts m n) where
+module _ (plain : Bool) (cs : List ℤ) (ms ts : List ℕ) (m n : ℕ) (read : TableRead cs ms ts m n) where
   abbrev normals : WorkingTable
-  normals = withForms cs ms ts m blank
+  normals = withForms cs ms ts m (blank plain)
 
   abbrev own : ℕ → Bool
   own = isOwn (withNumbers m normals .number) m
@@ -128,7 +142,7 @@ module _ (cs : List ℤ) (ms ts : List ℕ) (m n : ℕ) (read : TableRead cs ms 
   whole = withVariables n (withFillers m (withNumbers m normals))
 
   normals-sized : Sized normals
-  normals-sized = normalized-sized cs ms ts m (readable cs ms ts m n read) blank blank-sized
+  normals-sized = normalized-sized cs ms ts m (readable cs ms ts m n read) (blank plain) (blank-sized plain)
 
   with-numbers : Sized (withNumbers m normals)
   with-numbers = numbered-sized m (read .polynomials) normals normals-sized
@@ -149,7 +163,7 @@ module _ (cs : List ℤ) (ms ts : List ℕ) (m n : ℕ) (read : TableRead cs ms 
 
   -- The polynomial of a normal form.
   normal-of : (i : ℕ) → i < m → formIn normals i ≡ normal (record { polynomial = slotOf cs ms ts i; set = 1 }) .polynomial
-  normal-of i h = ap (λ (a : Atom). a .polynomial) (normalized-form cs ms ts m (readable cs ms ts m n read) blank blank-sized i 1 h)
+  normal-of i h = ap (λ (a : Atom). a .polynomial) (normalized-form cs ms ts m (readable cs ms ts m n read) (blank plain) (blank-sized plain) i 1 h)
 
   -- Each of the first 64 slots holds its own normal form.
   own-normal : (k : ℕ) (s : SignSet) → k < 64 → normal (record { polynomial = formIn whole k; set = s }) ≡ record { polynomial = formIn whole k; set = s }
@@ -207,7 +221,7 @@ module _ (cs : List ℤ) (ms ts : List ℕ) (m n : ℕ) (read : TableRead cs ms 
       ∙ number-form normals i
 
   -- The working table of what the reader left is as its callers rely on.
-  pub worked : Worked cs ms ts m n (workingOf cs ms ts m n)
+  pub worked : Worked plain cs ms ts m n (workingOf plain cs ms ts m n)
   unfolding workingOf formAt
   worked = record {
     is = refl;
@@ -224,17 +238,17 @@ module _ (cs : List ℤ) (ms ts : List ℕ) (m n : ℕ) (read : TableRead cs ms 
     below = λ i h. rw (number-of i h) (number-small i h);
     atoms = λ i s h.
         ap (λ (p : Polynomial). record { polynomial = p; set = turnedSet (getD (whole .turned) i false) s }) (numbered-form i h)
-        ∙ normalized-form cs ms ts m (readable cs ms ts m n read) blank blank-sized i s h;
+        ∙ normalized-form cs ms ts m (readable cs ms ts m n read) (blank plain) (blank-sized plain) i s h;
   }
 
 -- What the calls of the passes leave, one after the other, is the working table.
-pub assembled : (cs : List ℤ) (ms ts : List ℕ) (m n : ℕ) {c₁ c₂ c₃ : List ℤ} {m₁ m₂ m₃ t₁ t₂ t₃ numbers : List ℕ} {flags : List Bool}
-    → c₁ ≡ withForms cs ms ts m blank .coefficient → flags ≡ withForms cs ms ts m blank .turned
-    → m₁ ≡ withForms cs ms ts m blank .monomial → t₁ ≡ withForms cs ms ts m blank .terms
-    → numbers ≡ numberedSlots c₁ m₁ t₁ (blank .number) m
+pub assembled : (plain : Bool) (cs : List ℤ) (ms ts : List ℕ) (m n : ℕ) {c₁ c₂ c₃ : List ℤ} {m₁ m₂ m₃ t₁ t₂ t₃ numbers : List ℕ} {flags : List Bool}
+    → c₁ ≡ withForms cs ms ts m (blank plain) .coefficient → flags ≡ withForms cs ms ts m (blank plain) .turned
+    → m₁ ≡ withForms cs ms ts m (blank plain) .monomial → t₁ ≡ withForms cs ms ts m (blank plain) .terms
+    → numbers ≡ numberedSlots c₁ m₁ t₁ (blank plain .number) m
     → (c₂ ≡ filledCoefficients (isOwn numbers m) c₁) × (m₂ ≡ filledMonomials (isOwn numbers m) m₁) × (t₂ ≡ filledCounts (isOwn numbers m) t₁)
     → (c₃ ≡ variableCoefficients n c₂) × (m₃ ≡ variableMonomials n m₂) × (t₃ ≡ variableCounts n t₂)
-    → record { coefficient = c₃; monomial = m₃; terms = t₃; number = numbers; turned = flags } ≡ workingOf cs ms ts m n
+    → record { coefficient = c₃; monomial = m₃; terms = t₃; number = numbers; turned = flags } ≡ workingOf plain cs ms ts m n
 unfolding workingOf
-assembled cs ms ts m n coefficients turned monomials counts number fill variables =
+assembled plain cs ms ts m n coefficients turned monomials counts number fill variables =
     rw (variables .0, variables .1, variables .2, fill .0, fill .1, fill .2, number, coefficients, turned, monomials, counts)

@@ -1,7 +1,7 @@
 -- The reader's arrays hold a block's table: each polynomial in the slot of its number.
 -- So the working table gives each atom of the block's tree its normal form.
 use mathlib.Core.Path.{_≡_, ap, _∙_}
-use mathlib.Core.Bool.{false}
+use mathlib.Core.Bool.{Bool, false}
 use mathlib.Core.List.{List, [], _∷_}
 use Prim.Native.Nat.{ℕ, zero, suc, _<_, _≤_}
 use native.Mathlib.Omega.{arith}
@@ -42,7 +42,7 @@ module _ (cs : List ℤ) (ms ts : List ℕ) (n : ℕ) (table : List Polynomial) 
   }
 
   -- An atom of the block's tree has for its normal form the form that its polynomial's number names.
-  pub atom-normal : (w : WorkingTable) → Worked cs ms ts (length table) n w → (a : NumberedAtom) → a .number < length table
+  pub atom-normal : {plain : Bool} (w : WorkingTable) → Worked plain cs ms ts (length table) n w → (a : NumberedAtom) → a .number < length table
       → record { polynomial = formAt (tableOf n w) (getD (w .number) (a .number) 0); set = turnedSet (getD (w .turned) (a .number) false) (a .set) }
       ≡ normal (lookedUp table a)
   unfolding lookedUp

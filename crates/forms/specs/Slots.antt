@@ -48,7 +48,7 @@ copied source target count = stores 0 (λ i. i) (λ i x. getD source i 0) target
 pub record Laid (cs : List ℤ) (ms ts : List ℕ) : Type 0 where
   pub coefficients : length cs ≡ 1280
   pub monomials : length ms ≡ 1280
-  pub counts : length ts ≡ 80
+  pub counts : length ts ≡ 81
   pub few : (i : ℕ) → getD ts i 0 ≤ 16
 
 -- Whether the terms at two places are equal, as the book's `same` asks it.

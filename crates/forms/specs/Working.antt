@@ -1,12 +1,13 @@
 -- The working table of a block's polynomials: how it comes about in four passes, and what its callers rely on.
 -- `workingOf` determines every element; the record `Worked` is the promise of the function `working`.
 use mathlib.Core.Path.{_≡_}
-use mathlib.Core.Bool.{Bool, false}
+use mathlib.Core.Bool.{Bool, true, false}
 use mathlib.Core.List.{List}
 use Prim.Native.Nat.{ℕ, _*_, _<_, _≤_}
 use lib.IntN.{ℤ, pos}
-use lib.ListN.{length, getD, replicate}
-use Rattle.rules.specs.Signs.{SignSet}
+use lib.Dec.{eqb}
+use lib.ListN.{length, getD, set, replicate}
+use Rattle.rules.specs.Signs.{SignSet, bit}
 use Rattle.rules.specs.Polynomial.{normal}
 use Rattle.rules.specs.Limits.{PolynomialWithin}
 use Rattle.table.specs.Table.{Table, formAt, Forms}
@@ -30,9 +31,19 @@ workingBy coefficient monomial terms number turned = record { coefficient = coef
 
 -- ---- The passes.
 
--- The arrays before the first pass.
-unfoldable pub blank : WorkingTable
-blank = record { coefficient = replicate 1280 (pos 0); monomial = replicate 1280 0; terms = replicate 80 0; number = replicate 64 0; turned = replicate 64 false }
+-- Whether the mark behind the counts is that of the plain engine.
+abbrev pub isPlain : List ℕ → Bool
+isPlain ts = eqb (getD ts 80 0) 1
+
+-- The arrays before the first pass: blank, save the mark.
+unfoldable pub blank : Bool → WorkingTable
+blank plain = record {
+  coefficient = replicate 1280 (pos 0);
+  monomial = replicate 1280 0;
+  terms = set (replicate 81 0) 80 (bit plain);
+  number = replicate 64 0;
+  turned = replicate 64 false;
+}
 
 -- The polynomials in normal form, each in the slot of its number in the block.
 abbrev pub withForms : List ℤ → List ℕ → List ℕ → ℕ → WorkingTable → WorkingTable
@@ -75,8 +86,8 @@ withVariables n w = record {
 }
 
 -- The working table of the first m polynomials of n variables in the arrays cs, ms, ts.
-unfoldable pub workingOf : List ℤ → List ℕ → List ℕ → ℕ → ℕ → WorkingTable
-workingOf cs ms ts m n = withVariables n (withFillers m (withNumbers m (withForms cs ms ts m blank)))
+unfoldable pub workingOf : Bool → List ℤ → List ℕ → List ℕ → ℕ → ℕ → WorkingTable
+workingOf plain cs ms ts m n = withVariables n (withFillers m (withNumbers m (withForms cs ms ts m (blank plain))))
 
 -- ---- What callers rely on.
 
@@ -86,8 +97,8 @@ tableOf n w = record { variables = n; coefficient = w .coefficient; monomial = w
 
 -- Every element is determined. The table is one of normal forms, each once. An atom of polynomial i has for its normal form the form that the number of
 -- i names, with the set mirrored if the polynomial was negated.
-pub record Worked (cs : List ℤ) (ms ts : List ℕ) (m n : ℕ) (w : WorkingTable) : Type 0 where
-  pub is : w ≡ workingOf cs ms ts m n
+pub record Worked (plain : Bool) (cs : List ℤ) (ms ts : List ℕ) (m n : ℕ) (w : WorkingTable) : Type 0 where
+  pub is : w ≡ workingOf plain cs ms ts m n
   pub forms : Forms (tableOf n w)
   pub below : (i : ℕ) → i < m → getD (w .number) i 0 < 64
   pub atoms : (i : ℕ) (s : SignSet) → i < m

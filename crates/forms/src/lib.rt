@@ -1,10 +1,11 @@
 // The working table of a block, 01 "Normal form": its polynomials in normal form, numbered so that equal forms share a number.
 // An atom then names a form by its slot, and two polynomials are the same exactly if their numbers are.
 ghost use mathlib.Core.Path.{_≡_};
+ghost use mathlib.Core.Bool.{false};
 ghost use Prim.Native.Nat.{_<_, _≤_};
 ghost use lib.ListN.{length};
 ghost use Rattle.normal.specs.Normal.{turnedSet};
-ghost use Rattle.forms.specs.Working.{TableRead, workingBy, blank, Worked};
+ghost use Rattle.forms.specs.Working.{TableRead, workingBy, blank, isPlain, Worked};
 ghost use Rattle.forms.specs.Tokens.{normalToken, normalTokens};
 use signs::SignSet;
 
@@ -14,15 +15,15 @@ mod slots;
 pub struct WorkingTable {
     pub coefficient: [i32; 1280],
     pub monomial: [u64; 1280],
-    // how many terms the form in a slot has
-    pub terms: [u8; 80],
+    // how many terms the form in a slot has, and behind these the mark of the engine
+    pub terms: [u8; 81],
     // the slot of each polynomial's normal form
     pub number: [u8; 64],
     // whether the polynomial was negated
     pub turned: [bool; 64],
 }
 
-// Makes the working table of the polynomials that the reader left in its arrays, in blank arrays that are lent.
+// Makes the working table of the polynomials that the reader left in its arrays, in arrays that are lent: blank, save the engine's mark behind the counts.
 pub fn work(
     coefficient: &[i32],
     monomial: &[u64],
@@ -36,8 +37,8 @@ pub fn work(
     turned: &mut [bool],
 )
     requires { ⌜ TableRead (now coefficient) (now monomial) (now terms) polynomials variables
-        × (workingBy (now «normal_coefficient») (now «normal_monomial») (now «normal_terms») (now number) (now turned) ≡ blank) ⌝ }
-    ensures { λ _. ⌜ Worked (now (coefficient .entry)) (now (monomial .entry)) (now (terms .entry)) polynomials variables
+        × (workingBy (now «normal_coefficient») (now «normal_monomial») (now «normal_terms») (now number) (now turned) ≡ blank (isPlain (now «normal_terms»))) ⌝ }
+    ensures { λ _. ⌜ Worked (isPlain (now («normal_terms» .entry))) (now (coefficient .entry)) (now (monomial .entry)) (now (terms .entry)) polynomials variables
         (workingBy (now («normal_coefficient» .exit)) (now («normal_monomial» .exit)) (now («normal_terms» .exit)) (now (number .exit)) (now (turned .exit))) ⌝ }
 {
     slots::normalize_all(coefficient, terms, normal_coefficient, turned, polynomials);
@@ -60,7 +61,7 @@ pub fn work(
     slots::put_variables(normal_coefficient, normal_monomial, normal_terms, variables);
 }
 
-// The same as a value.
+// The same as a value, with the mark of the fast engine.
 pub fn working(
     coefficient: &[i32],
     monomial: &[u64],
@@ -69,11 +70,11 @@ pub fn working(
     variables: usize,
 ) -> WorkingTable
     requires { ⌜ TableRead (now coefficient) (now monomial) (now terms) polynomials variables ⌝ }
-    ensures { λ r. ⌜ Worked (now (coefficient .entry)) (now (monomial .entry)) (now (terms .entry)) polynomials variables r ⌝ }
+    ensures { λ r. ⌜ Worked false (now (coefficient .entry)) (now (monomial .entry)) (now (terms .entry)) polynomials variables r ⌝ }
 {
     let mut normal_coefficient = [0i32; 1280];
     let mut normal_monomial = [0u64; 1280];
-    let mut normal_terms = [0u8; 80];
+    let mut normal_terms = [0u8; 81];
     let mut number = [0u8; 64];
     let mut turned = [false; 64];
     work(

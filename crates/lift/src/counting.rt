@@ -23,5 +23,5 @@ pub fn with_rounds(input: &[u8], output: &mut [u8]) -> WithRounds
         };
     }
     let mut places = [0u8; 255];
-    answered(input, output, &mut places, 0)
+    answered(false, input, output, &mut places, 0)
 }

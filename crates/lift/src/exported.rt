@@ -13,6 +13,7 @@ use crate::length_in;
 use crate::placing::placed;
 use crate::report;
 use crate::simplify;
+use crate::simplify_by;
 
 // The verdict's number and the length in one; a block has at most 12,684 bytes.
 fn packed(verdict: Verdict, size: usize) -> u32
@@ -66,6 +67,15 @@ pub extern "C" fn placardpan_simplify(input: &[u8], output: &mut [u8]) -> u32
     ensures { λ r. ⌜ ExportsAnswer (now (input .entry)) (now (output .entry)) (now (output .exit)) r ⌝ }
 {
     let given = simplify(input, output);
+    number_in(given)
+}
+
+// `simplify_by`: the engine is 1 for the plain one; any other number takes the fast one. The outcome is that of `placardpan_simplify`.
+#[no_mangle]
+pub extern "C" fn placardpan_simplify_by(engine: u8, input: &[u8], output: &mut [u8]) -> u32
+    ensures { λ r. ⌜ ExportsAnswer (now (input .entry)) (now (output .entry)) (now (output .exit)) r ⌝ }
+{
+    let given = simplify_by(engine == 1, input, output);
     number_in(given)
 }
 

@@ -27,14 +27,21 @@ use block::edition;
 use block::read_into;
 pub use counting::with_rounds;
 pub use placing::placed;
+pub use placing::placed_by;
 use telling::tell_answer;
 use telling::tell_refusal;
 
 // No run takes more rounds (`laws/Rounds: few-rounds`): where this is the largest number so far, none is counted.
 pub const MOST_ROUNDS: usize = 161;
 
-// Reads a block and answers it, where the output has room for it and the slice for the places of its atoms; with the largest number of rounds so far.
-fn answered(input: &[u8], output: &mut [u8], places: &mut [u8], largest: usize) -> WithRounds
+// Reads a block and answers it by the engine that is chosen, where the output has room for it and the slice for the places of its atoms; with the largest number of rounds so far.
+fn answered(
+    plain: bool,
+    input: &[u8],
+    output: &mut [u8],
+    places: &mut [u8],
+    largest: usize,
+) -> WithRounds
     requires { ⌜ (length (now input) ≤ length (now output)) × (255 ≤ length (now places)) ⌝ }
     ensures { λ r. ⌜ Answers (now (input .entry)) (now (output .entry)) (now (output .exit)) (r .answer)
         × (Places (now (input .entry)) (length (now (output .entry))) (now (places .entry)) (now (places .exit))
@@ -64,6 +71,7 @@ fn answered(input: &[u8], output: &mut [u8], places: &mut [u8], largest: usize) 
         } => {
             let number = edition(input);
             answer_to(
+                plain,
                 number,
                 variables,
                 polynomials,
@@ -82,7 +90,8 @@ fn answered(input: &[u8], output: &mut [u8], places: &mut [u8], largest: usize) 
 }
 
 // Reads a block, simplifies it and writes the new block to the output's first bytes. Every input is answered or refused.
-pub fn simplify(input: &[u8], output: &mut [u8]) -> Answer
+// 02, #110: the user chooses the engine that deduces, the plain one or the fast one; both give the same answer.
+pub fn simplify_by(plain: bool, input: &[u8], output: &mut [u8]) -> Answer
     ensures { λ r. ⌜ Answers (now (input .entry)) (now (output .entry)) (now (output .exit)) r
         × SameLifts (readBlock (now (input .entry))) (answer (length (now (output .entry))) (now (input .entry)))
         × NeverLonger (now (input .entry)) (answer (length (now (output .entry))) (now (input .entry))) ⌝ }
@@ -91,8 +100,17 @@ pub fn simplify(input: &[u8], output: &mut [u8]) -> Answer
         return Answer::Refused(1);
     }
     let mut places = [0u8; 255];
-    let known = answered(input, output, &mut places, MOST_ROUNDS);
+    let known = answered(plain, input, output, &mut places, MOST_ROUNDS);
     known.answer
+}
+
+// The same by the fast engine.
+pub fn simplify(input: &[u8], output: &mut [u8]) -> Answer
+    ensures { λ r. ⌜ Answers (now (input .entry)) (now (output .entry)) (now (output .exit)) r
+        × SameLifts (readBlock (now (input .entry))) (answer (length (now (output .entry))) (now (input .entry)))
+        × NeverLonger (now (input .entry)) (answer (length (now (output .entry))) (now (input .entry))) ⌝ }
+{
+    simplify_by(false, input, output)
 }
 
 // "A refusal returns its number and length 0"; an answer has its length.
@@ -118,11 +136,11 @@ pub fn simplified<'a>(input: &[u8], output: &'a mut [u8]) -> &'a mut [u8]
 }
 
 // The program's lines for an input: simplifies it, and writes the report line and the hex line to the text's first bytes. Returns how many bytes they
-// are; if they do not fit, 0, and the text keeps each byte.
-pub fn report(input: &[u8], output: &mut [u8], text: &mut [u8]) -> usize
+// are; if they do not fit, 0, and the text keeps each byte. The engine is the chosen one.
+pub fn report_by(plain: bool, input: &[u8], output: &mut [u8], text: &mut [u8]) -> usize
     ensures { λ r. ⌜ Reports (now (input .entry)) (now (output .entry)) (now (output .exit)) (now (text .entry)) (now (text .exit)) r ⌝ }
 {
-    let answer = simplify(input, output);
+    let answer = simplify_by(plain, input, output);
     match answer {
         Answer::Refused(number) => tell_refusal(number, text),
         Answer::Answered {
@@ -131,4 +149,11 @@ pub fn report(input: &[u8], output: &mut [u8], text: &mut [u8]) -> usize
             counts,
         } => tell_answer(verdict, counts, &output[..length], text),
     }
+}
+
+// The same by the fast engine.
+pub fn report(input: &[u8], output: &mut [u8], text: &mut [u8]) -> usize
+    ensures { λ r. ⌜ Reports (now (input .entry)) (now (output .entry)) (now (output .exit)) (now (text .entry)) (now (text .exit)) r ⌝ }
+{
+    report_by(false, input, output, text)
 }

@@ -10,7 +10,8 @@ use crate::MOST_ROUNDS;
 use crate::answered;
 
 // As `simplify`, and the place of the input atom that each atom of the new block comes from, in order: the first bytes of the lent slice of places.
-pub fn placed(input: &[u8], output: &mut [u8], places: &mut [u8]) -> Answer
+// The engine is the chosen one.
+pub fn placed_by(plain: bool, input: &[u8], output: &mut [u8], places: &mut [u8]) -> Answer
     ensures { λ r. let given = placedAnswer (length (now (output .entry))) (length (now (places .entry))) (now (input .entry)) in
         ⌜ PlacedAnswers (now (input .entry)) (now (output .entry)) (now (output .exit)) (now (places .entry)) (now (places .exit)) r
         × SameLifts (readBlock (now (input .entry))) given × NeverLonger (now (input .entry)) given × PlacesTell (readBlock (now (input .entry))) ⌝ }
@@ -21,6 +22,15 @@ pub fn placed(input: &[u8], output: &mut [u8], places: &mut [u8]) -> Answer
     if places.len() < 255 {
         return Answer::Refused(18);
     }
-    let known = answered(input, output, places, MOST_ROUNDS);
+    let known = answered(plain, input, output, places, MOST_ROUNDS);
     known.answer
+}
+
+// The same by the fast engine.
+pub fn placed(input: &[u8], output: &mut [u8], places: &mut [u8]) -> Answer
+    ensures { λ r. let given = placedAnswer (length (now (output .entry))) (length (now (places .entry))) (now (input .entry)) in
+        ⌜ PlacedAnswers (now (input .entry)) (now (output .entry)) (now (output .exit)) (now (places .entry)) (now (places .exit)) r
+        × SameLifts (readBlock (now (input .entry))) given × NeverLonger (now (input .entry)) given × PlacesTell (readBlock (now (input .entry))) ⌝ }
+{
+    placed_by(false, input, output, places)
 }

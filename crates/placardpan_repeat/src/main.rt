@@ -1,4 +1,4 @@
-// How often, in 4 bytes, most significant first, then a block: `lift::simplify` is called so often, with the argument `rounds`
+// How often, in 4 bytes, most significant first, then a block: `lift::simplify_by` is called so often, with the argument `rounds`
 // `lift::with_rounds`, and document 01's lines are printed once, with those that the arguments ask for.
 // For measuring one call: a second run with another number takes reading, printing and the start of the program off.
 ghost use Prim.Native.Nat.{_≤_};
@@ -20,19 +20,19 @@ fn times() -> u64 {
     wide(head[0]) * 16777216 + wide(head[1]) * 65536 + wide(head[2]) * 256 + wide(head[3])
 }
 
-fn call(input: &[u8], output: &mut [u8], rounds: bool) {
+fn call(input: &[u8], output: &mut [u8], plain: bool, rounds: bool) {
     if rounds {
         lift::with_rounds(input, output);
         return;
     }
-    lift::simplify(input, output);
+    lift::simplify_by(plain, input, output);
 }
 
 // Answers the block so many times, and once at least; the last answer is printed.
 fn repeat(input: &[u8], output: &mut [u8], text: &mut [u8], times: u64, asked: Asked) {
     let mut left = times;
     while 1 < left {
-        call(input, output, asked.rounds);
+        call(input, output, asked.plain, asked.rounds);
         left -= 1;
     }
     print_asked(input, output, text, asked);

@@ -170,19 +170,19 @@ roots-small [] us h s = s
 roots-small (x ∷ xs) us h s = let r = h x (here refl) in
     roots-small xs (withRoot (x .a) (x .b) us) (λ y m. h y (later m)) (root-small (x .a) (x .b) us (r .a) (r .b) s)
 
-double : {t : Fraction} → Small largest t → Small (2 * largest) t
+pub double : {t : Fraction} → Small largest t → Small (2 * largest) t
 double h = record { numerator = omega (arith, h .numerator); denominator = omega (arith, h .denominator) }
 
-between-small : {t u : Fraction} → Small largest t → Small largest u → Small (2 * largest) (between t u)
+pub between-small : {t u : Fraction} → Small largest t → Small largest u → Small (2 * largest) (between t u)
 between-small {t} {u} h k = record {
   numerator = omega (arith, magnitude-sum (t .numerator) (u .numerator), h .numerator, k .numerator);
   denominator = omega (arith, h .denominator, k .denominator);
 }
 
-one-more-small : {t : Fraction} → Small largest t → Small (2 * largest) (oneMore t)
+pub one-more-small : {t : Fraction} → Small largest t → Small (2 * largest) (oneMore t)
 one-more-small {t} h = record { numerator = omega (arith, magnitude-sum (t .numerator) (denominator t), h .numerator, h .denominator); denominator = omega (arith, h .denominator) }
 
-one-less-small : {t : Fraction} → Small largest t → Small (2 * largest) (oneLess t)
+pub one-less-small : {t : Fraction} → Small largest t → Small (2 * largest) (oneLess t)
 one-less-small {t} h = record { numerator = omega (arith, magnitude-sum (t .numerator) (negℤ (denominator t)), h .numerator, h .denominator); denominator = omega (arith, h .denominator) }
 
 up-small : (t : Fraction) (us : List Fraction) → AllSmall largest (t ∷ us) → AllSmall (2 * largest) (upFrom t us)

@@ -44,7 +44,7 @@ sign-at t a b =
 
 -- ---- The two sides: what is asked of a + tb, and of t.
 
-abbrev asks : Side → Kind → SignSet
+abbrev pub asks : Side → Kind → SignSet
 asks L = asksL
 asks U = asksU
 
@@ -52,7 +52,7 @@ abbrev wanted : Side → Kind → SignSet
 wanted L = wantedL
 wanted U = wantedU
 
-asks-as : (side : Side) (k : Kind) → asks side k ≡ named (asked side k)
+pub asks-as : (side : Side) (k : Kind) → asks side k ≡ named (asked side k)
 unfolding asksL asksU open-signs
 asks-as L k = elim k [ ∅ ↦ refl | >0 ↦ refl | =0 ↦ refl | ≥0 ↦ refl | <0 ↦ refl | ≠0 ↦ refl | ≤0 ↦ refl | any ↦ refl ]
 asks-as U k = elim k [ ∅ ↦ refl | >0 ↦ refl | =0 ↦ refl | ≥0 ↦ refl | <0 ↦ refl | ≠0 ↦ refl | ≤0 ↦ refl | any ↦ refl ]

@@ -1,6 +1,6 @@
 // The lines for a block on standard output: what the two programs share.
-// What is printed is `lift::report`'s text, with the argument `places` the places that `lift::placed` tells, and with `rounds` the number that
-// `lift::with_rounds` does; that standard output takes it is no promise of ours.
+// What is printed is `lift::report_by`'s text, with the argument `places` the places that `lift::placed_by` tells, and with `rounds` the number that
+// `lift::with_rounds` does; the argument `plain` chooses the plain engine (02, #110). That standard output takes it is no promise of ours.
 use answer::Answer;
 use libc::STDOUT_FILENO;
 
@@ -11,13 +11,13 @@ fn print_first(text: &[u8], length: usize) {
     }
 }
 
-// Answers an input, with the output and the text to work in, and prints its lines.
-pub fn print_answer(input: &[u8], output: &mut [u8], text: &mut [u8]) {
-    let length = lift::report(input, output, text);
+// Answers an input by the chosen engine, with the output and the text to work in, and prints its lines.
+pub fn print_answer(plain: bool, input: &[u8], output: &mut [u8], text: &mut [u8]) {
+    let length = lift::report_by(plain, input, output, text);
     print_first(text, length);
 }
 
-// ---- the places of the atoms, 02 #105
+// ---- the arguments
 
 // Whether the first bytes of one slice are the other.
 fn begins(bytes: &[u8], length: usize, word: &[u8]) -> bool {
@@ -38,10 +38,11 @@ fn begins(bytes: &[u8], length: usize, word: &[u8]) -> bool {
     true
 }
 
-// The lines more that the program's arguments ask for.
+// What the program's arguments ask for: the lines more, and the engine.
 pub struct Asked {
     pub places: bool,
     pub rounds: bool,
+    pub plain: bool,
 }
 
 fn is_argument(k: usize, word: &[u8]) -> bool {
@@ -50,17 +51,26 @@ fn is_argument(k: usize, word: &[u8]) -> bool {
     begins(&argument, length, word)
 }
 
-fn either(a: bool, b: bool) -> bool {
-    if a { true } else { b }
+// Whether one of the first three arguments is the word.
+fn is_asked(word: &[u8]) -> bool {
+    if is_argument(1, word) {
+        return true;
+    }
+    if is_argument(2, word) {
+        return true;
+    }
+    is_argument(3, word)
 }
 
-// Whether one of the first two arguments is `places`, and whether one is `rounds`.
 pub fn asked_for() -> Asked {
     Asked {
-        places: either(is_argument(1, b"places"), is_argument(2, b"places")),
-        rounds: either(is_argument(1, b"rounds"), is_argument(2, b"rounds")),
+        places: is_asked(b"places"),
+        rounds: is_asked(b"rounds"),
+        plain: is_asked(b"plain"),
     }
 }
+
+// ---- the places of the atoms, 02 #105
 
 fn wide(byte: u8) -> u64 {
     byte as u64
@@ -82,10 +92,10 @@ fn print_list(places: &[u8], count: usize) {
     io::write_all(STDOUT_FILENO, b"\n");
 }
 
-// Answers an input, with the output to work in, and prints the line of its places; nothing on refusal.
-fn print_places(input: &[u8], output: &mut [u8]) {
+// Answers an input by the chosen engine, with the output to work in, and prints the line of its places; nothing on refusal.
+fn print_places(plain: bool, input: &[u8], output: &mut [u8]) {
     let mut places = [0u8; 255];
-    let answer = lift::placed(input, output, &mut places);
+    let answer = lift::placed_by(plain, input, output, &mut places);
     match answer {
         Answer::Refused(_) => {}
         Answer::Answered {
@@ -121,9 +131,9 @@ fn print_rounds(input: &[u8], output: &mut [u8]) {
 
 // Answers an input and prints its lines, then that of its places and that of its rounds, if they were asked for.
 pub fn print_asked(input: &[u8], output: &mut [u8], text: &mut [u8], asked: Asked) {
-    print_answer(input, output, text);
+    print_answer(asked.plain, input, output, text);
     if asked.places {
-        print_places(input, output);
+        print_places(asked.plain, input, output);
     }
     if asked.rounds {
         print_rounds(input, output);

@@ -40,7 +40,7 @@ signedTable board ms ts ss = signedSlots board ms ts (λ k. k) ss 0 80
 -- What working them out asks of the slices: eighty slots of at most sixteen terms each.
 pub record Slots (ms ts ss : List ℕ) : Type 0 where
   pub monomials : length ms ≡ 1280
-  pub counts : length ts ≡ 80
+  pub counts : length ts ≡ 81
   pub few : (k : ℕ) → getD ts k 0 ≤ 16
   pub signs : length ss ≡ 1280
 

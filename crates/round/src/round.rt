@@ -16,7 +16,7 @@ use crate::list::many;
 use crate::slots::places;
 use crate::slots::sign_list;
 use deduce::any_empty;
-use deduce::deduce_from;
+use engines::deduce_from;
 use signs::SignSet;
 use table::Atoms;
 use terms::Board;
@@ -62,7 +62,15 @@ pub fn cut_down(
         i += 1;
         let k = (number % 64) as usize;
         let q = places(terms, k);
-        sofar = sofar.intersect(deduce_from(coefficient, monomial, sign, run, q, SignSet(held)));
+        sofar = sofar.intersect(deduce_from(
+            coefficient,
+            monomial,
+            terms,
+            sign,
+            run,
+            q,
+            SignSet(held),
+        ));
         if sofar.0 == floor.0 {
             return sofar;
         }

@@ -25,7 +25,7 @@ pub enum Holds {
 
 // The places of slot k.
 pub fn places(terms: &[u8], k: usize) -> Run
-    requires { ⌜ (k < 80) × (length (now terms) ≡ 80) ⌝ }
+    requires { ⌜ (k < 80) × (length (now terms) ≡ 81) ⌝ }
     ensures { λ r. ⌜ (r .from ≡ 16 * k) × (r .to ≡ 16 * k + getD (now (terms .entry)) k 0) ⌝ }
 {
     let count = terms[k];

@@ -1,4 +1,5 @@
 -- The working table: eighty slots of sixteen places. Slots 0 to 63 hold normal forms, no form twice; slots 64 to 79 hold the variables.
+-- Behind the eighty counts of terms stands the mark of the engine that deduces, of which no law speaks: both engines find the same.
 -- So a polynomial is the number of its slot, and two are the same exactly if their numbers are.
 use mathlib.Core.Path.{_≡_}
 use mathlib.Core.List.{List, [], _∷_}
@@ -27,7 +28,7 @@ pub record Forms (t : Table) : Type 0 where
   pub variables : t .variables ≤ 16
   pub coefficients : length (t .coefficient) ≡ 1280
   pub monomials : length (t .monomial) ≡ 1280
-  pub counts : length (t .terms) ≡ 80
+  pub counts : length (t .terms) ≡ 81
   pub few : (k : ℕ) → getD (t .terms) k 0 ≤ 16
   pub own : (k : ℕ) (s : SignSet) → k < 64 → normal (record { polynomial = formAt t k; set = s }) ≡ record { polynomial = formAt t k; set = s }
   pub distinct : (j k : ℕ) → j < 64 → k < 64 → same (formAt t j) (formAt t k) ≡ eqb j k

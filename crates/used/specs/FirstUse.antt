@@ -71,7 +71,7 @@ pub record TapeFits (token : List ℕ) (count : ℕ) : Type 0 where
 pub record FormsFit (coefficient : List ℤ) (monomial terms : List ℕ) : Type 0 where
   pub coefficients : length coefficient ≡ 1280
   pub monomials : length monomial ≡ 1280
-  pub counts : length terms ≡ 80
+  pub counts : length terms ≡ 81
   pub few : (slot : ℕ) → getD terms slot 0 ≤ 16
 
 -- The used slots are so many of the 64.

@@ -24,8 +24,11 @@ deduce-from-requires c κs =
     let j = c .before .before .before .before .loop .j in
     let p = c .before .before .before .before .before .places .ensures in
     let q = c .places2 .ensures in (
-      within (run-held (variableSlot (s .args .i)) (ready .forms) (ready .places) (omega (arith, ready .forms .variables)) (p .0) (p .1) (ready .variables (s .args .i) low)),
-      within (run-held (atomSlot (s .args .t6 .number) j) (ready .forms) (ready .places) (omega arith) (q .0) (q .1) (ready .atoms j (omega (arith, c .before .before .before .before .loop .inv .1)))),
+      omega (arith, ready .forms .counts),
+      (
+        within (run-held (variableSlot (s .args .i)) (ready .forms) (ready .places) (omega (arith, ready .forms .variables)) (p .0) (p .1) (ready .variables (s .args .i) low)),
+        within (run-held (atomSlot (s .args .t6 .number) j) (ready .forms) (ready .places) (omega arith) (q .0) (q .1) (ready .atoms j (omega (arith, c .before .before .before .before .loop .inv .1)))),
+      ),
     )
 
 pub cause-spec : {M : Type 1} → statement M

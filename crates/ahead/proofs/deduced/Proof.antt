@@ -40,8 +40,11 @@ deduce-from-requires c κs =
     let p = c .before .before .before .before .before .before .before .before .before .before .places .ensures in
     let q = c .before .before .before .before .before .before .before .before .before .places2 .ensures in
     let both = signed c in (
-      within (run-held {t = table s} (variableSlot (s .args .i)) forms (both .places) (omega (arith, forms .variables)) (p .0) (p .1) (both .first)),
-      within (run-held {t = table s} (atomSlot (s .args .t6 .number) (s .args .j)) forms (both .places) (omega arith) (q .0) (q .1) (both .second)),
+      omega (arith, forms .counts),
+      (
+        within (run-held {t = table s} (variableSlot (s .args .i)) forms (both .places) (omega (arith, forms .variables)) (p .0) (p .1) (both .first)),
+        within (run-held {t = table s} (atomSlot (s .args .t6 .number) (s .args .j)) forms (both .places) (omega arith) (q .0) (q .1) (both .second)),
+      ),
     )
 
 returns : tie.Need-returns

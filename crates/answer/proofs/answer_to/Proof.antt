@@ -1,10 +1,13 @@
 -- `answer_to` meets its contract: what each step ensures is what the next one asks, and at the end the book's answer.
 use borrow.Author.Needs.{needs}
 use mathlib.Core.Path.{_≡_, refl, sym, _∙_, subst}
+use mathlib.Core.Bool.{Bool, true, false}
 use mathlib.Core.List.{List}
 use Prim.Native.Nat.{ℕ}
 use native.Mathlib.Omega.{arith}
-use lib.ListN.{length}
+use lib.IntN.{pos}
+use lib.ListN.{length, set, replicate}
+use Rattle.rules.specs.Signs.{bit}
 use Rattle.rules.specs.Formula.{Node}
 use Rattle.rules.specs.Block.{NumberedAtom}
 use Rattle.rules.specs.Answer.{newBlock}
@@ -12,7 +15,7 @@ use Rattle.block.specs.declared.Held.{Held}
 use Rattle.block.specs.Held.{heldBy, BlockRoom}
 use Rattle.writer.specs.Written.{Writable}
 use Rattle.forms.specs.declared.WorkingTable.{WorkingTable}
-use Rattle.forms.specs.Working.{workingBy, tableOf, blank}
+use Rattle.forms.specs.Working.{workingBy, tableOf, isPlain, blank}
 use Rattle.level.specs.Tree.{TreeHeld, Simplified}
 use Rattle.used.specs.Tape.{Holds}
 use Rattle.answer.specs.Tapes.{tokenTree}
@@ -32,7 +35,7 @@ ReadFrom bytes s = Accepted bytes (s .args .edition) (held s) (length (s .args .
 -- ---- the calls, each seen from the next
 
 abbrev start : tie.After-work → tie.Start
-start c = c .before .before .before .before .before .before .before .before .before .before .before .before .before .before
+start c = c .before .before .before .before .before .before .before .before .before .before .before .before .before .before .before
 
 abbrev working : tie.After-normal-tokens → tie.After-work
 working c = c .before .before .before .before .before .before .before .before .before
@@ -141,9 +144,18 @@ module _ (c : tie.After-collect) where
 
 -- ---- the working table and the tape in normal form
 
+-- the arrays are blank, save the engine's mark
+marked : (plain : Bool) (m : ℕ) → m ≡ bit plain
+    → workingBy (replicate 1280 (pos 0)) (replicate 1280 0) (set (replicate 81 0) 80 m) (replicate 64 0) (replicate 64 false) ≡ blank (isPlain (set (replicate 81 0) 80 m))
+unfolding blank bit
+marked true m e = rw e
+marked false m e = rw e
+
 work-requires : tie.Need-work-requires
-unfolding blank
-work-requires c κs = (asks-table (c .before .before .before .before .before .before .before .before .before .before .before .before .before .pre .0 .accepted), refl)
+work-requires c κs =
+    let s = c .before .before .before .before .before .before .before .before .before .before .before .before .before .before in
+    let marking = c .before .before .before .before .before .before .before .before in
+    (asks-table (s .pre .0 .accepted), marked (s .args .plain) (marking .mark .result) (marking .mark .ensures))
 
 normal-tokens-requires : tie.Need-normal-tokens-requires
 normal-tokens-requires c κs = let here = c .before .before .before .before .before .before .before .before in (counts-tokens (start here .pre .0 .accepted), search needs, search needs)
@@ -264,7 +276,7 @@ returns c bytes accepted =
 pub answer-to-spec : {M : Type 1} → statement M
 answer-to-spec =
     tie.close
-    (tie.spec (λ c. search needs) (λ c. search needs) (λ c. search needs) (λ c. search needs) (λ c. search needs) work-requires
+    (tie.spec (λ c κs. search needs) (λ c. omega arith) (λ c. search needs) (λ c. search needs) (λ c. search needs) (λ c. search needs) (λ c. search needs) work-requires
     (λ c. search needs) (λ c. search needs) normal-tokens-requires atoms-requires (λ c. search needs) (λ c. search needs) forms-used-requires give-requires
     (λ c. search needs) (λ c. search needs) (λ c. search needs) simplified-requires (λ c. search needs) tell-requires
     (λ c. search needs) plain-tokens-requires (λ c. search needs) atoms-requires-2

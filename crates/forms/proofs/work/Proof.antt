@@ -1,11 +1,12 @@
 -- `work` meets its contract: the passes one after the other, and what their working table is.
 use borrow.Author.Needs.{needs}
 use mathlib.Core.Path.{_≡_, sym, ap, _∙_, subst, subst⁻¹, subst₃}
+use mathlib.Core.Bool.{Bool}
 use Prim.Native.Nat.{_*_}
 use native.Mathlib.Omega.{arith}
 use Rattle.forms.specs.declared.WorkingTable.{WorkingTable}
 use Rattle.forms.specs.Slots.{Laid, normalSlots, turnedSlots, copied, numberedSlots}
-use Rattle.forms.specs.Working.{workingBy, blank, withForms, Worked}
+use Rattle.forms.specs.Working.{workingBy, isPlain, blank, withForms, Worked}
 use Rattle.forms.proofs.Passes.{Sized, normalized-sized}
 use Rattle.forms.proofs.Worked.{readable, blank-sized, worked, assembled}
 use Rattle.forms.proofs.work.Statement.{statement}
@@ -14,7 +15,7 @@ use Rattle.forms.proofs.work.Tie as tie
 -- The arrays as they are lent.
 lent-sized : (s : tie.Start) → let a = s .args in
     Sized (workingBy (a .normal-coefficient .now) (a .normal-monomial .now) (a .normal-terms .now) (a .number .now) (a .turned .now))
-lent-sized s = subst Sized (sym (s .pre .1)) blank-sized
+lent-sized s = subst Sized (sym (s .pre .1)) (blank-sized (isPlain (s .args .normal-terms .now)))
 
 normalize-all-requires : tie.Need-normalize-all-requires
 normalize-all-requires c κs =
@@ -60,8 +61,11 @@ module _ (c : tie.After-slice-known7) where
   abbrev given : tie.Start
   given = first c
 
+  abbrev plain : Bool
+  plain = isPlain (given .args .normal-terms .now)
+
   abbrev forms : WorkingTable
-  forms = withForms (given .args .coefficient .now) (given .args .monomial .now) (given .args .terms .now) (given .args .polynomials) blank
+  forms = withForms (given .args .coefficient .now) (given .args .monomial .now) (given .args .terms .now) (given .args .polynomials) (blank plain)
 
   coefficients : normalizing c .normalize-all .last .1 .1 .0 ≡ forms .coefficient
   coefficients =
@@ -85,7 +89,7 @@ module _ (c : tie.After-slice-known7) where
       let a = given .args in
       normalized-sized (a .coefficient .now) (a .monomial .now) (a .terms .now) (a .polynomials)
       (readable (a .coefficient .now) (a .monomial .now) (a .terms .now) (a .polynomials) (a .variables) (given .pre .0))
-      blank blank-sized
+      (blank plain) (blank-sized plain)
 
   forms-laid : Laid (normalizing c .normalize-all .last .1 .1 .0) (copying c .copy-monomials .last .1 .0) (counting c .copy-counts .last .1 .0)
   forms-laid = subst₃ Laid (sym coefficients) (sym monomials) (sym counts) (forms-sized .laid)
@@ -134,13 +138,13 @@ returns c =
     let here = numbering .before .before .before .before .before in
     let start = first here in
     let a = start .args in
-    subst⁻¹ (Worked (a .coefficient .now) (a .monomial .now) (a .terms .now) (a .polynomials) (a .variables))
-    (assembled (a .coefficient .now) (a .monomial .now) (a .terms .now) (a .polynomials) (a .variables) (coefficients here) (flags here) (monomials here) (counts here)
+    subst⁻¹ (Worked (plain here) (a .coefficient .now) (a .monomial .now) (a .terms .now) (a .polynomials) (a .variables))
+    (assembled (plain here) (a .coefficient .now) (a .monomial .now) (a .terms .now) (a .polynomials) (a .variables) (coefficients here) (flags here) (monomials here) (counts here)
     (numbering .number-all .ensures
     ∙ ap (λ (w : WorkingTable). numberedSlots (normalizing here .normalize-all .last .1 .1 .0) (copying here .copy-monomials .last .1 .0)
     (counting here .copy-counts .last .1 .0) (w .number) (a .polynomials)) (start .pre .1))
     (filling .fill .ensures) (ending .put-variables .ensures))
-    (worked (a .coefficient .now) (a .monomial .now) (a .terms .now) (a .polynomials) (a .variables) (start .pre .0))
+    (worked (plain here) (a .coefficient .now) (a .monomial .now) (a .terms .now) (a .polynomials) (a .variables) (start .pre .0))
 
 pub work-spec : {M : Type 1} → statement M
 work-spec =

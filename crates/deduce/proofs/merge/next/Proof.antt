@@ -15,11 +15,12 @@ returns c =
     let a = back {z = getD cs (s .args .i) (pos 0)} (record { sfits = c .before .before .before .before .before .before .a .given }) in
     let b = back {z = getD cs (s .args .j) (pos 0)} (record { sfits = c .before .b .given }) in
     record {
-      row = λ t u g. rw (a, b)
-          (of-both cs t u g (omega arith) (omega arith) (c .if3 .taken));
+      row = λ t u. rw (a, b)
+          (of-both cs t u (omega arith) (omega arith) (c .if3 .taken));
       first = omega arith;
       second = omega arith;
       less-left = omega arith;
+      magnitudes = λ m f g. rw (a, b) (f .each (s .args .i) (omega arith) (omega arith), g .each (s .args .j) (omega arith) (omega arith));
     }
 
 returns-2 : tie.Need-returns-2
@@ -28,11 +29,12 @@ returns-2 c =
     let cs = s .args .coefficient .now in
     let a = back {z = getD cs (s .args .i) (pos 0)} (record { sfits = c .before .before .before .before .before .before .before .a .given }) in
     record {
-      row = λ t u g. rw a
-          (of-p cs t u g (omega arith) (omega arith) (c .before .if3 .left) (c .if4 .taken));
+      row = λ t u. rw a
+          (of-p cs t u (omega arith) (omega arith) (c .before .if3 .left) (c .if4 .taken));
       first = omega arith;
       second = omega arith;
       less-left = omega arith;
+      magnitudes = λ m f g. rw a (f .each (s .args .i) (omega arith) (omega arith), omega arith);
     }
 
 returns-3 : tie.Need-returns-3
@@ -41,11 +43,12 @@ returns-3 c =
     let cs = s .args .coefficient .now in
     let b = back {z = getD cs (s .args .j) (pos 0)} (record { sfits = c .before .before .before .b .given }) in
     record {
-      row = λ t u g. rw b
-          (of-q cs t u g (omega arith) (omega arith) (c .before .before .if3 .left) (c .before .if4 .left));
+      row = λ t u. rw b
+          (of-q cs t u (omega arith) (omega arith) (c .before .before .if3 .left) (c .before .if4 .left));
       first = omega arith;
       second = omega arith;
       less-left = omega arith;
+      magnitudes = λ m f g. rw b (omega arith, g .each (s .args .j) (omega arith) (omega arith));
     }
 
 returns-4 : tie.Need-returns-4
@@ -54,11 +57,12 @@ returns-4 c =
     let cs = s .args .coefficient .now in
     let a = back {z = getD cs (s .args .i) (pos 0)} (record { sfits = c .before .before .a .given }) in
     record {
-      row = λ t u g. rw a
-          (of-p-alone cs t u g (omega arith) (omega arith));
+      row = λ t u. rw a
+          (of-p-alone cs t u (omega arith) (omega arith));
       first = omega arith;
       second = omega arith;
       less-left = omega arith;
+      magnitudes = λ m f g. rw a (f .each (s .args .i) (omega arith) (omega arith), omega arith);
     }
 
 returns-5 : tie.Need-returns-5
@@ -67,11 +71,12 @@ returns-5 c =
     let cs = s .args .coefficient .now in
     let b = back {z = getD cs (s .args .j) (pos 0)} (record { sfits = c .before .b2 .given }) in
     record {
-      row = λ t u g. rw b
-          (of-q-alone cs t u g (omega arith) (omega arith));
+      row = λ t u. rw b
+          (of-q-alone cs t u (omega arith) (omega arith));
       first = omega arith;
       second = omega arith;
       less-left = omega arith;
+      magnitudes = λ m f g. rw b (omega arith, g .each (s .args .j) (omega arith) (omega arith));
     }
 
 pub next-spec : {M : Type 1} → statement M

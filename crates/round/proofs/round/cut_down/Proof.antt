@@ -61,8 +61,11 @@ deduce-from-requires c κs =
     let i = c .before .before .before .before .loop .i in
     let p = c .before .before .before .before .before .places .ensures in
     let q = c .places2 .ensures in (
-      within (run-held (s .args .p) (ready .forms) (ready .places) low (p .0) (p .1) signed),
-      within (run-held (atomSlot (s .args .t6 .number) i) (ready .forms) (ready .places) (omega arith) (q .0) (q .1) (ready .atoms i (omega arith))),
+      omega (arith, ready .forms .counts),
+      (
+        within (run-held (s .args .p) (ready .forms) (ready .places) low (p .0) (p .1) signed),
+        within (run-held (atomSlot (s .args .t6 .number) i) (ready .forms) (ready .places) (omega arith) (q .0) (q .1) (ready .atoms i (omega arith))),
+      ),
     )
 
 -- after one more atom

@@ -1,0 +1,5 @@
+pub mod Numbers
+pub mod Sets
+pub mod Walks
+pub mod Nears
+pub mod Seens
