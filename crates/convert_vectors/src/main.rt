@@ -11,11 +11,22 @@ fn wide(byte: u8) -> u64 {
     byte as u64
 }
 
-// One digit of 0 to 15.
-fn print_digit(digit: u64) {
-    let digits = b"0123456789abcdef";
-    let at = (digit % 16) as usize;
-    io::write_all(STDOUT_FILENO, &digits[at..at + 1]);
+// The last hex digit of a number.
+fn digit(number: u8) -> u8 {
+    let last = number % 16;
+    if last < 10 { last + 48 } else { last + 87 }
+}
+
+// A byte in two hex digits, with a space before them unless it is the first.
+fn print_pair(byte: u8, first: bool) {
+    let mut pair = [32u8; 3];
+    pair[1] = digit(byte / 16);
+    pair[2] = digit(byte);
+    if first {
+        io::write_all(STDOUT_FILENO, &pair[1..]);
+    } else {
+        io::write_all(STDOUT_FILENO, &pair);
+    }
 }
 
 // So many bytes of the output in lower-case hex pairs, one space apart.
@@ -25,13 +36,9 @@ fn print_hex(output: &[u8], size: usize) {
     }
     let mut i = 0;
     while i < size {
-        if 0 < i {
-            io::write_all(STDOUT_FILENO, b" ");
-        }
-        let byte = wide(output[i]);
+        let at = i;
         i += 1;
-        print_digit(byte / 16);
-        print_digit(byte % 16);
+        print_pair(output[at], at == 0);
     }
     io::write_all(STDOUT_FILENO, b"\n");
 }
