@@ -7,16 +7,16 @@ use Rattle.placardpan_repeat.proofs.repeat.Statement.{statement}
 use Rattle.placardpan_repeat.proofs.repeat.Tie as tie
 
 abbrev Inv-loop : tie.InvT-loop
-Inv-loop input output₀ text times left₀ output left = length output ≡ length output₀
+Inv-loop plain input output₀ text times left₀ output left = length output ≡ length output₀
 
 abbrev μ-loop : tie.MeasureT-loop
-μ-loop input output₀ text times left₀ output left = left
+μ-loop plain input output₀ text times left₀ output left = left
 
 loop-again : tie.Need-loop-again Inv-loop μ-loop
-loop-again c = c .before .before .simplify .kept .1 .0 ∙ c .before .before .before .before .before .loop .inv
+loop-again c = c .before .before .simplify-by .kept .1 .1 .0 ∙ c .before .before .before .before .before .loop .inv
 
 same-length : tie.Need-same-length Inv-loop μ-loop
-same-length c = c .before .before .before .before .print-answer .kept .1 .0 ∙ c .before .before .before .before .before .before .before .before .loop .inv
+same-length c = c .before .before .before .before .print-answer .kept .1 .1 .0 ∙ c .before .before .before .before .before .before .before .before .loop .inv
 
 pub repeat-spec : {M : Type 1} → statement M
 repeat-spec =
