@@ -76,7 +76,7 @@ static inline size_t placardpan_length(uint32_t answer)
 }
 
 /* The engines that deduce (request #110): the fast one, which every other function takes, and the plain one, which tests single values as a person would.
- * Both give the same answer; the plain one takes some 2 to 200 times as long. */
+ * Both give the same answer; the plain one takes some 2 to 240 times as long. */
 enum {
     PLACARDPAN_FAST = 0,
     PLACARDPAN_PLAIN = 1
