@@ -42,8 +42,12 @@ pub mod check;
 pub mod corpus;
 pub mod random;
 
-// The fixed edge blocks
+// The fixed edge blocks, and those that only edition 2 can have
 pub mod edge;
+pub mod pairs;
+
+// Request #109: a block in the other edition
+pub mod convert;
 
 // Blocks whose polynomials in are known
 pub mod uses;
