@@ -393,13 +393,13 @@ fn uses_formula(random: &mut Random) -> Formula {
 // -------------------------------------------------------------------------------------- polynomials
 
 /// A polynomial while it is made: coefficients by monomial.
-type Sum = BTreeMap<Vec<u8>, i128>;
+pub type Sum = BTreeMap<Vec<u8>, i128>;
 
 fn add(sum: &mut Sum, exponents: Vec<u8>, coefficient: i128) {
     *sum.entry(exponents).or_insert(0) += coefficient;
 }
 
-fn times(polynomial: &Polynomial, factor: i128) -> Sum {
+pub fn times(polynomial: &Polynomial, factor: i128) -> Sum {
     polynomial.terms.iter().map(|term| (term.exponents.clone(), factor * term.coefficient)).collect()
 }
 
@@ -410,7 +410,7 @@ fn variable(variables: usize, i: usize) -> Vec<u8> {
 }
 
 /// The polynomial within the limits of a block: at most 16 terms, magnitudes that fit, at least one term.
-fn fitted(sum: &Sum) -> Polynomial {
+pub fn fitted(sum: &Sum) -> Polynomial {
     let mut terms = vec![];
     for (exponents, &coefficient) in sum.iter().rev() {
         if coefficient != 0 && terms.len() < 16 {

@@ -70,3 +70,6 @@ pub mod evaluate;
 
 // Loading that a power cut cannot hurt
 pub mod loading;
+
+// Request #113: a pool of polynomials for a release
+pub mod pool;

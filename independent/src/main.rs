@@ -9,15 +9,16 @@ use independent::cases::{cases, later_cases};
 use independent::block::Edition;
 use independent::count::work_of;
 use independent::{
-    bench, block, book, check, convert, corpus, edge, engine, evaluate, loading, plain, search, smt, uses,
+    bench, block, book, check, convert, corpus, edge, engine, evaluate, loading, plain, pool, search,
+    smt, uses,
 };
 
 const USAGE: &str =
     "usage: independent [rounds | places | many [rounds | places] | read | describe | deductions | plain | shown [NAME..] | lists | evaluations | live FILE |\n\
-                    conversions | convert [1 | 2] | loads | load | start | count | repeat | smt | bench NAME |\n\
+                    conversions | convert [1 | 2] | pools | pool | loads | load | start | count | repeat | smt | bench NAME |\n\
                     corpus KIND SEED COUNT [EDITION] | book SEED COUNT | book-deductions SEED COUNT | check SEED COUNT]\n\
      KIND is valid, damaged, trees, uses, edge, long, cases, later, deductions, points, lists, evaluations, conversions,\n\
-     loads or candidates\n";
+     pools, loads or candidates\n";
 
 fn main() -> ExitCode {
     let arguments: Vec<String> = std::env::args().skip(1).collect();
@@ -41,6 +42,11 @@ fn main() -> ExitCode {
         ["convert"] => write_converted(None),
         ["convert", "1"] => write_converted(Some(Edition::One)),
         ["convert", "2"] => write_converted(Some(Edition::Two)),
+        ["pools"] => {
+            let mut pool = pool::Pool::default();
+            each_block(move |_, frame| pool.frame_lines(frame))
+        }
+        ["pool"] => run_pool_script(),
         ["loads"] => each_load(loading::lines),
         ["load"] => each_load(loading::load_line),
         ["start"] => each_block(|_, area| loading::start_line(area)),
@@ -99,7 +105,7 @@ fn program(lines: fn(&[u8]) -> String) -> io::Result<ExitCode> {
 }
 
 /// The lines for each block of a stream. A frame that is cut off gets the line CUT OFF and is the last.
-fn each_block(lines: fn(usize, &[u8]) -> String) -> io::Result<ExitCode> {
+fn each_block(mut lines: impl FnMut(usize, &[u8]) -> String) -> io::Result<ExitCode> {
     let mut input = vec![];
     io::stdin().lock().read_to_end(&mut input)?;
     let mut output = io::BufWriter::new(io::stdout().lock());
@@ -158,13 +164,15 @@ fn write_corpus(kind: &str, seed: u64, count: usize, edition: Edition) -> io::Re
         "candidates" => (seed..seed + count as u64).map(|k| block::write(&search::candidate(k))).collect(),
         "evaluations" => evaluate::corpus_in(edition, seed, count),
         "conversions" => convert::corpus(seed, count),
+        "pools" if edition == Edition::One => pool::corpus(seed, count, block::write),
+        "pools" => pool::corpus(seed, count, |formula| block::write_in(Edition::Two, formula)),
         "cases" => cases().iter().map(|case| block::write(&case.formula)).collect(),
         "later" => later_cases().iter().map(|case| block::write(&case.formula)).collect(),
         "points" => engine::single_points(),
         _ => return usage(),
     };
     let as_made = edition == Edition::One
-        || ["damaged", "edge", "long", "loads", "evaluations", "conversions"].contains(&kind);
+        || ["damaged", "edge", "long", "loads", "evaluations", "conversions", "pools"].contains(&kind);
     let blocks = if as_made { blocks } else { convert::all_in(edition, blocks) };
     io::stdout().lock().write_all(&corpus::stream(&blocks))?;
     Ok(ExitCode::SUCCESS)
@@ -195,6 +203,25 @@ fn live(file: &str) -> io::Result<ExitCode> {
     for line in input.strip_suffix('\n').unwrap_or(&input).split('\n').filter(|_| !input.is_empty()) {
         let readings = evaluate::readings_of(line);
         output.write_all(evaluate::line(evaluate::evaluate(&block, readings.as_deref())).as_bytes())?;
+    }
+    output.flush()?;
+    Ok(ExitCode::SUCCESS)
+}
+
+/// A release manager's script: additions and withdrawals of blocks in files, and what the pool holds.
+fn run_pool_script() -> io::Result<ExitCode> {
+    let mut input = vec![];
+    io::stdin().lock().read_to_end(&mut input)?;
+    let mut pool = pool::Pool::default();
+    let mut output = io::BufWriter::new(io::stdout().lock());
+    let lines = input.strip_suffix(b"\n").unwrap_or(&input);
+    for line in lines.split(|&byte| byte == b'\n').filter(|_| !input.is_empty()) {
+        let load = |file: &str| {
+            let mut block = vec![];
+            std::fs::File::open(file).ok()?.take(MOST_READ as u64).read_to_end(&mut block).ok()?;
+            Some(block)
+        };
+        output.write_all(pool.script_lines(&String::from_utf8_lossy(line), load).as_bytes())?;
     }
     output.flush()?;
     Ok(ExitCode::SUCCESS)
