@@ -1,6 +1,7 @@
 //! Request #102: a block run on readings of 32 signed bits, "permit or deny". Arithmetic is exact here, in 128 bits, and each product and
 //! running sum is looked at: does it fit 64?
 
+use crate::answer::MOST_READ;
 use crate::block::{read, write_in, Edition, Formula, Refusal};
 use crate::convert::all_in;
 use crate::corpus::{random_formula, stream, valid};
@@ -138,7 +139,11 @@ pub fn corpus_in(edition: Edition, seed: u64, count: usize) -> Vec<Vec<u8>> {
             11 => {
                 let edge = &edges[random.below(edges.len())].bytes;
                 let variables = read(edge).map_or(1 + random.below(16), |formula| formula.variables);
-                frames.push(frame(&some_readings(&mut random, variables), edge));
+                let frame = frame(&some_readings(&mut random, variables), edge);
+                // Of a frame no more than that is taken.
+                if frame.len() <= MOST_READ {
+                    frames.push(frame);
+                }
             }
             12 => {
                 let block = &crate::corpus::damaged_in(edition, random.draw(), 1)[0];
