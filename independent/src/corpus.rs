@@ -93,7 +93,7 @@ fn one_node(random: &mut Random, variables: usize) -> Formula {
 
 /// x ≥ y, y ≥ z, ..., one end against a constant, and some variables' own signs: what one end says takes
 /// several rounds to reach the other.
-fn chain(random: &mut Random, variables: usize) -> Formula {
+pub fn chain(random: &mut Random, variables: usize) -> Formula {
     let order = shuffled(random, variables);
     let length = 1 + random.below(variables);
     let falling = random.percent(50);
@@ -130,7 +130,7 @@ fn chain(random: &mut Random, variables: usize) -> Formula {
 
 /// Variables at or above 0 whose sum is at or below 0, so that they are cut to zero, with squares and
 /// products beside them.
-fn pinned(random: &mut Random, variables: usize) -> Formula {
+pub fn pinned(random: &mut Random, variables: usize) -> Formula {
     let order = shuffled(random, variables);
     let length = 1 + random.below(variables.min(4));
     let mut parts = vec![];

@@ -73,3 +73,6 @@ pub mod loading;
 
 // Request #113: a pool of polynomials for a release
 pub mod pool;
+
+// Request #106: why is the clause gone?
+pub mod why;

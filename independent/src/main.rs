@@ -10,14 +10,14 @@ use independent::block::Edition;
 use independent::count::work_of;
 use independent::{
     bench, block, book, check, convert, corpus, edge, engine, evaluate, loading, plain, pool, search,
-    smt, uses,
+    smt, uses, why,
 };
 
 const USAGE: &str =
-    "usage: independent [rounds | places | many [rounds | places] | read | describe | deductions | plain | shown [NAME..] | lists | evaluations | live FILE |\n\
+    "usage: independent [rounds | places | many [rounds | places] | read | describe | deductions | plain | shown [NAME..] | lists | evaluations | live FILE | why | whys |\n\
                     conversions | convert [1 | 2] | pools | pool | loads | load | start | count | repeat | smt | bench NAME |\n\
                     corpus KIND SEED COUNT [EDITION] | book SEED COUNT | book-deductions SEED COUNT | check SEED COUNT]\n\
-     KIND is valid, damaged, trees, uses, edge, long, cases, later, deductions, points, lists, evaluations, conversions,\n\
+     KIND is valid, damaged, whys, trees, uses, edge, long, cases, later, deductions, points, lists, evaluations, conversions,\n\
      pools, loads or candidates\n";
 
 fn main() -> ExitCode {
@@ -47,6 +47,8 @@ fn main() -> ExitCode {
             each_block(move |_, frame| pool.frame_lines(frame))
         }
         ["pool"] => run_pool_script(),
+        ["why"] => program(why::lines),
+        ["whys"] => each_block(|_, block| why::lines(block)),
         ["loads"] => each_load(loading::lines),
         ["load"] => each_load(loading::load_line),
         ["start"] => each_block(|_, area| loading::start_line(area)),
@@ -166,13 +168,14 @@ fn write_corpus(kind: &str, seed: u64, count: usize, edition: Edition) -> io::Re
         "conversions" => convert::corpus(seed, count),
         "pools" if edition == Edition::One => pool::corpus(seed, count, block::write),
         "pools" => pool::corpus(seed, count, |formula| block::write_in(Edition::Two, formula)),
+        "whys" => why::corpus(edition, seed, count),
         "cases" => cases().iter().map(|case| block::write(&case.formula)).collect(),
         "later" => later_cases().iter().map(|case| block::write(&case.formula)).collect(),
         "points" => engine::single_points(),
         _ => return usage(),
     };
     let as_made = edition == Edition::One
-        || ["damaged", "edge", "long", "loads", "evaluations", "conversions", "pools"].contains(&kind);
+        || ["damaged", "edge", "long", "loads", "evaluations", "conversions", "pools", "whys"].contains(&kind);
     let blocks = if as_made { blocks } else { convert::all_in(edition, blocks) };
     io::stdout().lock().write_all(&corpus::stream(&blocks))?;
     Ok(ExitCode::SUCCESS)
