@@ -65,6 +65,10 @@ pub mod search;
 // A formula as other solvers read it
 pub mod smt;
 
+// Request #112: a script for the makers' tools, written and read; and texts to read
+pub mod script;
+pub mod scripts;
+
 // Request #102: a block run on readings
 pub mod evaluate;
 

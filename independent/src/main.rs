@@ -8,6 +8,8 @@ use independent::answer::{answer, read_report, report, report_with_places, repor
 use independent::cases::{cases, later_cases};
 use independent::block::Edition;
 use independent::count::work_of;
+use independent::script::{answer_lines, back_line, plain_lines};
+use independent::scripts;
 use independent::{
     bench, block, book, check, convert, corpus, edge, engine, evaluate, loading, plain, pool, search,
     smt, uses, why,
@@ -16,6 +18,7 @@ use independent::{
 const USAGE: &str =
     "usage: independent [rounds | places | many [rounds | places] | read | describe | deductions | plain | shown [NAME..] | lists | evaluations | live FILE | why | whys |\n\
                     conversions | convert [1 | 2] | pools | pool | loads | load | start | count | repeat | smt | bench NAME |\n\
+                    script | many script | plain-script | script-back | scripts-back | corpus scripts SEED COUNT |\n\
                     corpus KIND SEED COUNT [EDITION] | book SEED COUNT | book-deductions SEED COUNT | check SEED COUNT]\n\
      KIND is valid, damaged, whys, trees, uses, edge, long, cases, later, deductions, points, lists, evaluations, conversions,\n\
      pools, loads or candidates\n";
@@ -56,6 +59,11 @@ fn main() -> ExitCode {
         ["bench", name] => write_bench(name),
         ["repeat"] => repeat(),
         ["smt"] => write_script(),
+        ["script"] => program(answer_lines),
+        ["many", "script"] => each_block(|_, block| answer_lines(block)),
+        ["plain-script"] => program(plain_lines),
+        ["script-back"] => read_script_back(),
+        ["scripts-back"] => each_text(back_line),
         ["corpus", kind, seed, count, ref edition @ ..] => {
             let edition = match edition {
                 [] | ["1"] => Some(Edition::One),
@@ -131,6 +139,34 @@ fn each_block(mut lines: impl FnMut(usize, &[u8]) -> String) -> io::Result<ExitC
     Ok(ExitCode::SUCCESS)
 }
 
+/// A script on standard input, read back.
+fn read_script_back() -> io::Result<ExitCode> {
+    let mut text = vec![];
+    io::stdin().lock().read_to_end(&mut text)?;
+    io::stdout().write_all(back_line(&text).as_bytes())?;
+    Ok(ExitCode::SUCCESS)
+}
+
+/// A line for each text of a stream, each after its length in 4 bytes, most significant first.
+fn each_text(line: fn(&[u8]) -> String) -> io::Result<ExitCode> {
+    let mut input = vec![];
+    io::stdin().lock().read_to_end(&mut input)?;
+    let mut output = io::BufWriter::new(io::stdout().lock());
+    let mut rest = &input[..];
+    while !rest.is_empty() {
+        let number = |bytes: &[u8]| bytes.iter().fold(0, |sum, &byte| 256 * sum + usize::from(byte));
+        let length = rest.get(..4).map(number);
+        let Some(text) = length.and_then(|length| rest.get(4..4 + length)) else {
+            output.write_all(b"CUT OFF\n")?;
+            break;
+        };
+        output.write_all(line(text).as_bytes())?;
+        rest = &rest[4 + text.len()..];
+    }
+    output.flush()?;
+    Ok(ExitCode::SUCCESS)
+}
+
 /// The lines for each load of a stream, two frames each: an area and the block that is loaded into it.
 fn each_load(lines: fn(&[u8], &[u8]) -> String) -> io::Result<ExitCode> {
     let mut input = vec![];
@@ -150,6 +186,10 @@ fn each_load(lines: fn(&[u8], &[u8]) -> String) -> io::Result<ExitCode> {
 
 /// A corpus in edition 1, or in edition 2: then its accepted blocks are converted, and what is wrong is made wrong in edition 2.
 fn write_corpus(kind: &str, seed: u64, count: usize, edition: Edition) -> io::Result<ExitCode> {
+    if kind == "scripts" {
+        io::stdout().lock().write_all(&scripts::stream(&scripts::corpus(seed, count)))?;
+        return Ok(ExitCode::SUCCESS);
+    }
     let blocks = match kind {
         "valid" => corpus::valid(seed, count),
         "damaged" => corpus::damaged_in(edition, seed, count),
