@@ -19,3 +19,4 @@ pub mod PlainBlocks
 pub mod Laws
 pub mod Steps
 pub mod NewBlock
+pub mod Length

@@ -11,36 +11,22 @@ use Rattle.rules.specs.Block.{NumberedAtom, Block}
 use Rattle.rules.specs.Limits.{PolynomialWithin, TableWithin, no-polynomials, polynomials, PartsWithin, BlockWithin}
 use Rattle.rules.specs.Answer.{lookedUp, formulaOf, knows, addedUnless, used, hereOr, numberIn, numbered, blockOf}
 use Rattle.sign_laws.specs.Lists.{Every, every-none, every}
+use Rattle.ending_laws.specs.Nestings.{alone-each}
+use Rattle.ending_laws.specs.Shapes.{nodes-each}
 use Rattle.level_laws.specs.Written.{added-knows, used-keeps}
 use Rattle.script_laws.specs.Text.{PlainParts, PlainTree, plain-true, plain-false, plain-tree, Plain}
 use Rattle.script_laws.specs.Shaped.{Shaped, NodeFits, used-each}
 use Rattle.script_laws.specs.Root.{RootFits, root-true, root-false, root-node}
 use Rattle.script_laws.specs.Script.{Declared}
 
--- ---- Another kind of atom at the same places.
-
-module _ {A B : Type 0} (f : A → B) where
-  alone-each : (tree : Node A) → alone (eachAtomOf f tree) ≡ eachAtom f (alone tree)
-  unfolding alone before eachAtom eachAtomOf
-  alone-each (leaf a) = refl
-  alone-each (allOf kids) = refl
-  alone-each (anyOf kids) = refl
-
-  nodes-each : (parts : Parts A) → nodes (eachAtom f parts) ≡ nodes parts
-  unfolding nodes eachAtom
-  nodes-each end = refl
-  nodes-each (atom a rest) = ap (λ (k : ℕ). 1 + k) (nodes-each rest)
-  nodes-each (and kids rest) = ap₂ (λ (j k : ℕ). 1 + j + k) (nodes-each kids) (nodes-each rest)
-  nodes-each (or kids rest) = ap₂ (λ (j k : ℕ). 1 + j + k) (nodes-each kids) (nodes-each rest)
-
 -- ---- A plain block has a script.
 
-every-loaded : {P : Polynomial → Type 0} {table : List Polynomial} (i : ℕ) → i < length table → Every P table → P (getD table i [])
+pub every-loaded : {P : Polynomial → Type 0} {table : List Polynomial} (i : ℕ) → i < length table → Every P table → P (getD table i [])
 every-loaded i h every-none = absurd (omega arith)
 every-loaded zero h (every k ks) = k
 every-loaded (suc i) h (every k ks) = every-loaded i (omega arith) ks
 
-table-every : {n : ℕ} {table : List Polynomial} → TableWithin n table → Every (PolynomialWithin n) table
+pub table-every : {n : ℕ} {table : List Polynomial} → TableWithin n table → Every (PolynomialWithin n) table
 table-every no-polynomials = every-none
 table-every (polynomials h hs) = every h (table-every hs)
 
@@ -72,7 +58,7 @@ node-fits : (block : Block) → Plain block → PlainParts (alone (formulaOf blo
 unfolding formulaOf
 node-fits block h k =
     let f = lookedUp (block .table) in
-    let same = alone-each f (block .tree) in
+    let same = sym (alone-each f (block .tree)) in
     let few = h .accepted .nodes in
     let counted : nodes (alone (eachAtomOf f (block .tree))) ≡ nodes (alone (block .tree)) = ap (λ (p : Parts Atom). nodes p) same ∙ nodes-each f (alone (block .tree)) in
     record {
@@ -131,7 +117,7 @@ node-within : (n : ℕ) (tree : Node Atom) → 1 ≤ n → n ≤ 16 → NodeFits
 unfolding blockOf
 node-within n tree some few h =
     let table = used [] (alone tree) in
-    let tree-same = alone-each (numbered table) tree in
+    let tree-same = sym (alone-each (numbered table) tree) in
     let counted : nodes (alone (eachAtomOf (numbered table) tree)) ≡ nodes (alone tree) = ap (λ (p : Parts NumberedAtom). nodes p) tree-same ∙ nodes-each (numbered table) (alone tree) in
     let fits = h .fits in
     record {
