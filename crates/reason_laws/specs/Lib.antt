@@ -1,0 +1,15 @@
+pub mod Reasons
+pub mod SaysLess
+pub mod LeaveOut
+pub mod Examples
+pub mod Named
+pub mod Merged
+pub mod Holding
+pub mod Explained
+pub mod Places
+pub mod Records
+pub mod Standing
+pub mod Names
+pub mod Firsts
+pub mod Untold
+pub mod Answered
