@@ -51,7 +51,7 @@ module _ {sign : Polynomial → Sign} {n : ℕ} (ok : Respects sign n) where
 
 -- At every choice of fractions for the n variables (#101), so at every choice of whole numbers, which are the fractions over 1.
 module _ {n : ℕ} (choice : Choice n) where
-  abbrev at : Polynomial → Sign
+  abbrev pub at : Polynomial → Sign
   at = signOver (choice .numerators) (choice .denominator)
 
   pub imply-over : {named : List Placed} {a : Atom} → JustImplies n named a → atomsHold at (plains named) ≡ true → atomHolds at a ≡ true

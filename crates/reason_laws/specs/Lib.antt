@@ -13,3 +13,4 @@ pub mod Names
 pub mod Firsts
 pub mod Untold
 pub mod Answered
+pub mod Asked
