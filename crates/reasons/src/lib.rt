@@ -1,8 +1,9 @@
 // 02, #106: why is the clause gone? A record for each atom of a block whose root is an AND of atoms.
 use block::Contents;
 use block::read_into;
-use crate::fates::Fates;
-use crate::fates::fate_of_all;
+use fates::Fates;
+use fates::Places;
+use fates::fate_of_all;
 use forms::normal_tokens;
 use forms::work;
 use places::give;
@@ -11,10 +12,6 @@ use tape::rows::empty;
 use tape::rows::part;
 use tape::tokens::set_of;
 use tape::tokens::slot_of;
-
-mod fates;
-mod leaving;
-mod merging;
 
 // A record: kind 1 kept, 2 narrowed, 3 merged, 4 removed, 5 the whole is false. Unused fields are 0; place p is bit p % 64 of word p / 64.
 pub struct Reason {
@@ -141,7 +138,7 @@ fn nothing() -> Fates {
         carried: empty(),
         stays: [false; 64],
         word: [0; 256],
-        by: fates::Places { word: [0; 4] },
+        by: Places { word: [0; 4] },
         false_whole: false,
     }
 }

@@ -1,5 +1,13 @@
 // 02, #106, "the merged list": all atoms through step 2's merging, nothing cut short; then full sets are taken out.
 // The tokens name normal forms already, and carry their places.
+ghost use mathlib.Core.Path.{_≡_};
+ghost use mathlib.Core.List.{List};
+ghost use Prim.Native.Nat.{ℕ, _+_, _%_, _<_, _≤_};
+ghost use Rattle.rules.specs.Signs.{inside};
+ghost use Rattle.table.specs.Table.{Table, Forms};
+ghost use Rattle.round.specs.Views.{lentTable};
+ghost use Rattle.tape.specs.Row.{Lists};
+ghost use Rattle.merging.specs.Merged.{truthIf, TruthIs, MergesInto, Joins, JoinsAll, NotFull, BehindEmpty};
 use signs::SignSet;
 use tape::rows::Row;
 use tape::rows::empty;
@@ -17,7 +25,9 @@ enum Truth {
 }
 
 // An atom whose polynomial is a constant of this sign.
-fn truth_of(sign: SignSet, token: u32) -> Truth {
+fn truth_of(sign: SignSet, token: u32) -> Truth
+    ensures { λ r. ⌜ r ≡ truthIf (inside (sign .0) (token % 8)) ⌝ }
+{
     if sign.inside(set_of(token)) {
         return Truth::True;
     }
@@ -30,7 +40,10 @@ fn if_constant(
     terms: &[u8],
     variables: usize,
     token: u32,
-) -> Truth {
+) -> Truth
+    requires { ⌜ Forms (lentTable coefficient monomial terms variables) ⌝ }
+    ensures { λ r. ⌜ TruthIs (lentTable (coefficient .entry) (monomial .entry) (terms .entry) variables) token r ⌝ }
+{
     let number = slot_of(token);
     let count = terms[number];
     if 1 < count {
@@ -48,7 +61,10 @@ fn if_constant(
 }
 
 // An atom into a list that has each polynomial once.
-fn merge_into(list: Row, token: u32) -> Row {
+fn merge_into(list: Row, token: u32) -> Row
+    requires { ⌜ list .count < 256 ⌝ }
+    ensures { λ r. ⌜ (r .count ≤ list .count + 1) × ((t : Table) (l : List ℕ) → Forms t → Lists list l → MergesInto t token l r) ⌝ }
+{
     let number = slot_of(token);
     let end = list.count;
     let mut i = 0;
@@ -73,7 +89,11 @@ fn join(
     variables: usize,
     list: Row,
     token: u32,
-) -> Row {
+) -> Row
+    requires { ⌜ Forms (lentTable coefficient monomial terms variables) × (list .count < 256) ⌝ }
+    ensures { λ r. let t = lentTable (coefficient .entry) (monomial .entry) (terms .entry) variables in
+        ⌜ (r .count ≤ list .count + 1) × ((l : List ℕ) → Lists list l → Joins t token l r) ⌝ }
+{
     let constant = if_constant(coefficient, monomial, terms, variables, token);
     match constant {
         Truth::Open => merge_into(list, token),
@@ -89,7 +109,11 @@ pub fn join_all(
     terms: &[u8],
     variables: usize,
     given: Row,
-) -> Row {
+) -> Row
+    requires { ⌜ Forms (lentTable coefficient monomial terms variables) × (given .count ≤ 255) ⌝ }
+    ensures { λ r. let t = lentTable (coefficient .entry) (monomial .entry) (terms .entry) variables in
+        ⌜ (r .count ≤ given .count) × ((l : List ℕ) → Lists given l → JoinsAll t l r) ⌝ }
+{
     let end = given.count;
     let mut list = empty();
     let mut i = 0;
@@ -102,7 +126,10 @@ pub fn join_all(
 }
 
 // "Then full sets are taken out."
-pub fn not_full(list: Row) -> Row {
+pub fn not_full(list: Row) -> Row
+    requires { ⌜ list .count ≤ 255 ⌝ }
+    ensures { λ r. ⌜ (r .count ≤ list .count) × ((t : Table) (l : List ℕ) → Lists list l → NotFull t l r) ⌝ }
+{
     let end = list.count;
     let mut kept = empty();
     let mut i = 0;
@@ -118,7 +145,10 @@ pub fn not_full(list: Row) -> Row {
 }
 
 // The index behind the last atom with the empty set; 0 if there is none.
-pub fn behind_empty(list: Row) -> usize {
+pub fn behind_empty(list: Row) -> usize
+    requires { ⌜ list .count ≤ 256 ⌝ }
+    ensures { λ r. ⌜ ((l : List ℕ) → Lists list l → BehindEmpty l r) ⌝ }
+{
     let end = list.count;
     let mut behind = 0;
     let mut i = 0;

@@ -1,9 +1,9 @@
 // 02, #106: what becomes of the atoms of an AND: the whole is false by some of them, or step 5 keeps each or removes it on account of others.
-use crate::leaving::Question;
-use crate::leaving::leave_out;
-use crate::merging::behind_empty;
-use crate::merging::join_all;
-use crate::merging::not_full;
+use leaving::Question;
+use leaving::leave_out;
+use merging::behind_empty;
+use merging::join_all;
+use merging::not_full;
 use round::State;
 use steps::carrying::carry;
 use steps::carrying::without_implied;
