@@ -1,7 +1,10 @@
 -- Leave-out: what is left suffices, and each of it is needed, if fewer are never more than enough.
 use mathlib.Core.Path.{_≡_, refl, sym, ap, _∙_, subst}
 use mathlib.Core.Bool.{Bool, true, false}
-use mathlib.Core.List.{List, [], _∷_, _++_, append-assoc, append-nil}
+use mathlib.Core.List.{List, [], _∷_, _++_, map, append-assoc, append-nil, map-append}
+use Prim.Native.Nat.{_+_, _≤_}
+use native.Mathlib.Omega.{arith}
+use lib.ListN.{length, length-append}
 use Rattle.rules.specs.Level.{keptUnless}
 use Rattle.sign_laws.specs.Booleans.{never-true, never-both}
 use Rattle.reason_laws.specs.Reasons.{leaveOutFrom, leaveOut}
@@ -113,3 +116,51 @@ module _ {A : Type 0} where
       all-later-go kept rest h e =
           ap (leaveOutFrom enough kept) (sym (append-nil rest))
           ∙ beginning-goes kept rest [] (subst (λ (l : List A). Proper (kept ++ l)) (sym (append-nil rest)) h) (ap enough (append-nil kept) ∙ e)
+
+      -- Where the rest is enough from this one on, but not without it, the beginning goes and this one stays.
+      pub next-stays : (kept front : List A) (c : A) (back : List A) → Proper (kept ++ (front ++ (c ∷ back))) → enough (kept ++ (c ∷ back)) ≡ true
+          → enough (kept ++ back) ≡ false → leaveOutFrom enough kept (front ++ (c ∷ back)) ≡ leaveOutFrom enough (kept ++ (c ∷ [])) back
+      unfolding leaveOutFrom keptUnless
+      next-stays kept front c back h e f =
+          beginning-goes kept front (c ∷ back) h e ∙ ap (λ (gone : Bool). leaveOutFrom enough (keptUnless gone c kept) back) f
+
+      -- A list without a beginning of what is left is proper.
+      pub proper-later : (kept front back : List A) → Proper (kept ++ (front ++ back)) → Proper (kept ++ back)
+      proper-later kept [] back h = h
+      proper-later kept (c ∷ front) back h = proper-later kept front back (less .proper (without-after kept c (front ++ back)) h)
+
+-- What is left of a list is no longer than it, and may be asked of what stands for its elements.
+module _ {A : Type 0} where
+  kept-short : (gone : Bool) (c : A) (kept : List A) → length (keptUnless gone c kept) ≤ length kept + 1
+  unfolding keptUnless
+  kept-short true c kept = omega arith
+  kept-short false c kept = omega (arith, length-append kept (c ∷ []))
+
+  from-short : (enough : List A → Bool) (kept rest : List A) → length (leaveOutFrom enough kept rest) ≤ length kept + length rest
+  unfolding leaveOutFrom
+  from-short enough kept [] = omega arith
+  from-short enough kept (c ∷ later) =
+      omega (arith, from-short enough (keptUnless (enough (kept ++ later)) c kept) later, kept-short (enough (kept ++ later)) c kept)
+
+  pub leaveOut-short : (enough : List A → Bool) (l : List A) → length (leaveOut enough l) ≤ length l
+  unfolding leaveOut
+  leaveOut-short enough l = omega (arith, from-short enough [] l)
+
+module _ {A B : Type 0} (f : A → B) (enough : List B → Bool) where
+  kept-map : (gone : Bool) (c : A) (kept : List A) → map f (keptUnless gone c kept) ≡ keptUnless gone (f c) (map f kept)
+  unfolding keptUnless
+  kept-map true c kept = refl
+  kept-map false c kept = map-append f kept (c ∷ [])
+
+  from-map : (kept rest : List A) → map f (leaveOutFrom (λ (l : List A). enough (map f l)) kept rest) ≡ leaveOutFrom enough (map f kept) (map f rest)
+  unfolding leaveOutFrom
+  from-map kept [] = refl
+  from-map kept (c ∷ later) =
+      let gone = enough (map f (kept ++ later)) in
+      from-map (keptUnless gone c kept) later
+      ∙ ap (λ (k : List B). leaveOutFrom enough k (map f later)) (kept-map gone c kept)
+      ∙ ap (λ (l : List B). leaveOutFrom enough (keptUnless (enough l) (f c) (map f kept)) (map f later)) (map-append f kept later)
+
+  pub leaveOut-map : (l : List A) → map f (leaveOut (λ (m : List A). enough (map f m)) l) ≡ leaveOut enough (map f l)
+  unfolding leaveOut
+  leaveOut-map l = from-map [] l

@@ -1,83 +1,62 @@
+-- `implies` meets its contract: what the atoms say is what their fresh run leaves to say, with the signs of its board.
 use borrow.Author.Needs.{needs}
-use Rattle.fates.proofs.leaving.implies.Statement.{statement}
-use Rattle.fates.proofs.leaving.implies.Tie as tie
-use Rattle.fates.proofs.leaving.implies.Reads as reads
-use Rattle.fates.proofs.leaving.implies.Lts as lts
-use Rattle.ahead.proofs.no_order.Reads as no-order-reads
-use Rattle.round.proofs.slots.sign_table.Reads as sign-table-reads
-use Rattle.rounds.proofs.narrow.afresh.Reads as afresh-reads
-use Rattle.settled.proofs.says.Reads as says-reads
-use Rattle.signs.proofs.SignSet.inside.Reads as inside-reads
-use Rattle.steps.proofs.tidying.atoms_in.Reads as atoms-in-reads
-use Rattle.tape.proofs.tokens.set_of.Reads as set-of-reads
-use Rattle.tape.proofs.tokens.slot_of.Reads as slot-of-reads
+use mathlib.Core.Path.{_≡_, sym, _∙_, ap, ap₂, subst}
+use mathlib.Core.List.{List}
+use Prim.Native.Nat.{ℕ, _<_}
+use native.Mathlib.Omega.{arith}
+use lib.ListN.{length}
+use Rattle.rules.specs.Signs.{inside as insideOf}
+use Rattle.rules.specs.Polynomial.{Atom}
+use Rattle.rules.specs.Rounds.{run, saysIn}
+use Rattle.table.specs.Table.{Table, formAt}
+use Rattle.round.specs.Views.{lentTable, stateOf}
+use Rattle.round.specs.SignedSlots.{form-slots, table-signed}
+use Rattle.rounds.specs.Afresh.{AfreshFrom}
+use Rattle.tape.specs.Token.{atomOf}
+use Rattle.tape.specs.Listing.{row-long}
+use Rattle.leaving.proofs.Less.{implied-by-contradiction, implied-by-state}
+use Rattle.leaving.proofs.implies.Statement.{statement}
+use Rattle.leaving.proofs.implies.Tie as tie
 
--- src/leaving.rt:50:26
-slice-aggregate-atoms-in : tie.Need-slice-aggregate-atoms-in
-slice-aggregate-atoms-in c = search needs
+abbrev table : tie.Start → Table
+table s = lentTable (s .args .coefficient) (s .args .monomial) (s .args .terms) (s .args .variables)
 
--- src/leaving.rt:50:9
 atoms-in-requires : tie.Need-atoms-in-requires
-atoms-in-requires c κs = ?
+atoms-in-requires c κs = let h = c .before .before .before .before .pre .1 in (row-long (h .lists), omega (arith, h .lists .size, h .few))
 
--- src/leaving.rt:58:9
-no-order-requires : tie.Need-no-order-requires
-no-order-requires c κs = search needs
-
--- src/leaving.rt:51:9
 afresh-requires : tie.Need-afresh-requires
-afresh-requires c κs = ?
+afresh-requires c κs =
+    let s = c .before .before .before .before .before .before in
+    let h = s .pre .1 in
+    (s .pre .0, subst (λ (m : List Atom). AfreshFrom (table s) (s .args .state) m) (sym (c .before .atoms-in .ensures .1 (table s) (h .tokens) (h .lists))) (h .afresh))
 
--- src/leaving.rt:62:9
-returns : tie.Need-returns
-returns c = search needs
-
--- src/leaving.rt:67:40
-slice-aggregate-sign-table : tie.Need-slice-aggregate-sign-table
-slice-aggregate-sign-table c = search needs
-
--- src/leaving.rt:67:5
 sign-table-requires : tie.Need-sign-table-requires
-sign-table-requires c κs = ?
+sign-table-requires c κs = form-slots {t = table (c .before .before .before .before .before .before .before .before .before .before .before .before)} (c .before .before .before .before .before .before .before .before .before .before .before .before .pre .0) (search needs)
 
--- src/leaving.rt:72:9
-slice-aggregate-says : tie.Need-slice-aggregate-says
-slice-aggregate-says c = search needs
-
--- src/leaving.rt:75:9
-slot-of-requires : tie.Need-slot-of-requires
-slot-of-requires c κs = search needs
-
--- src/leaving.rt:68:9
 says-requires : tie.Need-says-requires
-says-requires c κs = ?
+says-requires c κs =
+    let s = c .before .before .before .before .before .before .before .before .before .before .before .before .before .before .before .before in
+    let worked-out = c .before .before .before .sign-table in
+    let low : c .slot-of .result < 64 = omega (arith, c .slot-of .ensures) in
+    let places : length (worked-out .last .1 .1 .1 .0) ≡ 1280 = search needs in
+    ((s .pre .0, (c .before .before .before .before .before .before .before .before .before .afresh .ensures .variables, low)), (places, rw (worked-out .ensures) (table-signed _ _ (s .pre .0) (search needs))))
 
--- src/leaving.rt:77:17
-set-of-requires : tie.Need-set-of-requires
-set-of-requires c κs = search needs
+returns : tie.Need-returns
+returns c l h =
+    let s = c .before .before .before .before .before .before .before .before .before in
+    implied-by-contradiction (table s) _ (c .before .before .afresh .result .ran) (c .before .before .afresh .ensures .outcome ∙ ap (run (s .args .variables)) (c .before .before .before .before .atoms-in .ensures .1 (table s) l h)) _ (c .if1 .taken)
 
--- src/leaving.rt:77:5
-inside-requires : tie.Need-inside-requires
-inside-requires c κs = search needs
-
--- src/leaving.rt:40:1
 returns-2 : tie.Need-returns-2
-returns-2 c = search needs
+unfolding atomOf
+returns-2 c l h =
+    let s = c .before .before .before .before .before .before .before .before .before .before .before .before .before .before .before .before .before .before .before in
+    let ran = c .before .before .before .before .before .before .before .before .before .before .before .before .afresh .result .ran in
+    c .inside .ensures
+    ∙ ap₂ insideOf (c .before .before .says .ensures ∙ ap (λ (k : ℕ). saysIn (s .args .variables) (stateOf (table s) (ran .state)) (formAt (table s) k)) (c .before .before .before .slot-of .ensures)) (c .before .set-of .ensures)
+    ∙ implied-by-state (table s) _ ran (c .before .before .before .before .before .before .before .before .before .before .before .before .afresh .ensures .outcome ∙ ap (run (s .args .variables)) (c .before .before .before .before .before .before .before .before .before .before .before .before .before .before .atoms-in .ensures .1 (table s) l h)) _ (c .before .before .before .before .before .before .before .before .before .before .if1 .left)
 
 pub implies-spec : {M : Type 1} → statement M
 implies-spec =
     tie.close
-    (tie.spec
-    slice-aggregate-atoms-in
-    atoms-in-requires
-    no-order-requires
-    afresh-requires
-    returns
-    slice-aggregate-sign-table
-    sign-table-requires
-    slice-aggregate-says
-    slot-of-requires
-    says-requires
-    set-of-requires
-    inside-requires
-    returns-2)
+    (tie.spec (λ c. search needs) atoms-in-requires (λ c κs. search needs) afresh-requires returns (λ c. search needs) sign-table-requires (λ c. search needs)
+    (λ c κs. search needs) says-requires (λ c κs. search needs) (λ c κs. search needs) returns-2)
