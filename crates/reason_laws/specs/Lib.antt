@@ -14,3 +14,4 @@ pub mod Firsts
 pub mod Untold
 pub mod Answered
 pub mod Asked
+pub mod Sooner

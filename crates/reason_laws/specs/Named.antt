@@ -31,7 +31,7 @@ implying-less n a = record {
   more-are-more = λ w h e. implied-by-more n (atoms-without w) h a e;
 }
 
-failing-less : (n : ℕ) → FewerAreLess (λ (m : List Placed). fails n (plains m)) (λ (m : List Placed). LowAtoms (plains m))
+pub failing-less : (n : ℕ) → FewerAreLess (λ (m : List Placed). fails n (plains m)) (λ (m : List Placed). LowAtoms (plains m))
 failing-less n = record { proper = fewer-low; more-are-more = λ w h e. fails-by-more n (atoms-without w) h e }
 
 -- ---- A false whole.

@@ -83,3 +83,7 @@ merged-among l = notFull-among (joinAll-among (clausesFrom 0 l) none-among)
 pub carriedClauses-among : (n : ℕ) (l : List Atom) (st : State) → Among (clausesFrom 0 l) (carriedClauses n st (mergedList l))
 unfolding carriedClauses
 carriedClauses-among n l st = carry-among (carried n (st .board) (plains (mergedList l)) (st .atoms)) (merged-among l)
+
+-- The same of any list that is merged, whatever sets its atoms then carry.
+pub all-among : (given : List Placed) (cut : List Atom) → Among given (carry (notFull (joinAll [] given)) cut)
+all-among given cut = carry-among cut (notFull-among (joinAll-among given none-among))

@@ -110,7 +110,7 @@ fn reason_for(fates: Fates, token: u32) -> Reason {
 
 // The record of the atom at an index.
 fn record(fates: Fates, i: usize) -> Reason {
-    if fates.false_whole {
+    if fates.excluded {
         let by = fates.by;
         return Reason {
             kind: 5,
@@ -139,7 +139,7 @@ fn nothing() -> Fates {
         stays: [false; 64],
         word: [0; 256],
         by: Places { word: [0; 4] },
-        false_whole: false,
+        excluded: false,
     }
 }
 
