@@ -57,14 +57,7 @@ pub fn fate_of_all(
             token: 0,
             contradiction: true,
         };
-        let named = leave_out(
-            coefficient,
-            monomial,
-            terms,
-            variables,
-            question,
-            later,
-        );
+        let named = leave_out(coefficient, monomial, terms, variables, question, later);
         return Fates {
             joined,
             carried: named,
@@ -87,19 +80,8 @@ pub fn fate_of_all(
         token: list,
         count: n,
     };
-    let count = without_implied(
-        coefficient,
-        monomial,
-        terms,
-        variables,
-        &mut list,
-        n,
-        state,
-    );
-    let left = Row {
-        token: list,
-        count,
-    };
+    let count = without_implied(coefficient, monomial, terms, variables, &mut list, n, state);
+    let left = Row { token: list, count };
     Fates {
         joined,
         carried,

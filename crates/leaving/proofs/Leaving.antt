@@ -88,12 +88,24 @@ module _ (t : Table) (q : Question) where
 
     pub search-up : enoughFor t q (s .asks .before ++ drop middle (s .asks .tokens)) ≡ true → Search kept list from middle high
     search-up e = record {
-      asks = s .asks; least = omega (arith, s .least); most = omega (arith, s .top); below = under; top = s .top; enough = e; not-enough = s .not-enough;
+      asks = s .asks;
+      least = omega (arith, s .least);
+      most = omega (arith, s .top);
+      below = under;
+      top = s .top;
+      enough = e;
+      not-enough = s .not-enough;
     }
 
     pub search-down : enoughFor t q (s .asks .before ++ drop middle (s .asks .tokens)) ≡ false → Search kept list from low middle
     search-down e = record {
-      asks = s .asks; least = s .least; most = s .most; below = above; top = omega (arith, s .top); enough = s .enough; not-enough = λ h. e;
+      asks = s .asks;
+      least = s .least;
+      most = s .most;
+      below = above;
+      top = omega (arith, s .top);
+      enough = s .enough;
+      not-enough = λ h. e;
     }
 
   pub search-end : {kept list : Row} {from low high : ℕ} → Search kept list from low high → high ≤ low + 1 → (k l : List ℕ) → Lists kept k → Lists list l
@@ -124,13 +136,28 @@ module _ (t : Table) (q : Question) where
   pub leaving-start : {list kept : Row} → AsksAll t q list → Lists kept [] → Leaving list kept 0
   unfolding leaveOut
   leaving-start a h = record {
-    before = []; tokens = a .tokens; kept-lists = h; lists = a .lists; short = omega arith; few = a .few; proper = a .proper; enough = a .enough; is = refl;
+    before = [];
+    tokens = a .tokens;
+    kept-lists = h;
+    lists = a .lists;
+    short = omega arith;
+    few = a .few;
+    proper = a .proper;
+    enough = a .enough;
+    is = refl;
   }
 
   pub leaving-asks : {list kept : Row} {i : ℕ} (v : Leaving list kept i) → i ≤ length (v .tokens) → AsksEnough t q kept list i
   leaving-asks v h = record {
     asks = record {
-      before = v .before; tokens = v .tokens; kept-lists = v .kept-lists; lists = v .lists; low = h; short = v .few; few = omega (arith, v .short, v .few); proper = v .proper;
+      before = v .before;
+      tokens = v .tokens;
+      kept-lists = v .kept-lists;
+      lists = v .lists;
+      low = h;
+      short = v .few;
+      few = omega (arith, v .short, v .few);
+      proper = v .proper;
     };
     enough = v .enough;
   }
@@ -190,12 +217,20 @@ module _ (t : Table) (q : Question) where
       → Lists longer (v .before ++ take 1 (drop at (v .tokens))) → Leaving list longer (at + 1)
   leaving-next {list} {longer = longer} {at = at} v h w = dite (decLt at (length (v .tokens)))
       (λ low. let cons : drop at (v .tokens) ≡ getD (v .tokens) at 0 ∷ drop (at + 1) (v .tokens) = rw (add-one) (drop-cons (v .tokens) at 0 low) in
-          leaving-one v h (getD (v .tokens) at 0) low cons (rw cons at w))
+      leaving-one v h (getD (v .tokens) at 0) low cons (rw cons at w))
       (λ high. let none : drop at (v .tokens) ≡ [] = rest-none (v .tokens) at (omega arith) in
-          let same : Lists longer (v .before) = rw (none, append-nil (v .before)) at w in
-          leaving-over {kept = longer} (record {
-            before = v .before; tokens = v .tokens; kept-lists = same; lists = v .lists; short = v .short; few = v .few; proper = v .proper; enough = v .enough; is = v .is;
-          }) h (omega arith))
+      let same : Lists longer (v .before) = rw (none, append-nil (v .before)) at w in
+      leaving-over {kept = longer} (record {
+        before = v .before;
+        tokens = v .tokens;
+        kept-lists = same;
+        lists = v .lists;
+        short = v .short;
+        few = v .few;
+        proper = v .proper;
+        enough = v .enough;
+        is = v .is;
+      }) h (omega arith))
 
   pub leaving-end : {list kept : Row} {i : ℕ} (v : Leaving list kept i) → length (v .tokens) ≤ i → (l : List ℕ) → Lists list l → LeavesOut t q l kept
   unfolding leaveOutFrom

@@ -39,7 +39,8 @@ unfolding EmptyAt Sparse Fits
 sparse-more [] x f p = (tt, tt)
 sparse-more (y ∷ l) x f p = (empty-more (slot y) l x (f .0) (p .0), sparse-more l x (f .1) (p .1))
 
-empty-set : (k : ℕ) (l : List ℕ) (i v : ℕ) → i < length l → slot v ≡ slot (getD l i 0) → (getD l i 0 % 8 ≡ 0 → v % 8 ≡ 0) → EmptyAt k l → EmptyAt k (set l i v)
+empty-set : (k : ℕ) (l : List ℕ) (i v : ℕ) → i < length l → slot v ≡ slot (getD l i 0) → (getD l i 0 % 8 ≡ 0 → v % 8 ≡ 0) → EmptyAt k l
+    → EmptyAt k (set l i v)
 unfolding EmptyAt
 empty-set k [] i v h e z a = absurd (omega arith)
 empty-set k (x ∷ l) zero v h e z a = (λ q. z (a .0 (sym e ∙ q)), a .1)

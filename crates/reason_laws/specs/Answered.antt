@@ -62,7 +62,8 @@ none-kept named [] = refl
 none-kept named (c ∷ given) = none-kept named given
 
 -- No record keeps anything.
-pub false-keeps-none : (n : ℕ) (l : List Atom) → LowAtoms l → fails n (plains (mergedList l)) ≡ true → keptByRecords (clausesFrom 0 l) (reasons n l) ≡ []
+pub false-keeps-none : (n : ℕ) (l : List Atom) → LowAtoms l → fails n (plains (mergedList l)) ≡ true
+    → keptByRecords (clausesFrom 0 l) (reasons n l) ≡ []
 false-keeps-none n l low e = ap (keptByRecords (clausesFrom 0 l)) (whole-false n l low e .records) ∙ none-kept _ (clausesFrom 0 l)
 
 -- ---- Every record is true.
@@ -139,7 +140,8 @@ module _ (n : ℕ) (all carry stay : List Placed) where
       one-more (true-record c (t .clause) p q (t .fate) (h .fate) (k .names))
       (true-records f hs ks js (sorted-later (subst (λ i. Every (From (suc i)) given) p r) ss) rs)
   true-records (merged-here {c} e f) hs ks (every j js) (every s ss) (rising r rs) = one-more (merged-record c e j) (true-records f hs ks js ss rs)
-  true-records (true-here e h f) hs ks (every j js) (every s ss) (rising r rs) = one-more (truly-full (true-or-full e h s)) (true-records f hs ks js ss rs)
+  true-records (true-here e h f) hs ks (every j js) (every s ss) (rising r rs) = one-more (truly-full (true-or-full e h s))
+      (true-records f hs ks js ss rs)
 
 -- Every record is true, where the whole is not false.
 pub reasons-true : (n : ℕ) (l : List Atom) (e : fails n (plains (mergedList l)) ≡ false)

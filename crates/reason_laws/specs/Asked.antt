@@ -92,9 +92,11 @@ verdict-never l = refl
 -- The whole is false: the same record for each atom, by atoms of the merged list that just fail, at least one, and hold together at no choice of
 -- readings. Or each record is true.
 pub data Truly (n : ℕ) (l : List Atom) : Type 0 where
-  truly-false : {named : List Placed} → reasons n l ≡ eachFalse (placesOf named) (clausesFrom 0 l) → Every (λ (d : Placed). Member d (mergedList l)) named
+  truly-false : {named : List Placed} → reasons n l ≡ eachFalse (placesOf named) (clausesFrom 0 l)
+      → Every (λ (d : Placed). Member d (mergedList l)) named
       → JustFails n named → (named ≡ [] → ⊥) → ((choice : Choice n) → atomsHold (at choice) (plains named) ≡ false) → Truly n l
-  truly-each : {carry : List Placed} → TrueRecords n (joined l) carry (keptByRecords (clausesFrom 0 l) (reasons n l)) (clausesFrom 0 l) (reasons n l) → Truly n l
+  truly-each : {carry : List Placed}
+      → TrueRecords n (joined l) carry (keptByRecords (clausesFrom 0 l) (reasons n l)) (clausesFrom 0 l) (reasons n l) → Truly n l
 
 pub record Asked (n : ℕ) (l : List Atom) : Type 0 where
   pub verdict : verdictOf (asNode (answerTo n l)) ≡ toldVerdict (fails n (plains (mergedList l))) (keptByRecords (clausesFrom 0 l) (reasons n l))
@@ -141,7 +143,8 @@ module _ (bytes : List ℕ) {given : Block} {stream : Stream} (accepted : readBl
   unfolding formulaOf atomsOfAnd eachAtomOf alone before PartsWithin lookedUp
   asked-low = by-tree (given .tree) (accepted-within bytes accepted .tree) only
     where
-      by-tree : (tree : Node NumberedAtom) → PartsWithin 6 (length (given .table)) 0 (alone tree) → atomsOfAnd (eachAtomOf (lookedUp (given .table)) tree) ≡ some l → LowAtoms l
+      by-tree : (tree : Node NumberedAtom) → PartsWithin 6 (length (given .table)) 0 (alone tree)
+          → atomsOfAnd (eachAtomOf (lookedUp (given .table)) tree) ≡ some l → LowAtoms l
       by-tree (leaf a) w e = rw (Option·some-injective l (lookedUp (given .table) a ∷ []) (sym e)) (every (w .1) every-none)
       by-tree (allOf kids) w e = low-parts _ _ _ (given .table) kids (w .2) e
       by-tree (anyOf kids) w e = absurd (Option·none-ne-some l e)

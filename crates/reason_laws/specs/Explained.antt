@@ -110,7 +110,8 @@ module _ (n : ℕ) (l : List Atom) where
     pub truly : Every (TrulyTold n) (toldFrom n [] (carriedClauses n state (mergedList l)))
     pub answered : answerTo n l ≡ andOf (staying (toldFrom n [] (carriedClauses n state (mergedList l))))
 
-  explained-by : (st : State) → run n (plains these) ≡ settled st → anyEmpty (setsOf (plains these)) ≡ false → (m : List Placed) → tidy (asRead 0 l) ≡ tidied m
+  explained-by : (st : State) → run n (plains these) ≡ settled st → anyEmpty (setsOf (plains these)) ≡ false → (m : List Placed)
+      → tidy (asRead 0 l) ≡ tidied m
       → Tidy m these → Explained
   unfolding reasons reasonsAfter once afterTidy afterRounds afterSweep sweep andOf carriedClauses
   explained-by st e f m t h =

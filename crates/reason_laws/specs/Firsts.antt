@@ -116,13 +116,15 @@ no-constants [] hs e = hs
 no-constants (d ∷ given) {l} hs e = by-constant (constant (d .polynomial)) refl e (λ m ks f. no-constants given ks f)
   where
     by-truth : (b : Bool) → anyEmpty (setsOf (plains (joinAll (joinConstant b d l) given))) ≡ false
-        → ((m : List Placed) → Every (Has NoConstant) m → anyEmpty (setsOf (plains (joinAll m given))) ≡ false → Every (Has NoConstant) (joinAll m given))
+        → ((m : List Placed) → Every (Has NoConstant) m → anyEmpty (setsOf (plains (joinAll m given))) ≡ false
+        → Every (Has NoConstant) (joinAll m given))
         → Every (Has NoConstant) (joinAll (joinConstant b d l) given)
     by-truth true f rest = rest l hs f
     by-truth false f rest = never-both (joinAll-empty _ given (false-stands d l)) f
 
     by-constant : (o : Option ℤ) → constant (d .polynomial) ≡ o → anyEmpty (setsOf (plains (joinAll (joinNormal o d l) given))) ≡ false
-        → ((m : List Placed) → Every (Has NoConstant) m → anyEmpty (setsOf (plains (joinAll m given))) ≡ false → Every (Has NoConstant) (joinAll m given))
+        → ((m : List Placed) → Every (Has NoConstant) m → anyEmpty (setsOf (plains (joinAll m given))) ≡ false
+        → Every (Has NoConstant) (joinAll m given))
         → Every (Has NoConstant) (joinAll (joinNormal o d l) given)
     by-constant none w f rest = rest (mergeInto d l) (join-every d w hs) f
     by-constant (some z) w f rest = by-truth (has (signOf z) (d .set)) f rest
@@ -146,7 +148,8 @@ unfolding joinAll clausesFrom joinNormal normalPlaced
 firsts-from [] i hs ks = every-none
 firsts-from (a ∷ given) i {l} hs ks =
     every (by-constant (constant (normal a .polynomial)) refl ks)
-    (firsts-from given (suc i) (every-wider (λ c h. record { it = later (h .it) }) (joinNormal-every (constant (normal a .polynomial)) c (omega arith) hs)) ks)
+    (firsts-from given (suc i) (every-wider (λ c h. record { it = later (h .it) }) (joinNormal-every (constant (normal a .polynomial)) c
+    (omega arith) hs)) ks)
   where
     c : Placed
     c = normalPlaced (placedAt i a)
@@ -182,13 +185,15 @@ pub data Stood (all : List Placed) (c : Placed) : Type 0 where
   is-true : TrueConstant c → Stood all c
   stands-first : (at : ℕ) → FirstAt (c .polynomial) at all → Stood all c
 
-stood-from : (given : List Atom) (i : ℕ) {l : List Placed} → Every (Has (UpTo i)) l → anyEmpty (setsOf (plains (joinAll l (clausesFrom i given)))) ≡ false
+stood-from : (given : List Atom) (i : ℕ) {l : List Placed} → Every (Has (UpTo i)) l
+    → anyEmpty (setsOf (plains (joinAll l (clausesFrom i given)))) ≡ false
     → Every (Stood (joinAll l (clausesFrom i given))) (clausesFrom i given)
 unfolding joinAll clausesFrom joinNormal joinConstant normalPlaced
 stood-from [] i hs e = every-none
 stood-from (a ∷ given) i {l} hs e =
     every (by-constant (constant (normal a .polynomial)) refl e)
-    (stood-from given (suc i) (every-wider (λ c h. record { it = later (h .it) }) (joinNormal-every (constant (normal a .polynomial)) c (omega arith) hs)) e)
+    (stood-from given (suc i) (every-wider (λ c h. record { it = later (h .it) }) (joinNormal-every (constant (normal a .polynomial)) c
+    (omega arith) hs)) e)
   where
     c : Placed
     c = normalPlaced (placedAt i a)
@@ -202,7 +207,8 @@ stood-from (a ∷ given) i {l} hs e =
     by-truth true z w t f = is-true (record { value = z; is = w; holds = t })
     by-truth false z w t f = never-both (joinAll-empty _ (clausesFrom (suc i) given) (false-stands c l)) f
 
-    by-constant : (o : Option ℤ) → constant (normal a .polynomial) ≡ o → anyEmpty (setsOf (plains (joinAll (joinNormal o c l) (clausesFrom (suc i) given)))) ≡ false
+    by-constant : (o : Option ℤ) → constant (normal a .polynomial) ≡ o
+        → anyEmpty (setsOf (plains (joinAll (joinNormal o c l) (clausesFrom (suc i) given)))) ≡ false
         → Stood (joinAll (joinNormal o c l) (clausesFrom (suc i) given)) c
     by-constant none w f = let first = just-joined c hs in stands-first (first .at) (joinAll-first (clausesFrom (suc i) given) (first .stands))
     by-constant (some z) w f = by-truth (has (signOf z) (normal a .set)) z w refl f

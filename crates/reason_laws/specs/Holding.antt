@@ -26,7 +26,8 @@ module _ {sign : Polynomial → Sign} {n : ℕ} (ok : Respects sign n) where
   pub named-imply : {named : List Placed} {a : Atom} → JustImplies n named a → atomsHold sign (plains named) ≡ true → atomHolds sign a ≡ true
   unfolding implied
   named-imply {named} {a} j h =
-      in-atom sign a (in-inside (says n (run n (plains named)) (a .polynomial)) (a .set) (j .suffices) (says-right ok (plains named) (a .polynomial) h))
+      in-atom sign a (in-inside (says n (run n (plains named)) (a .polynomial)) (a .set) (j .suffices) (says-right ok (plains named)
+      (a .polynomial) h))
 
   empty-false : (l : List Atom) → anyEmpty (setsOf l) ≡ true → atomsHold sign l ≡ false
   unfolding anyEmpty setsOf every

@@ -96,7 +96,8 @@ module _ {A : Type 0} where
 
       -- ---- Fewer tests: a beginning without which the rest is enough goes whole. (So one may gallop and halve for the longest one.)
 
-      enough-with : (kept front back : List A) → Proper (kept ++ (front ++ back)) → enough (kept ++ back) ≡ true → enough (kept ++ (front ++ back)) ≡ true
+      enough-with : (kept front back : List A) → Proper (kept ++ (front ++ back)) → enough (kept ++ back) ≡ true
+          → enough (kept ++ (front ++ back)) ≡ true
       enough-with kept [] back h e = e
       enough-with kept (c ∷ front) back h e =
           let w = without-after kept c (front ++ back) in less .more-are-more w h (enough-with kept front back (less .proper w h) e)

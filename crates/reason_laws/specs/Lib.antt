@@ -12,6 +12,7 @@ pub mod Standing
 pub mod Names
 pub mod Firsts
 pub mod Untold
+pub mod Otherwise
 pub mod Answered
 pub mod Asked
 pub mod Sooner

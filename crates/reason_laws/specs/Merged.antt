@@ -149,7 +149,8 @@ merged-agrees l = by-outcome (merge [] (asRead 0 l)) (merge-agrees l 0 [])
   where
     by-outcome : (o : Tidied) → Agrees o (joinAll [] (clausesFrom 0 l)) → AgreesInAll (afterMerging o) (notFull (joinAll [] (clausesFrom 0 l)))
     by-outcome broken h = notFull-empty (joinAll [] (clausesFrom 0 l)) h
-    by-outcome (tidied m) h = subst (λ (k : List Placed). AgreesInAll (withoutFull k) (notFull (joinAll [] (clausesFrom 0 l)))) h (full-agrees (joinAll [] (clausesFrom 0 l)))
+    by-outcome (tidied m) h = subst (λ (k : List Placed). AgreesInAll (withoutFull k) (notFull (joinAll [] (clausesFrom 0 l)))) h (full-agrees
+        (joinAll [] (clausesFrom 0 l)))
 
 -- ---- Its sets are below 8 if those of the atoms are.
 

@@ -88,14 +88,18 @@ module _ (n : ℕ) (all stay : List Placed) where
   stay-next true named c kept rest ks hs = (ks, hs)
   stay-next false named c kept rest ks (every h hs) = (every-append ks (every h every-none), hs)
 
-  names-from : (kept rest : List Placed) → Every (λ (d : Placed). Member d stay) kept → Every (λ (d : Placed). Member d stay) (staying (toldFrom n kept rest))
+  names-from : (kept rest : List Placed) → Every (λ (d : Placed). Member d stay) kept
+      → Every (λ (d : Placed). Member d stay) (staying (toldFrom n kept rest))
       → Every (λ (d : Placed). Member d all) rest → Rising rest → Every (WellNamed all stay) (toldFrom n kept rest)
   unfolding toldFrom staying
   names-from kept [] ks ss ms r = every-none
   names-from kept (c ∷ later) ks ss (every m ms) (rising h hs) =
       let gone = implied n (plains (kept ++ later)) (plain c) in
       let next = stay-next gone (implying n (kept ++ later) (plain c)) c kept _ ks ss in
-      every (record { names = names-one (c .place) (plain c) gone (every-append (every-wider (λ d k. stays-itself k) ks) (both-follow (c .place) ms h)) })
+      every (record {
+        names = names-one (c .place) (plain c) gone (every-append (every-wider (λ d k. stays-itself k) ks) (both-follow
+            (c .place) ms h));
+      })
       (names-from (keptUnless gone c kept) later (next .0) (next .1) ms hs)
 
 -- Where places rise, an atom that goes names atoms that stay and later ones only.

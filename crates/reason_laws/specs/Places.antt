@@ -38,7 +38,8 @@ join-among c none-among = is-among refl refl none-among
 join-among c (not-among f) = not-among (join-among c f)
 join-among c (is-among {c = g} {d = first} {given} {l = later} p q f) = by-test (same (c .polynomial) (first .polynomial)) (join-among c f)
   where
-    by-test : (b : Bool) → Among (given ++ (c ∷ [])) (mergeInto c later) → Among (g ∷ (given ++ (c ∷ []))) (mergedIf b c first later (mergeInto c later))
+    by-test : (b : Bool) → Among (given ++ (c ∷ [])) (mergeInto c later)
+        → Among (g ∷ (given ++ (c ∷ []))) (mergedIf b c first later (mergeInto c later))
     by-test true rest = is-among p q (last-not-among c f)
     by-test false rest = is-among p q rest
 

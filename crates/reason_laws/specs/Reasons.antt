@@ -74,8 +74,8 @@ fails n l = anyEmpty (setsOf l) || hasContradiction (run n l)
 unfoldable pub failing : ℕ → List Placed → List Placed
 failing n l = leaveOut (λ (m : List Placed). fails n (plains m)) l
 
--- "For another removed atom start from the atoms that remained then, with their carried sets": of these others, those on account of which the atom goes:
--- what they say of its polynomial, rounds run afresh, lies inside its set.
+-- "For another removed atom start from the atoms that remained then, with their carried sets": of these others, those on account of which the atom
+-- goes: what they say of its polynomial, rounds run afresh, lies inside its set.
 unfoldable pub implying : ℕ → List Placed → Atom → List Placed
 implying n others a = leaveOut (λ (m : List Placed). implied n (plains m) a) others
 

@@ -57,7 +57,8 @@ nothing-here : (i : ℕ) (own : SignSet) {told : List Told} → Every (ToldAt (s
 unfolding reasonAt orReason
 nothing-here i own every-none = refl
 nothing-here i own (every {a = t} {l = told} h hs) =
-    let differs : eqb i (t .clause .place) ≡ false = never-true (eqb i (t .clause .place)) (λ e. different (eqb-true i (t .clause .place) e) (h .at-least)) in
+    let differs : eqb i (t .clause .place) ≡ false =
+    never-true (eqb i (t .clause .place)) (λ e. different (eqb-true i (t .clause .place) e) (h .at-least)) in
     rw differs (nothing-here i own hs)
   where
     different : i ≡ t .clause .place → suc i ≤ t .clause .place → ⊥
@@ -149,7 +150,8 @@ keptByRecords (c ∷ given) [] = []
 keptByRecords (c ∷ given) (r ∷ rs) = keptClause r c (keptByRecords given rs)
 
 -- They are exactly the clauses that stay.
-pub kept-stay : {all given : List Placed} {told : List Told} {rs : List Reason} → RecordsTell all given told rs → keptByRecords given rs ≡ staying told
+pub kept-stay : {all given : List Placed} {told : List Told} {rs : List Reason} → RecordsTell all given told rs → keptByRecords given rs
+    ≡ staying told
 unfolding keptByRecords keptClause staying reasonOf keptOrNarrowed unlessGone
 kept-stay no-records = refl
 kept-stay (told-here {c} {t} {told} p q f) = by-fate (t .fate) _ ∙ ap (unlessGone (t .fate) (t .clause)) (kept-stay f)

@@ -40,7 +40,8 @@ pub told-false : (n : ℕ) (all these given : List Placed) → fails n (plains t
 unfolding fails hasContradiction reasonsAfter
 told-false n all these given = by-tests (anyEmpty (setsOf (plains these))) (run n (plains these))
   where
-    by-tests : (b : Bool) (o : Outcome) → b || hasContradiction o ≡ true → reasonsAfter b o n all these given ≡ eachFalse (placesOf (failing n these)) given
+    by-tests : (b : Bool) (o : Outcome) → b || hasContradiction o ≡ true → reasonsAfter b o n all these given
+        ≡ eachFalse (placesOf (failing n these)) given
     by-tests true o k = refl
     by-tests false contradiction k = refl
     by-tests false (settled st) k = absurd (false≢true k)
@@ -51,12 +52,14 @@ empty-there [] c back e = or-first _ (eq-eqb (c .set) empty e)
 empty-there (d ∷ front) c back e = or-second (eqb (d .set) empty) (empty-there front c back e)
 
 -- Where the rest fails, the beginning goes.
-pub failing-later : (n : ℕ) (front back : List Placed) → LowAtoms (plains (front ++ back)) → fails n (plains back) ≡ true → failing n (front ++ back) ≡ failing n back
+pub failing-later : (n : ℕ) (front back : List Placed) → LowAtoms (plains (front ++ back)) → fails n (plains back) ≡ true
+    → failing n (front ++ back) ≡ failing n back
 unfolding failing leaveOut
 failing-later n front back low e = beginning-goes (λ (m : List Placed). fails n (plains m)) (failing-less n) [] front back low e
 
 -- Where the rest behind an atom with the empty set does not fail, that one alone is left.
-pub failing-empty : (n : ℕ) (front : List Placed) (c : Placed) (back : List Placed) → LowAtoms (plains (front ++ (c ∷ back))) → LowAtoms (plains (c ∷ back))
+pub failing-empty : (n : ℕ) (front : List Placed) (c : Placed) (back : List Placed) → LowAtoms (plains (front ++ (c ∷ back)))
+    → LowAtoms (plains (c ∷ back))
     → c .set ≡ empty → fails n (plains back) ≡ false → failing n (front ++ (c ∷ back)) ≡ c ∷ []
 unfolding failing leaveOut leaveOutFrom keptUnless fails
 failing-empty n front c back low low-rest e f =
@@ -86,7 +89,8 @@ unfolding fails
 fails-by-rounds n l u = rw (u .none)
 
 -- Two tests that agree on a list and on all that is fewer leave out the same.
-module _ {A : Type 0} (one other : List A → Bool) (P : List A → Type 0) (fewer : (l m : List A) → Without l m → P l → P m) (agree : (l : List A) → P l → one l ≡ other l) where
+module _ {A : Type 0} (one other : List A → Bool) (P : List A → Type 0) (fewer : (l m : List A) → Without l m → P l → P m) (agree : (l : List A)
+    → P l → one l ≡ other l) where
   without-here : (kept : List A) (c : A) (later : List A) → Without (kept ++ (c ∷ later)) (kept ++ later)
   without-here [] c later = this-one
   without-here (b ∷ kept) c later = a-later-one (without-here kept c later)
@@ -110,7 +114,8 @@ module _ {A : Type 0} (one other : List A → Bool) (P : List A → Type 0) (few
 pub failing-by-rounds : (n : ℕ) (l : List Placed) → Unempty l → failing n l ≡ leaveOut (λ (m : List Placed). hasContradiction (run n (plains m))) l
 unfolding failing
 failing-by-rounds n l u =
-    leaveOut-alike (λ (m : List Placed). fails n (plains m)) (λ (m : List Placed). hasContradiction (run n (plains m))) Unempty (λ k m w v. unempty-fewer w v) (fails-by-rounds n) l u
+    leaveOut-alike (λ (m : List Placed). fails n (plains m)) (λ (m : List Placed). hasContradiction (run n (plains m))) Unempty
+    (λ k m w v. unempty-fewer w v) (fails-by-rounds n) l u
 
 -- ---- Step 5: the first of what stays tells whether the atom at hand does.
 
@@ -122,7 +127,8 @@ staying-from : (n : ℕ) (i : ℕ) (kept : List Placed) {l : List Placed} → Ev
 unfolding toldFrom staying fateIf unlessGone
 staying-from n i kept every-none = every-none
 staying-from n i kept (every {a = c} {l = later} h hs) =
-    let gone = implied n (plains (kept ++ later)) (plain c) in by-test gone (implying n (kept ++ later) (plain c)) (staying-from n i (keptUnless gone c kept) hs)
+    let gone = implied n (plains (kept ++ later)) (plain c) in by-test gone (implying n (kept ++ later) (plain c)) (staying-from n i
+    (keptUnless gone c kept) hs)
   where
     by-test : (gone : Bool) (named : List Placed) {rest : List Placed} → Every (From i) rest → Every (From i) (unlessGone (fateIf gone named) c rest)
     by-test true named r = r

@@ -21,7 +21,8 @@ use Rattle.reason_laws.specs.Records.{Stands, ToldStands}
 
 -- ---- Merging leaves no polynomial twice. (As in removal_laws/Apart, where these are not public.)
 
-mergeInto-other : {p : Polynomial} (a : Placed) (l : List Placed) → Other p (plain a) → Every (Other p) (plains l) → Every (Other p) (plains (mergeInto a l))
+mergeInto-other : {p : Polynomial} (a : Placed) (l : List Placed) → Other p (plain a) → Every (Other p) (plains l)
+    → Every (Other p) (plains (mergeInto a l))
 unfolding mergeInto mergedIf
 mergeInto-other a [] k hs = every k every-none
 mergeInto-other {p} a (first ∷ later) k (every h hs) = by-test (same (a .polynomial) (first .polynomial)) (mergeInto-other a later k hs)
@@ -35,7 +36,8 @@ unfolding mergeInto mergedIf
 mergeInto-apart a [] h = apart every-none none-apart
 mergeInto-apart a (first ∷ later) (apart h hs) = by-test (same (a .polynomial) (first .polynomial)) refl (mergeInto-apart a later hs)
   where
-    by-test : (b : Bool) → same (a .polynomial) (first .polynomial) ≡ b → Apart (plains (mergeInto a later)) → Apart (plains (mergedIf b a first later (mergeInto a later)))
+    by-test : (b : Bool) → same (a .polynomial) (first .polynomial) ≡ b → Apart (plains (mergeInto a later))
+        → Apart (plains (mergedIf b a first later (mergeInto a later)))
     by-test true e merged = apart h hs
     by-test false e merged = apart (mergeInto-other a later (other-back {a = plain a} {b = plain first} (record { differs = e })) h) merged
 
@@ -48,7 +50,8 @@ unfolding merge mergeNormal mergeConstant
 merge-apart [] l h = h
 merge-apart (a ∷ later) l h = by-constant (constant (normalPlaced a .polynomial)) (λ m. merge-apart later m)
   where
-    by-truth : (b : Bool) (more : List Placed → Tidied) → ((m : List Placed) → Apart (plains m) → MergedApart (more m)) → MergedApart (mergeConstant b l more)
+    by-truth : (b : Bool) (more : List Placed → Tidied) → ((m : List Placed) → Apart (plains m) → MergedApart (more m))
+        → MergedApart (mergeConstant b l more)
     by-truth true more k = k l h
     by-truth false more k = tt
 
@@ -110,4 +113,5 @@ pub all-stand : (n : ℕ) (l : List Atom) (st : State) → anyEmpty (setsOf (pla
     → Every (ToldStands (joined l)) (toldFrom n [] (carriedClauses n st (mergedList l)))
 unfolding carriedClauses mergedList
 all-stand n l st f =
-    told-stands n [] (carry-stands (carried n (st .board) (plains (mergedList l)) (st .atoms)) (notFull-stands (each-stands (joined l) (joined-apart l f))))
+    told-stands n [] (carry-stands (carried n (st .board) (plains (mergedList l)) (st .atoms)) (notFull-stands (each-stands (joined l)
+    (joined-apart l f))))

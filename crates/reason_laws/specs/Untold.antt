@@ -1,4 +1,4 @@
--- A record "removed by none, with the full set" is that of a true constant, or of an atom that is full after merging; what step 5 removes has another set.
+-- A record "removed by none, with the full set" is that of a true constant, or of an atom that is full after merging.
 use mathlib.Core.Path.{_≡_, refl, sym, ap, _∙_, subst}
 use mathlib.Core.Bool.{Bool, true, false}
 use mathlib.Core.List.{List, [], _∷_}

@@ -21,23 +21,27 @@ few-there k l from h = omega (arith, length-append k (drop from l), length-drop 
 excludes-requires : tie.Need-excludes-requires
 excludes-requires c κs =
     let s = c .before .before .before .before .before in
-    let a = s .pre .1 in
-    (s .pre .0, record {
-      tokens = a .before ++ drop (s .args .from) (a .tokens);
-      lists = appended (a .before) (a .tokens) _ _ (a .lists .size) (c .before .before .append .ensures .1 (a .before) (a .tokens) (a .kept-lists) (a .lists) (omega (arith, a .lists .size)));
-      few = few-there (a .before) (a .tokens) _ (a .few);
-    })
+    let a = s .pre .1 in (
+      s .pre .0,
+      record {
+        tokens = a .before ++ drop (s .args .from) (a .tokens);
+        lists = appended (a .before) (a .tokens) _ _ (a .lists .size) (c .before .before .append .ensures .1 (a .before) (a .tokens) (a .kept-lists) (a .lists) (omega (arith, a .lists .size)));
+        few = few-there (a .before) (a .tokens) _ (a .few);
+      },
+    )
 
 implies-requires : tie.Need-implies-requires
 implies-requires c κs =
     let s = c .before .before .before .before .before in
-    let a = s .pre .1 in
-    (s .pre .0, record {
-      tokens = a .before ++ drop (s .args .from) (a .tokens);
-      lists = appended (a .before) (a .tokens) _ _ (a .lists .size) (c .before .before .append .ensures .1 (a .before) (a .tokens) (a .kept-lists) (a .lists) (omega (arith, a .lists .size)));
-      few = few-there (a .before) (a .tokens) _ (a .few);
-      afresh = a .proper .afresh (c .if1 .left);
-    })
+    let a = s .pre .1 in (
+      s .pre .0,
+      record {
+        tokens = a .before ++ drop (s .args .from) (a .tokens);
+        lists = appended (a .before) (a .tokens) _ _ (a .lists .size) (c .before .before .append .ensures .1 (a .before) (a .tokens) (a .kept-lists) (a .lists) (omega (arith, a .lists .size)));
+        few = few-there (a .before) (a .tokens) _ (a .few);
+        afresh = a .proper .afresh (c .if1 .left);
+      },
+    )
 
 returns : tie.Need-returns
 unfolding enoughFor enoughIf

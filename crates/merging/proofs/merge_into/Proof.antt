@@ -16,11 +16,14 @@ abbrev μ-loop : tie.MeasureT-loop
 μ-loop token list number end i₀ i = end - i
 
 found : tie.Need-returns Inv-loop μ-loop
-found c = (omega arith, λ t l forms h.
-    let loop = c .before .before .before .before .before .before .before .before .loop in
-    into-found forms h (loop .inv .1 t l forms h) (omega (arith, h .size, c .before .before .before .before .before .before .before .loop-test .taken)) _ _ _
-    (sym (c .before .before .before .before .before .slot-of2 .ensures) ∙ c .before .before .before .before .if1 .taken ∙ c .before .before .before .before .before .before .before .before .before .slot-of .ensures)
-    (rw (c .before .before .before .set-of .ensures, c .before .before .set-of2 .ensures) at (c .before .intersect .ensures)) (c .with-set .ensures) refl refl)
+found c = (
+  omega arith,
+  λ t l forms h.
+      let loop = c .before .before .before .before .before .before .before .before .loop in
+      into-found forms h (loop .inv .1 t l forms h) (omega (arith, h .size, c .before .before .before .before .before .before .before .loop-test .taken)) _ _ _
+      (sym (c .before .before .before .before .before .slot-of2 .ensures) ∙ c .before .before .before .before .if1 .taken ∙ c .before .before .before .before .before .before .before .before .before .slot-of .ensures)
+      (rw (c .before .before .before .set-of .ensures, c .before .before .set-of2 .ensures) at (c .before .intersect .ensures)) (c .with-set .ensures) refl refl,
+)
 
 again : tie.Need-loop-again Inv-loop μ-loop
 again c =
@@ -32,8 +35,11 @@ again c =
     )
 
 pushed : tie.Need-returns-2 Inv-loop μ-loop
-pushed c = (omega (arith, c .push .ensures .0), λ t l forms h.
-    into-end (c .before .before .loop .inv .1 t l forms h) (omega (arith, h .size, c .before .loop-test .left)) _ (c .push .ensures .1 l h))
+pushed c = (
+  omega (arith, c .push .ensures .0),
+  λ t l forms h.
+      into-end (c .before .before .loop .inv .1 t l forms h) (omega (arith, h .size, c .before .loop-test .left)) _ (c .push .ensures .1 l h),
+)
 
 pub merge-into-spec : {M : Type 1} → statement M
 merge-into-spec =
