@@ -242,7 +242,17 @@ fn read_terms(
     if count == 0 {
         return Step::Read(place);
     }
-    let step = read_term_in(src, coefficient, monomial, place, edition, n, k, first, above);
+    let step = read_term_in(
+        src,
+        coefficient,
+        monomial,
+        place,
+        edition,
+        n,
+        k,
+        first,
+        above,
+    );
     match step {
         Step::Refused(number) => Step::Refused(number),
         Step::Read(after) => {
@@ -296,7 +306,18 @@ fn read_polynomial(
         at: at + 5,
         allowed: place.allowed,
     };
-    read_terms(src, coefficient, monomial, first, edition, n, 16 * i, count, true, 0)
+    read_terms(
+        src,
+        coefficient,
+        monomial,
+        first,
+        edition,
+        n,
+        16 * i,
+        count,
+        true,
+        0,
+    )
 }
 
 // The polynomials from number i on, up to number m.
@@ -323,7 +344,17 @@ fn read_table(
     let step = read_polynomial(src, coefficient, monomial, counts, place, edition, n, i);
     match step {
         Step::Refused(number) => Step::Refused(number),
-        Step::Read(after) => read_table(src, coefficient, monomial, counts, after, edition, n, i + 1, m),
+        Step::Read(after) => read_table(
+            src,
+            coefficient,
+            monomial,
+            counts,
+            after,
+            edition,
+            n,
+            i + 1,
+            m,
+        ),
     }
 }
 

@@ -88,7 +88,16 @@ fn write_terms(
     }
     let value = coefficient[k];
     let next = write_term(out, at, edition, n, value, monomial[k]);
-    write_terms(out, coefficient, monomial, next, edition, n, k + 1, count - 1)
+    write_terms(
+        out,
+        coefficient,
+        monomial,
+        next,
+        edition,
+        n,
+        k + 1,
+        count - 1,
+    )
 }
 
 // The polynomial number i.
@@ -134,7 +143,17 @@ fn write_table(
         return at;
     }
     let next = write_polynomial(out, coefficient, monomial, counts, at, edition, n, i);
-    write_table(out, coefficient, monomial, counts, next, edition, n, i + 1, m)
+    write_table(
+        out,
+        coefficient,
+        monomial,
+        counts,
+        next,
+        edition,
+        n,
+        i + 1,
+        m,
+    )
 }
 
 // An atom by its token.
