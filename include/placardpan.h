@@ -1,5 +1,6 @@
 /* Placardpan for C: a lift condition block is read, simplified and written again, or refused by a number.
- * The functions are those of liblift.a, but for placardpan_evaluate, which is libevaluate.a's; docs/LINKING.md says how to link them and what a caller
+ * The functions are those of liblift.a, but for placardpan_evaluate, which is libevaluate.a's, and placardpan_script, which is libscript.a's; docs/LINKING.md
+ * says how to link them and what a caller
  * holds to.
  *
  * A lent slice is a pointer and a length in bytes. In every call
@@ -30,7 +31,7 @@ enum {
 enum {
     PLACARDPAN_OUTPUT_SHORTER = 1,   /* lent output shorter than lent input */
     PLACARDPAN_UNDER_5_BYTES = 2,    /* input under 5 bytes */
-    PLACARDPAN_EDITION = 3,          /* edition not 1 */
+    PLACARDPAN_EDITION = 3,          /* edition neither 1 nor 2 */
     PLACARDPAN_LENGTH_FIELD = 4,     /* length field differs from input length */
     PLACARDPAN_HEAD_COUNT = 5,       /* n, m or node count not allowed */
     PLACARDPAN_BITS_END = 6,         /* bits end inside a field */
@@ -43,11 +44,15 @@ enum {
     PLACARDPAN_NESTING = 13,         /* nesting above 6 */
     PLACARDPAN_NODE_COUNT = 14,      /* more or fewer nodes than the head says */
     PLACARDPAN_PADDING = 15,         /* padding not zero, or a whole byte left over */
-    PLACARDPAN_FEW_PLACES = 18       /* fewer than 255 places lent; tried directly after 1, by placardpan_placed alone */
+    PLACARDPAN_FEW_PLACES = 18,      /* fewer than 255 places lent; tried directly after 1, by placardpan_placed alone */
+    PLACARDPAN_PAIR_COUNT = 21,      /* edition 2: pair count above n */
+    PLACARDPAN_PAIR_NUMBERS = 22,    /* edition 2: variable numbers not rising or not below n */
+    PLACARDPAN_PAIR_EXPONENT = 23    /* edition 2: exponent 0 */
 };
 
-/* A new block has at least 5 and at most this many bytes, and never more than the block it came from. */
-#define PLACARDPAN_LONGEST_BLOCK 12684
+/* A new block has at least 5 and at most this many bytes, in edition 1 at most 12,684, and never more than the block it came from. It is in the
+ * edition of that block. */
+#define PLACARDPAN_LONGEST_BLOCK 21516
 
 /* Simplifies a block. The answer is one number: below 256 a refusal's number, else 65,536 times the verdict plus the new block's length.
  * A refusal leaves each byte of the output as it is. Else the output's first bytes are the new block and the rest keep their values. */
@@ -72,7 +77,7 @@ static inline size_t placardpan_length(uint32_t answer)
 }
 
 /* The engines that deduce (request #110): the fast one, which every other function takes, and the plain one, which tests single values as a person would.
- * Both give the same answer; the plain one takes some 2 to 200 times as long. */
+ * Both give the same answer; the plain one takes some 2 to 240 times as long. */
 enum {
     PLACARDPAN_FAST = 0,
     PLACARDPAN_PLAIN = 1
@@ -114,7 +119,7 @@ size_t placardpan_report(const uint8_t *input, size_t input_length, uint8_t *out
 /* A text in which the lines for an input of this length fit. */
 #define PLACARDPAN_TEXT(input_length) (3 * (size_t)(input_length) + 32)
 
-/* Runs a block on readings (request #102): one number for each outcome, below 256 the refusal's, else one of these. The reader's refusals 2 to 15 come
+/* Runs a block on readings (request #102): one number for each outcome, below 256 the refusal's, else one of these. The reader's refusals 2 to 15 and 21 to 23 come
  * first, then 16 if there are not as many readings as the block has variables, then 17. Nothing is written. A call takes some 46 KB of stack; give its thread
  * 64 KiB or more. */
 enum {
@@ -125,6 +130,28 @@ enum {
 };
 
 uint32_t placardpan_evaluate(const uint8_t *input, size_t input_length, const int32_t *readings, size_t count);
+
+/* Writes a block of either edition in edition 1, or in edition 2 (request #109; the functions of libconvert.a): below 256 the refusal's number, the
+ * reader's, then 1 if the output is shorter than the finished block, and the output keeps each byte; else 65,536 plus the length, which
+ * placardpan_length takes from it, and the output's first bytes are the finished block and the rest keep their values. */
+uint32_t placardpan_to_edition1(const uint8_t *input, size_t input_length, uint8_t *output, size_t output_length);
+uint32_t placardpan_to_edition2(const uint8_t *input, size_t input_length, uint8_t *output, size_t output_length);
+
+/* Simplifies a block and writes the answer as a script in SMT-LIB 2 (request #112; docs/SMTLIB.md has the text byte by byte). Below 256 the number of the
+ * refusal: the reader's 2 to 15, then 24; there is no 1. Else 65,536 plus the script's length, and the text is the script and then what was there. A refusal
+ * leaves each byte of the text as it is. The script is measured before it is written. No 0 byte ends it. */
+#define PLACARDPAN_TEXT_SHORT 24 /* the lent text is shorter than the finished script */
+
+uint32_t placardpan_script(const uint8_t *input, size_t input_length, uint8_t *text, size_t text_length);
+
+/* The script's length in bytes, 0 on refusal. */
+static inline size_t placardpan_script_length(uint32_t answer)
+{
+    return answer < 256 ? 0 : answer - 65536;
+}
+
+/* No script is longer. */
+#define PLACARDPAN_LONGEST_SCRIPT 2024782
 
 /* ---- Loading that a power cut cannot hurt: the functions of libloading.a; docs/LOADING.md says what is proved of them. */
 

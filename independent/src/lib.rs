@@ -42,8 +42,12 @@ pub mod check;
 pub mod corpus;
 pub mod random;
 
-// The fixed edge blocks
+// The fixed edge blocks, and those that only edition 2 can have
 pub mod edge;
+pub mod pairs;
+
+// Request #109: a block in the other edition
+pub mod convert;
 
 // Blocks whose polynomials in are known
 pub mod uses;
@@ -61,8 +65,18 @@ pub mod search;
 // A formula as other solvers read it
 pub mod smt;
 
+// Request #112: a script for the makers' tools, written and read; and texts to read
+pub mod script;
+pub mod scripts;
+
 // Request #102: a block run on readings
 pub mod evaluate;
 
 // Loading that a power cut cannot hurt
 pub mod loading;
+
+// Request #113: a pool of polynomials for a release
+pub mod pool;
+
+// Request #106: why is the clause gone?
+pub mod why;

@@ -2,10 +2,12 @@
 use mathlib.Core.Path.{_≡_, refl, sym, ap, _∙_}
 use mathlib.Core.List.{List, _++_}
 use Prim.Native.Nat.{ℕ, _≤_, _<_}
+use native.Mathlib.Nat.{zero-add}
 use native.Mathlib.Omega.{arith}
 use lib.Dec.{leb}
 use lib.IntN.{ℤ, pos}
-use lib.ListN.{length, drop, replicate, length-replicate}
+use lib.ListN.{length, take, drop, replicate, length-replicate}
+use lib.Seq.{sets, sets-eq, take-append-seam}
 use borrow.Author.Tests.{le-leb, lt-leb}
 use Rattle.rules.specs.Block.{Block, Edition, edition1, edition2, editionNumber, editionOf, Stream, refused, read, readBlock, blockLength, writeBlock}
 use Rattle.rules.specs.Convert.{Conversion, notConverted, converted, ifRoomFor, convertedTo, convert, convertedInto}
@@ -51,6 +53,13 @@ finishes {bytes} {before} room size-is after-is = record {
   output = after-is ∙ rw (le-leb (length bytes) (length before) room);
 }
 
+-- A block that was stored at the front of a list is found there again.
+pub front-again : (zeros bytes : List ℕ) {stored : List ℕ} {size : ℕ} → stored ≡ sets zeros 0 bytes → size ≡ length bytes → length bytes ≤ length zeros
+    → take size stored ≡ bytes
+front-again zeros bytes is size-is room =
+    let whole : sets zeros 0 bytes ≡ bytes ++ drop (length bytes) zeros = rw (zero-add (length bytes)) at (sets-eq bytes zeros 0 (omega arith)) in
+    rw (is, whole, size-is) (take-append-seam bytes (drop (length bytes) zeros))
+
 -- ---- what was read
 
 -- What the reader refuses is refused by its number,
@@ -65,6 +74,13 @@ pub converts-finished : (edition : Edition) {bytes before after : List ℕ} {ret
 unfolding convert convertedTo
 converts-finished edition is told = record { returns = told .returns ∙ rw is; output = told .output ∙ rw is }
 
+-- A block was read from these bytes, and the arrays that hold it can be written in an edition.
+pub record Readable (bytes : List ℕ) (edition : ℕ) (held : Held) : Type 0 where
+  pub block : Block
+  pub stream : Stream
+  pub reading : readBlock bytes ≡ read block stream
+  pub writable : Writable edition held 21516 block
+
 longest-at-most : (edition : Edition) → longest edition ≤ 21516
 unfolding longest
 longest-at-most edition1 = omega arith
@@ -72,32 +88,26 @@ longest-at-most edition2 = omega arith
 
 module _ {bytes : List ℕ} {cs : List ℤ} {ms ts token : List ℕ} {contents : Contents}
     (found : ContentsFound bytes (replicate 1024 (pos 0)) cs (replicate 1024 0) ms (replicate 64 0) ts (replicate 255 0) token contents) where
+  -- The reader finds a refusal,
   pub found-refused : {number : ℕ} → contents ≡ NoBlock number → readBlock bytes ≡ refused number
   unfolding ContentsOf
   found-refused e = (rw e at found) .found
 
-  module _ {variables polynomials root count : ℕ} (e : contents ≡ Numbers variables polynomials root count) where
-    pub found-block : Block
-    unfolding ContentsOf
-    found-block = (rw e at found) .found .block
-
-    pub found-stream : Stream
-    unfolding ContentsOf
-    found-stream = (rw e at found) .found .rest
-
-    pub found-read : readBlock bytes ≡ read found-block found-stream
-    unfolding ContentsOf
-    found-read = (rw e at found) .found .reading
-
-    -- It can be written in either edition where there is room for 21,516 bytes.
-    pub found-writable : (edition : ℕ) → edition ≡ editionNumber (editionOf edition)
-        → Writable edition (heldBy variables polynomials root count cs ms ts token) 21516 found-block
-    unfolding ContentsOf
-    found-writable edition known =
-        let stored = (rw e at found) .found in
-        let within = accepted-within bytes (stored .reading) in
-        let room : blockLength (editionOf edition) (stored .block) ≤ 21516 =
-        omega (arith, longest-block (editionOf edition) (stored .block) within, longest-at-most (editionOf edition)) in
-        rw (stored .stored)
-        (writable (stored .block) within (replicate 1024 (pos 0)) (replicate 1024 0) (replicate 64 0) (replicate 255 0) (length-replicate 1024 (pos 0))
-        (length-replicate 1024 0) (length-replicate 64 0) (length-replicate 255 0) edition 21516 known room)
+  -- or a block, which can be written in either edition where there is room for 21,516 bytes.
+  pub found-accepted : {variables polynomials root count : ℕ} (edition : ℕ) → edition ≡ editionNumber (editionOf edition)
+      → contents ≡ Numbers variables polynomials root count → Readable bytes edition (heldBy variables polynomials root count cs ms ts token)
+  unfolding ContentsOf
+  found-accepted edition known e =
+      let stored = (rw e at found) .found in
+      let within = accepted-within bytes (stored .reading) in
+      let room : blockLength (editionOf edition) (stored .block) ≤ 21516 =
+      omega (arith, longest-block (editionOf edition) (stored .block) within, longest-at-most (editionOf edition)) in
+      record {
+        block = stored .block;
+        stream = stored .rest;
+        reading = stored .reading;
+        writable = rw (stored .stored)
+            (writable (stored .block) within (replicate 1024 (pos 0)) (replicate 1024 0) (replicate 64 0) (replicate 255 0)
+            (length-replicate 1024 (pos 0)) (length-replicate {A = ℕ} 1024 0) (length-replicate {A = ℕ} 64 0) (length-replicate {A = ℕ} 255 0)
+            edition 21516 known room);
+      }

@@ -1,21 +1,35 @@
 // Runs the converters over a stream: each frame has the room in 2 bytes, most significant first, and a block behind them.
 // Prints for each the conversion to edition 1 and then that to edition 2: the finished block in hex, or REFUSED and the number. The frames and the
 // expected lines come from the independent reading.
+ghost use Prim.Native.Nat.{_≤_};
 use convert::Converted;
 use convert::to_edition1;
 use convert::to_edition2;
 use frames::Kind;
 use libc::STDOUT_FILENO;
 
-fn wide(byte: u8) -> u64 {
+fn wide(byte: u8) -> u64
+    ensures { λ r. ⌜ r ≤ 255 ⌝ }
+{
     byte as u64
 }
 
-// One digit of 0 to 15.
-fn print_digit(digit: u64) {
-    let digits = b"0123456789abcdef";
-    let at = (digit % 16) as usize;
-    io::write_all(STDOUT_FILENO, &digits[at..at + 1]);
+// The last hex digit of a number.
+fn digit(number: u8) -> u8 {
+    let last = number % 16;
+    if last < 10 { last + 48 } else { last + 87 }
+}
+
+// A byte in two hex digits, with a space before them unless it is the first.
+fn print_pair(byte: u8, first: bool) {
+    let mut pair = [32u8; 3];
+    pair[1] = digit(byte / 16);
+    pair[2] = digit(byte);
+    if first {
+        io::write_all(STDOUT_FILENO, &pair[1..]);
+    } else {
+        io::write_all(STDOUT_FILENO, &pair);
+    }
 }
 
 // So many bytes of the output in lower-case hex pairs, one space apart.
@@ -25,13 +39,9 @@ fn print_hex(output: &[u8], size: usize) {
     }
     let mut i = 0;
     while i < size {
-        if 0 < i {
-            io::write_all(STDOUT_FILENO, b" ");
-        }
-        let byte = wide(output[i]);
+        let at = i;
         i += 1;
-        print_digit(byte / 16);
-        print_digit(byte % 16);
+        print_pair(output[at], at == 0);
     }
     io::write_all(STDOUT_FILENO, b"\n");
 }

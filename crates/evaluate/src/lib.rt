@@ -103,7 +103,7 @@ fn node(
     Seen { next, fits, holds }
 }
 
-// "answers permit or deny", or a refusal: the reader's 2 to 15, 16 for another number of readings, 17 for an overflow.
+// "answers permit or deny", or a refusal: the reader's 2 to 15 and 21 to 23, 16 for another number of readings, 17 for an overflow.
 pub enum Evaluation {
     Refused(u8),
     Deny,

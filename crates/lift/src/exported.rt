@@ -15,7 +15,7 @@ use crate::report;
 use crate::simplify;
 use crate::simplify_by;
 
-// The verdict's number and the length in one; a block has at most 12,684 bytes.
+// The verdict's number and the length in one; a block has at most 21,516 bytes.
 fn packed(verdict: Verdict, size: usize) -> u32
     requires { ⌜ size < 65536 ⌝ }
     ensures { λ r. ⌜ r ≡ packedOf verdict size ⌝ }

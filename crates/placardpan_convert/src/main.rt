@@ -20,7 +20,10 @@ fn asked(input: &[u8]) -> u64 {
             return 2;
         }
     }
-    3 - edition(input)
+    if edition(input) == 1 {
+        return 2;
+    }
+    1
 }
 
 fn converted(input: &[u8], output: &mut [u8]) -> Converted {

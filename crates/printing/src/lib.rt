@@ -129,13 +129,24 @@ fn print_rounds(input: &[u8], output: &mut [u8]) {
 
 // ---- with the lines that were asked for
 
-// Answers an input and prints its lines, then that of its places and that of its rounds, if they were asked for.
-pub fn print_asked(input: &[u8], output: &mut [u8], text: &mut [u8], asked: Asked) {
-    print_answer(asked.plain, input, output, text);
-    if asked.places {
-        print_places(asked.plain, input, output);
+fn print_places_if(asked: bool, plain: bool, input: &[u8], output: &mut [u8]) {
+    if asked {
+        print_places(plain, input, output);
     }
-    if asked.rounds {
+}
+
+fn print_rounds_if(asked: bool, input: &[u8], output: &mut [u8]) {
+    if asked {
         print_rounds(input, output);
     }
+}
+
+// Answers an input and prints its lines, then that of its places and that of its rounds, if they were asked for.
+pub fn print_asked(input: &[u8], output: &mut [u8], text: &mut [u8], asked: Asked) {
+    let plain = asked.plain;
+    let places = asked.places;
+    let rounds = asked.rounds;
+    print_answer(plain, input, output, text);
+    print_places_if(places, plain, input, output);
+    print_rounds_if(rounds, input, output);
 }

@@ -1,0 +1,3 @@
+pub mod Texts
+pub mod Parts
+pub mod Roots
