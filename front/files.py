@@ -25,7 +25,7 @@ def read(path, most=-1):
     """The bytes of a file, or of standard input where there is no path; at most so many."""
     if path is None:
         if sys.stdin is None or sys.stdin.closed:
-            raise Usage("cannot read standard input: it is closed")
+            raise Usage("cannot read standard input: %s" % os.environ.get("PLACARDPAN_INPUT", "it is closed"))
         try:
             return sys.stdin.buffer.read(most)
         except OSError:
