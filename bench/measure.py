@@ -89,9 +89,12 @@ def blocks():
         cases.append(rest[2 : 2 + length])
         rest = rest[2 + length :]
     yield "cases A to N", cases
-    yield "load chart", [open("examples/load_chart.block", "rb").read()]
+    chart = open("examples/load_chart.block", "rb").read()
+    yield "load chart", [chart]
+    yield "load chart, edition 2", [output([INDEPENDENT, "convert", "2"], chart)]
     for name in ["chain", "linear", "mixed", "deep", "slowest", "back", "zigzag", "scattered", "removed", "worst"]:
         yield name, [output([INDEPENDENT, "bench", name])]
+    yield "mixed, edition 2", [output([INDEPENDENT, "convert", "2"], output([INDEPENDENT, "bench", "mixed"]))]
 
 
 # ---- time

@@ -1,4 +1,4 @@
-// A plain C version of document 01's rules, written for speed: what the proved program's time is measured against.
+// A plain C version of document 01's rules, and of both editions of a block, written for speed: what the proved program's time is measured against.
 // No heap; exponents packed into one number; signs worked out once for a board; deductions left out or left early where they cannot cut.
 #include <stdbool.h>
 #include <stdint.h>
@@ -37,7 +37,7 @@ typedef struct {
     uint64_t occurs[TERMS]; // a bit for each exponent above 0
 } Form;
 
-static int variables;
+static int edition, variables;
 static uint64_t one_variable[VARIABLES]; // the monomial of each variable
 static Form form[FORMS];
 static uint8_t sign[FORMS][TERMS];
@@ -479,16 +479,43 @@ static uint32_t get(Reader *r, int width) {
 
 static inline bool has(const Reader *r, int width) { return r->bits - r->at >= (size_t)width; }
 
+// Edition 1: minus, magnitude and the exponents. Refusals 6 and 8, or 0.
+static inline int read_term(Reader *r, uint32_t *c, uint64_t *m) {
+    int exponents = 4 * variables;
+    if (!has(r, 32 + exponents)) return 6;
+    *c = get(r, 32);
+    *m = exponents > 32 ? (uint64_t)get(r, exponents - 32) << 32 | get(r, 32) : get(r, exponents);
+    return *c & 0x7fffffff ? 0 : 8;
+}
+
+// Edition 2: minus, magnitude, how many pairs, and the pairs of variable number and exponent. Refusals 6, 8 and 21 to 23, or 0.
+static inline int read_pairs(Reader *r, uint32_t *c, uint64_t *m) {
+    if (!has(r, 37)) return 6;
+    *c = get(r, 32);
+    int pairs = get(r, 5), before = -1;
+    if ((*c & 0x7fffffff) == 0) return 8;
+    if (pairs > variables) return 21;
+    if (!has(r, 8 * pairs)) return 6;
+    bool rising = true, above = true;
+    for (*m = 0; pairs > 0; pairs--) {
+        int number = get(r, 4), exponent = get(r, 4);
+        rising &= before < number && number < variables;
+        above &= exponent > 0;
+        if (rising) *m |= (uint64_t)exponent << 4 * (variables - 1 - number);
+        before = number;
+    }
+    return !rising ? 22 : !above ? 23 : 0;
+}
+
 static int read_polynomial(Reader *r, Form *f) {
     if (!has(r, 5)) return 6;
     f->terms = get(r, 5);
     if (f->terms == 0 || f->terms > TERMS) return 7;
-    int exponents = 4 * variables;
     for (int t = 0; t < f->terms; t++) {
-        if (!has(r, 32 + exponents)) return 6;
-        uint32_t c = get(r, 32);
-        uint64_t m = exponents > 32 ? (uint64_t)get(r, exponents - 32) << 32 | get(r, 32) : get(r, exponents);
-        if ((c & 0x7fffffff) == 0) return 8;
+        uint32_t c;
+        uint64_t m;
+        int refusal = edition == 1 ? read_term(r, &c, &m) : read_pairs(r, &c, &m);
+        if (refusal) return refusal;
         if (t > 0 && m >= f->monomial[t - 1]) return 9;
         f->coefficient[t] = c >> 31 ? -(int32_t)(c & 0x7fffffff) : (int32_t)c;
         f->monomial[t] = m;
@@ -520,19 +547,19 @@ static int read_node(Reader *r, int parent, int nesting) {
     return 0;
 }
 
-// Refusals 2 to 15, or 0. The root's kind is its first two bits.
+// Refusals 2 to 15 and 21 to 23, or 0. The root's kind is its first two bits.
 static int read_block(Reader *r, const uint8_t *byte, size_t length, int *root) {
     if (length < 5) return 2;
     r->byte = byte;
     r->at = 0;
     r->bits = 8 * length;
-    int edition = get(r, 4);
+    edition = get(r, 4);
     variables = get(r, 5);
     r->polynomials = get(r, 7);
     r->nodes = get(r, 8);
     r->read = 0;
     size_t told = get(r, 16);
-    if (edition != 1) return 3;
+    if (edition != 1 && edition != 2) return 3;
     if (told != length) return 4;
     if (variables < 1 || variables > VARIABLES || r->polynomials > FORMS || r->nodes == 0) return 5;
     for (int k = 0; k < r->polynomials; k++) {
@@ -655,13 +682,26 @@ static void tell_children(Tree *tree, const uint16_t *child, int length, int fli
     }
 }
 
+// The exponents above 0 in edition 2: how many, and each variable's number with its own.
+static void put_pairs(Writer *w, uint64_t monomial, uint64_t occurs) {
+    put(w, __builtin_popcountll(occurs), 5);
+    for (int i = 0; i < variables; i++) {
+        int exponent = monomial >> 4 * (variables - 1 - i) & 15;
+        if (exponent) put(w, i << 4 | exponent, 8);
+    }
+}
+
 static size_t write_block(const Tree *tree, uint8_t *output) {
     size_t bits = 40;
-    for (int k = 0; k < tree->forms; k++) bits += 5 + form[tree->used[k]].terms * (32 + 4 * variables);
+    for (int k = 0; k < tree->forms; k++) {
+        const Form *f = &form[tree->used[k]];
+        bits += 5 + f->terms * (edition == 1 ? 32 + 4 * variables : 37);
+        for (int t = 0; t < f->terms && edition == 2; t++) bits += 8 * __builtin_popcountll(f->occurs[t]);
+    }
     bits += 11 * tree->atoms + 10 * (tree->nodes - tree->atoms);
     size_t length = (bits + 7) / 8;
     Writer w = {output, 0, 0, 0};
-    put(&w, 1 << 12 | variables << 7 | tree->forms, 16);
+    put(&w, edition << 12 | variables << 7 | tree->forms, 16);
     put(&w, tree->nodes, 8);
     put(&w, length, 16);
     for (int k = 0; k < tree->forms; k++) {
@@ -670,6 +710,10 @@ static size_t write_block(const Tree *tree, uint8_t *output) {
         for (int t = 0; t < f->terms; t++) {
             int32_t c = f->coefficient[t];
             put(&w, c < 0 ? 0x80000000u | (uint32_t)-c : (uint32_t)c, 32);
+            if (edition == 2) {
+                put_pairs(&w, f->monomial[t], f->occurs[t]);
+                continue;
+            }
             if (variables > 8) put(&w, f->monomial[t] >> 32, 4 * variables - 32);
             put(&w, (uint32_t)f->monomial[t], variables > 8 ? 32 : 4 * variables);
         }

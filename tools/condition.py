@@ -1,9 +1,11 @@
 """Lift conditions as texts and as blocks: what tools/block and tools/text share.
 
-A condition is the names of its variables and a tree: ('atom', polynomial, set) or ('AND' or 'OR', children). A polynomial is a tuple of terms
-(exponents, coefficient), falling. The grammar of a text, one node to a line, two spaces deeper under its AND or OR; '#' starts a comment:
+A condition is the edition of its block, the names of its variables and a tree: ('atom', polynomial, set) or ('AND' or 'OR', children). A polynomial
+is a tuple of terms (exponents, coefficient), falling. The grammar of a text, one node to a line, two spaces deeper under its AND or OR; '#' starts a
+comment; a text without its first line is of edition 1:
 
-    first line   variables NAME ..
+    first line   edition 1 | edition 2
+    next line    variables NAME ..
     node         AND | OR | polynomial sign 0 | polynomial in none | polynomial in all
     polynomial   [+ | -] term {(+ | -) term}
     term         factor {* factor}
@@ -150,6 +152,14 @@ class Line:
         self.end()
         return node
 
+    def edition(self):
+        self.take()
+        if self.next() not in ("1", "2"):
+            self.fail("1 or 2 is wanted here")
+        edition = int(self.take())
+        self.end()
+        return edition
+
     def variables(self):
         if self.indent or self.next() != "variables":
             raise Bad(self.number, 1, "the first line names the variables: variables NAME ..")
@@ -169,12 +179,17 @@ class Line:
 
 
 def read_text(text):
-    """The names and the tree of a text, which is read to its last character; else Bad is raised."""
-    names, root, above, nodes, forms = None, None, [], 0, set()
+    """The edition, the names and the tree of a text, which is read to its last character; else Bad is raised."""
+    edition, names, root, above, nodes, forms = None, None, None, [], 0, set()
     for number, given in enumerate(text.split("\n"), 1):
         line = Line(number, given)
         if not line.words:
             continue
+        if edition is None:
+            said = line.next() == "edition" and not line.indent
+            edition = line.edition() if said else 1
+            if said:
+                continue
         if names is None:
             names = line.variables()
             continue
@@ -204,7 +219,7 @@ def read_text(text):
     if root is None:
         why = "the first line names the variables: variables NAME .." if names is None else "a tree of 1 to 255 nodes is wanted"
         raise Bad(number, len(given) + 1, why)
-    return names, root
+    return edition, names, root
 
 
 # ---- a text is written
@@ -229,9 +244,9 @@ def shown_node(names, node, depth, places):
     return "  " * depth + node[0] + "\n" + "".join(shown_node(names, child, depth + 1, places) for child in node[1])
 
 
-def write_text(names, root, places=None):
-    """The text of a condition; with places, one for each atom in order, each atom's line ends in its own, as a comment."""
-    return "variables " + " ".join(names) + "\n" + shown_node(names, root, 0, None if places is None else iter(places))
+def write_text(edition, names, root, places=None):
+    """The text of a condition, its edition told where it is not 1; with places, one for each atom in order, each atom's line ends in its own, as a comment."""
+    return ("" if edition == 1 else "edition %d\n" % edition) + "variables " + " ".join(names) + "\n" + shown_node(names, root, 0, None if places is None else iter(places))
 
 
 # ---- a block is written
@@ -251,17 +266,25 @@ def tree_bits(node, table):
     return {"AND": "01", "OR": "10"}[node[0]] + format(len(node[1]), "08b") + "".join(tree_bits(child, table) for child in node[1])
 
 
-def write_block(variables, root):
+def exponent_bits(edition, exponents):
+    """Edition 1 has each exponent; edition 2 how many are above 0, and each of these behind its variable's number, from 0."""
+    if edition == 1:
+        return "".join(format(exponent, "04b") for exponent in exponents)
+    pairs = [format(number, "04b") + format(exponent, "04b") for number, exponent in enumerate(exponents) if exponent]
+    return format(len(pairs), "05b") + "".join(pairs)
+
+
+def write_block(edition, variables, root):
     """The block of a tree: each polynomial once, in the order of first use, nothing simplified."""
     table = list(dict.fromkeys(atom[1] for atom in atoms(root)))
     body = ""
     for form in table:
         body += format(len(form), "05b")
         for exponents, coefficient in form:
-            body += str(int(coefficient < 0)) + format(abs(coefficient), "031b") + "".join(format(e, "04b") for e in exponents)
+            body += str(int(coefficient < 0)) + format(abs(coefficient), "031b") + exponent_bits(edition, exponents)
     body += tree_bits(root, table)
     length = (40 + len(body) + 7) // 8
-    bits = "0001" + format(variables, "05b") + format(len(table), "07b") + format(size(root), "08b") + format(length, "016b") + body
+    bits = format(edition, "04b") + format(variables, "05b") + format(len(table), "07b") + format(size(root), "08b") + format(length, "016b") + body
     bits += "0" * (8 * length - len(bits))
     return bytes(int(bits[i : i + 8], 2) for i in range(0, len(bits), 8))
 
@@ -280,11 +303,23 @@ class Bits:
         return int(self.bits[self.at - bits : self.at], 2)
 
 
-def read_polynomial(bits, variables):
+def read_exponents(bits, edition, variables):
+    if edition == 1:
+        return tuple(bits.field(4) for _ in range(variables))
+    exponents = [0] * variables
+    for _ in range(bits.field(5)):
+        number, exponent = bits.field(4), bits.field(4)
+        if number >= variables:
+            raise ValueError("it has no variable %d" % number)
+        exponents[number] = exponent
+    return tuple(exponents)
+
+
+def read_polynomial(bits, edition, variables):
     form = []
     for _ in range(bits.field(5)):
         sign, magnitude = 1 - 2 * bits.field(1), bits.field(31)
-        form.append((tuple(bits.field(4) for _ in range(variables)), sign * magnitude))
+        form.append((read_exponents(bits, edition, variables), sign * magnitude))
     return tuple(form)
 
 
@@ -301,12 +336,14 @@ def read_node(bits, table):
 
 
 def read_block(block):
-    """The number of variables and the tree of a block that Placardpan accepts. Of others it promises nothing, but that it ends, with ValueError
-    where there is no tree."""
+    """The edition, the number of variables and the tree of a block that Placardpan accepts. Of others it promises nothing, but that it ends, with
+    ValueError where there is no tree."""
     bits = Bits(block)
-    bits.field(4)
+    edition = bits.field(4)
+    if edition not in (1, 2):
+        raise ValueError("its edition is %d" % edition)
     variables, polynomials = bits.field(5), bits.field(7)
     bits.field(8)
     bits.field(16)
-    table = [read_polynomial(bits, variables) for _ in range(polynomials)]
-    return variables, read_node(bits, table)
+    table = [read_polynomial(bits, edition, variables) for _ in range(polynomials)]
+    return edition, variables, read_node(bits, table)

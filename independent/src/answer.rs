@@ -1,7 +1,7 @@
 //! The answer to a block: bytes in, verdict and bytes out; and the lines that the program prints.
-//! Document 01, "Refusal numbers", "A level" (the new block) and "The program"; document 02, #103.
+//! Document 01, "Refusal numbers", "A level" (the new block) and "The program"; document 02, #103 and #109.
 
-use crate::block::{read, write, Formula, Refusal};
+use crate::block::{edition_of, read, write_in, Formula, Refusal};
 use crate::count::with_longest_run;
 use crate::level::simplify;
 use crate::polynomial::Polynomial;
@@ -38,7 +38,9 @@ pub fn answer(input: &[u8], output_length: usize) -> Result<Answer, Refusal> {
     }
     let original = read(input)?;
     let ((verdict, simplified, places), rounds) = with_longest_run(|| simplify_formula(&original));
-    let bytes = write(&simplified);
+    // 02, #109: "The simplifier answers in the edition it was given"
+    let edition = edition_of(input).expect("an accepted block has an edition");
+    let bytes = write_in(edition, &simplified);
     Ok(Answer { verdict, original, simplified, bytes, rounds, places })
 }
 

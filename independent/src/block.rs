@@ -1,5 +1,5 @@
-//! The reader (bytes to a formula, or the first refusal) and the writer (a formula to bytes).
-//! Document 01, "The block" and "Refusal numbers".
+//! The reader (bytes to a formula, or the first refusal) and the writer (a formula to bytes), for both editions.
+//! Document 01, "The block" and "Refusal numbers"; document 02, #109.
 
 use crate::polynomial::{Polynomial, Term};
 use crate::signs::SignSet;
@@ -14,6 +14,41 @@ pub struct Formula {
     pub variables: usize,
     pub table: Vec<Polynomial>,
     pub tree: Node<usize>,
+}
+
+/// 02, #109: the two editions of a block, which differ in the exponents of a term.
+#[derive(Clone, Copy, Debug, PartialEq, Eq)]
+pub enum Edition {
+    One,
+    Two,
+}
+
+impl Edition {
+    pub const BOTH: [Edition; 2] = [Edition::One, Edition::Two];
+
+    /// What the head says: "neither 1 nor 2" is none.
+    pub fn of_number(number: u64) -> Option<Edition> {
+        Edition::BOTH.into_iter().find(|edition| edition.number() == number)
+    }
+
+    pub fn number(self) -> u64 {
+        match self {
+            Edition::One => 1,
+            Edition::Two => 2,
+        }
+    }
+
+    pub fn other(self) -> Edition {
+        match self {
+            Edition::One => Edition::Two,
+            Edition::Two => Edition::One,
+        }
+    }
+}
+
+/// The edition that a block's head gives, if it is one of the two.
+pub fn edition_of(bytes: &[u8]) -> Option<Edition> {
+    Edition::of_number(u64::from(bytes.first()? >> 4))
 }
 
 pub const LARGEST_MAGNITUDE: i128 = 2_147_483_647;
@@ -69,10 +104,8 @@ pub fn read(bytes: &[u8]) -> Result<Formula, Refusal> {
     let polynomials = fields.next(7)? as usize;
     let nodes = fields.next(8)? as usize;
     let length = fields.next(16)? as usize;
-    // 3: "edition not 1"
-    if edition != 1 {
-        return Err(3);
-    }
+    // 3: "3 now means neither 1 nor 2"
+    let Some(edition) = Edition::of_number(edition) else { return Err(3) };
     // 4: "length field differs from input length"
     if length != bytes.len() {
         return Err(4);
@@ -90,7 +123,7 @@ pub fn read(bytes: &[u8]) -> Result<Formula, Refusal> {
     // "The rest is met in reading order."
     let mut table = vec![];
     for _ in 0..polynomials {
-        table.push(read_polynomial(&mut fields, variables)?);
+        table.push(read_polynomial(&mut fields, edition, variables)?);
     }
     let mut nodes_left = nodes;
     let tree = read_node(&mut fields, polynomials, &mut nodes_left, None, 0)?;
@@ -107,9 +140,8 @@ pub fn read(bytes: &[u8]) -> Result<Formula, Refusal> {
     Ok(Formula { variables, table, tree })
 }
 
-/// "term count (5 bits, 1 to 16); each term a minus bit, a 31-bit magnitude (1 to 2,147,483,647) and n
-/// exponents of 4 bits."
-fn read_polynomial(fields: &mut Fields, variables: usize) -> Result<Polynomial, Refusal> {
+/// "term count (5 bits, 1 to 16);" then the terms. "Exponent lists fall strictly from term to term".
+fn read_polynomial(fields: &mut Fields, edition: Edition, variables: usize) -> Result<Polynomial, Refusal> {
     let count = fields.next(5)?;
     // 7: "term count 0 or above 16"
     if count == 0 || count > 16 {
@@ -117,28 +149,71 @@ fn read_polynomial(fields: &mut Fields, variables: usize) -> Result<Polynomial, 
     }
     let mut terms: Vec<Term> = vec![];
     for _ in 0..count {
-        // "In a term: 6 for the term as a whole, then 8, 9."
-        fields.must_have(1 + 31 + 4 * variables)?;
-        let minus = fields.next(1)? == 1;
-        let magnitude = i128::from(fields.next(31)?);
-        let mut exponents = vec![];
-        for _ in 0..variables {
-            exponents.push(fields.next(4)? as u8);
-        }
-        // 8: "magnitude 0"
-        if magnitude == 0 {
-            return Err(8);
-        }
-        // 9: "exponents do not fall strictly"
+        let term = match edition {
+            Edition::One => read_term(fields, variables)?,
+            Edition::Two => read_paired_term(fields, variables)?,
+        };
+        // 9: "exponents do not fall strictly": of the exponent lists, in both editions.
         if let Some(before) = terms.last() {
-            if exponents >= before.exponents {
+            if term.exponents >= before.exponents {
                 return Err(9);
             }
         }
-        let coefficient = if minus { -magnitude } else { magnitude };
-        terms.push(Term { coefficient, exponents });
+        terms.push(term);
     }
     Ok(Polynomial { terms })
+}
+
+/// Edition 1: "each term a minus bit, a 31-bit magnitude (1 to 2,147,483,647) and n exponents of 4 bits." "In a term: 6
+/// for the term as a whole, then 8, 9."
+fn read_term(fields: &mut Fields, variables: usize) -> Result<Term, Refusal> {
+    fields.must_have(1 + 31 + 4 * variables)?;
+    let (minus, magnitude) = (fields.next(1)? == 1, i128::from(fields.next(31)?));
+    let mut exponents = vec![];
+    for _ in 0..variables {
+        exponents.push(fields.next(4)? as u8);
+    }
+    // 8: "magnitude 0"
+    if magnitude == 0 {
+        return Err(8);
+    }
+    Ok(Term { coefficient: if minus { -magnitude } else { magnitude }, exponents })
+}
+
+/// Edition 2: "a term has, after its magnitude, a 5-bit count of variables with exponent above 0 (0 to n), then that many
+/// pairs of variable number (4 bits, strictly rising, below n) and exponent (4 bits, 1 to 15)." "in a term 6 as far as the
+/// pair count, 8, 21, 6 for the pairs, 22, 23, 9": each is asked of the whole term before the next.
+fn read_paired_term(fields: &mut Fields, variables: usize) -> Result<Term, Refusal> {
+    fields.must_have(1 + 31 + 5)?;
+    let (minus, magnitude) = (fields.next(1)? == 1, i128::from(fields.next(31)?));
+    let count = fields.next(5)? as usize;
+    if magnitude == 0 {
+        return Err(8);
+    }
+    // 21: "pair count above n"
+    if count > variables {
+        return Err(21);
+    }
+    fields.must_have(8 * count)?;
+    let mut pairs = vec![];
+    for _ in 0..count {
+        pairs.push((fields.next(4)? as usize, fields.next(4)? as u8));
+    }
+    // 22: "variable numbers not rising or not below n"
+    let below = pairs.iter().all(|&(variable, _)| variable < variables);
+    let rising = pairs.windows(2).all(|two| two[0].0 < two[1].0);
+    if !below || !rising {
+        return Err(22);
+    }
+    // 23: "exponent 0"
+    if pairs.iter().any(|&(_, exponent)| exponent == 0) {
+        return Err(23);
+    }
+    let mut exponents = vec![0; variables];
+    for (variable, exponent) in pairs {
+        exponents[variable] = exponent;
+    }
+    Ok(Term { coefficient: if minus { -magnitude } else { magnitude }, exponents })
 }
 
 #[derive(Clone, Copy, PartialEq, Eq)]
@@ -237,16 +312,21 @@ impl Bits {
     }
 }
 
-/// The block of a formula within the limits.
+/// The block of a formula within the limits, in edition 1.
 pub fn write(formula: &Formula) -> Vec<u8> {
+    write_in(Edition::One, formula)
+}
+
+/// The block of a formula within the limits. "All else keeps its place."
+pub fn write_in(edition: Edition, formula: &Formula) -> Vec<u8> {
     let mut body = Bits::default();
     for polynomial in &formula.table {
-        write_polynomial(polynomial, &mut body);
+        write_polynomial(edition, polynomial, &mut body);
     }
     write_node(&formula.tree, &mut body);
     let length = (40 + body.len()).div_ceil(8);
     let mut bits = Bits::default();
-    bits.put(1, 4);
+    bits.put(edition.number(), 4);
     bits.put(formula.variables as u64, 5);
     bits.put(formula.table.len() as u64, 7);
     bits.put(formula.tree.nodes() as u64, 8);
@@ -255,14 +335,25 @@ pub fn write(formula: &Formula) -> Vec<u8> {
     bits.finish()
 }
 
-pub fn write_polynomial(polynomial: &Polynomial, bits: &mut Bits) {
+pub fn write_polynomial(edition: Edition, polynomial: &Polynomial, bits: &mut Bits) {
     bits.put(polynomial.terms.len() as u64, 5);
     for term in &polynomial.terms {
         bits.put(u64::from(term.coefficient < 0), 1);
         bits.put(term.coefficient.unsigned_abs() as u64, 31);
-        for &exponent in &term.exponents {
-            bits.put(u64::from(exponent), 4);
+        match edition {
+            Edition::One => term.exponents.iter().for_each(|&exponent| bits.put(u64::from(exponent), 4)),
+            Edition::Two => write_pairs(&term.exponents, bits),
         }
+    }
+}
+
+/// The variables with exponent above 0, in order: how many, and each with its exponent.
+fn write_pairs(exponents: &[u8], bits: &mut Bits) {
+    let pairs: Vec<(usize, u8)> = exponents.iter().copied().enumerate().filter(|pair| pair.1 > 0).collect();
+    bits.put(pairs.len() as u64, 5);
+    for (variable, exponent) in pairs {
+        bits.put(variable as u64, 4);
+        bits.put(u64::from(exponent), 4);
     }
 }
 

@@ -2,9 +2,10 @@
 //! The proof checker works out the book's own answer to each block and compares.
 
 use crate::answer::{answer, polynomials_in, Verdict};
+use crate::block::Edition;
 use crate::cases::{cases, later_cases};
 use crate::polynomial::Polynomial;
-use crate::{block, corpus, engine, plain, uses};
+use crate::{block, convert, corpus, engine, pairs, plain, uses};
 
 /// How many blocks one claim takes: the checker allows a claim only so many steps.
 const BLOCKS_IN_A_CLAIM: usize = 20;
@@ -24,11 +25,24 @@ pub fn claims(seed: u64, count: usize) -> String {
         corpus::damaged(seed, 8 * count).into_iter().filter(|block| block.len() <= LONGEST).take(count / 2),
     );
     blocks.extend(uses::blocks().into_iter().map(|known| known.bytes).filter(|block| block.len() <= LONGEST));
+    blocks.extend(of_edition_2(seed, count));
     let mut text = HEADER.to_string();
     for (number, some) in blocks.chunks(BLOCKS_IN_A_CLAIM).enumerate() {
         text += &claim(number + 1, some);
     }
     text
+}
+
+/// 02, #109: the blocks that careful readers could differ on, the cases, and a third as many random and damaged blocks.
+fn of_edition_2(seed: u64, count: usize) -> Vec<Vec<u8>> {
+    let short = |block: &Vec<u8>| block.len() <= LONGEST;
+    let mut blocks: Vec<Vec<u8>> = pairs::SAID.iter().map(|said| said.0.to_vec()).collect();
+    blocks.extend(cases().iter().map(|case| block::write_in(Edition::Two, &case.formula)));
+    let valid = convert::all_in(Edition::Two, corpus::valid(seed + 1, 8 * count));
+    blocks.extend(valid.into_iter().filter(short).take(count / 3));
+    let damaged = corpus::damaged_in(Edition::Two, seed + 1, 8 * count);
+    blocks.extend(damaged.into_iter().filter(short).take(count / 3));
+    blocks
 }
 
 const HEADER: &str = "\

@@ -3,7 +3,7 @@
 
 use std::collections::BTreeMap;
 
-use crate::block::{write, Formula, LARGEST_MAGNITUDE};
+use crate::block::{write, write_in, Edition, Formula, LARGEST_MAGNITUDE};
 use crate::meaning::value;
 use crate::polynomial::{Polynomial, Term};
 use crate::random::Random;
@@ -29,8 +29,12 @@ pub fn uses(seed: u64, count: usize) -> Vec<Vec<u8>> {
 }
 
 pub fn damaged(seed: u64, count: usize) -> Vec<Vec<u8>> {
+    damaged_in(Edition::One, seed, count)
+}
+
+pub fn damaged_in(edition: Edition, seed: u64, count: usize) -> Vec<Vec<u8>> {
     let mut random = Random::new(seed);
-    (0..count).map(|_| damaged_block(&mut random)).collect()
+    (0..count).map(|_| damaged_block(edition, &mut random)).collect()
 }
 
 /// The stream of some blocks.
@@ -389,13 +393,13 @@ fn uses_formula(random: &mut Random) -> Formula {
 // -------------------------------------------------------------------------------------- polynomials
 
 /// A polynomial while it is made: coefficients by monomial.
-type Sum = BTreeMap<Vec<u8>, i128>;
+pub type Sum = BTreeMap<Vec<u8>, i128>;
 
 fn add(sum: &mut Sum, exponents: Vec<u8>, coefficient: i128) {
     *sum.entry(exponents).or_insert(0) += coefficient;
 }
 
-fn times(polynomial: &Polynomial, factor: i128) -> Sum {
+pub fn times(polynomial: &Polynomial, factor: i128) -> Sum {
     polynomial.terms.iter().map(|term| (term.exponents.clone(), factor * term.coefficient)).collect()
 }
 
@@ -406,7 +410,7 @@ fn variable(variables: usize, i: usize) -> Vec<u8> {
 }
 
 /// The polynomial within the limits of a block: at most 16 terms, magnitudes that fit, at least one term.
-fn fitted(sum: &Sum) -> Polynomial {
+pub fn fitted(sum: &Sum) -> Polynomial {
     let mut terms = vec![];
     for (exponents, &coefficient) in sum.iter().rev() {
         if coefficient != 0 && terms.len() < 16 {
@@ -595,8 +599,8 @@ fn combined(one: &Polynomial, factor: i128, other: &Polynomial, second: i128) ->
 // -------------------------------------------------------------------------------------- damage
 
 /// A valid block that something happened to. (It may still be one.)
-pub fn damaged_block(random: &mut Random) -> Vec<u8> {
-    let mut block = write(&random_formula(random));
+pub fn damaged_block(edition: Edition, random: &mut Random) -> Vec<u8> {
+    let mut block = write_in(edition, &random_formula(random));
     let length = block.len();
     match random.below(13) {
         // Bits flipped anywhere.
@@ -654,7 +658,7 @@ pub fn damaged_block(random: &mut Random) -> Vec<u8> {
         }
         // A head over another block's body.
         9 => {
-            let other = write(&random_formula(random));
+            let other = write_in(before(edition, random), &random_formula(random));
             block.truncate(5);
             block.extend(&other[5..]);
             if random.percent(80) {
@@ -663,7 +667,7 @@ pub fn damaged_block(random: &mut Random) -> Vec<u8> {
         }
         // A power cut: the first bytes of a new block over an old one.
         10 => {
-            let old = write(&random_formula(random));
+            let old = write_in(before(edition, random), &random_formula(random));
             let cut = 5 + random.below(length - 5);
             block = half_written(&block, &old, cut);
         }
@@ -679,7 +683,7 @@ pub fn damaged_block(random: &mut Random) -> Vec<u8> {
                 let parts = vec![formula.tree];
                 formula.tree = if and { Node::And(parts) } else { Node::Or(parts) };
             }
-            block = write(&formula);
+            block = write_in(edition, &formula);
         }
         // Any bits after a good head.
         _ => {
@@ -688,7 +692,7 @@ pub fn damaged_block(random: &mut Random) -> Vec<u8> {
             for byte in &mut block[5..] {
                 *byte = random.below(256) as u8;
             }
-            put_field(&mut block, 0, 4, 1);
+            put_field(&mut block, 0, 4, edition.number() as usize);
             put_field(&mut block, 4, 5, 1 + random.below(2));
             put_field(&mut block, 9, 7, if small { 0 } else { 1 + random.below(2) });
             put_field(&mut block, 16, 8, 1 + random.below(6));
@@ -696,6 +700,14 @@ pub fn damaged_block(random: &mut Random) -> Vec<u8> {
         }
     }
     block
+}
+
+/// The edition of what a block of this edition is written over: edition 1 over itself, edition 2 over either.
+fn before(edition: Edition, random: &mut Random) -> Edition {
+    if edition == Edition::Two && random.percent(50) {
+        return Edition::One;
+    }
+    edition
 }
 
 /// The new block's bytes up to the cut; from there on the old one's as far as it went, then zeros.

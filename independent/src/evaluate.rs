@@ -1,7 +1,9 @@
 //! Request #102: a block run on readings of 32 signed bits, "permit or deny". Arithmetic is exact here, in 128 bits, and each product and
 //! running sum is looked at: does it fit 64?
 
-use crate::block::{read, Formula, Refusal};
+use crate::answer::MOST_READ;
+use crate::block::{read, write_in, Edition, Formula, Refusal};
+use crate::convert::all_in;
 use crate::corpus::{random_formula, stream, valid};
 use crate::edge;
 use crate::level::in_normal_form;
@@ -102,8 +104,13 @@ fn joined(readings: &[i128]) -> String {
 /// Blocks and readings: conditions of many shapes, products and sums about the edges of 64 bits, trees whose result is known before an
 /// overflow, originals with their answers, blocks that are refused, and lines that are not n readings.
 pub fn corpus(seed: u64, count: usize) -> Vec<Vec<u8>> {
+    corpus_in(Edition::One, seed, count)
+}
+
+/// The same with blocks of this edition.
+pub fn corpus_in(edition: Edition, seed: u64, count: usize) -> Vec<Vec<u8>> {
     let mut random = Random::new(seed);
-    let edges = edge::blocks();
+    let edges = edge::blocks_in(edition);
     let mut frames = vec![];
     while frames.len() < count {
         match random.below(16) {
@@ -111,12 +118,12 @@ pub fn corpus(seed: u64, count: usize) -> Vec<Vec<u8>> {
                 let formula = random_formula(&mut random);
                 frames.push(frame(
                     &some_readings(&mut random, formula.variables),
-                    &crate::block::write(&formula),
+                    &write_in(edition, &formula),
                 ));
             }
             4..=7 => {
                 let (formula, readings) = at_the_edge(&mut random);
-                let block = crate::block::write(&formula);
+                let block = write_in(edition, &formula);
                 frames.push(frame(&joined(&readings), &block));
                 let answer = crate::answer::answer(&block, block.len()).expect("an accepted block");
                 frames.push(frame(&joined(&readings), &answer.bytes));
@@ -124,7 +131,7 @@ pub fn corpus(seed: u64, count: usize) -> Vec<Vec<u8>> {
             8..=10 => {
                 let formula = random_formula(&mut random);
                 let readings = some_readings(&mut random, formula.variables);
-                let block = crate::block::write(&formula);
+                let block = write_in(edition, &formula);
                 let answer = crate::answer::answer(&block, block.len()).expect("an accepted block");
                 frames.push(frame(&readings, &block));
                 frames.push(frame(&readings, &answer.bytes));
@@ -132,15 +139,19 @@ pub fn corpus(seed: u64, count: usize) -> Vec<Vec<u8>> {
             11 => {
                 let edge = &edges[random.below(edges.len())].bytes;
                 let variables = read(edge).map_or(1 + random.below(16), |formula| formula.variables);
-                frames.push(frame(&some_readings(&mut random, variables), edge));
+                let frame = frame(&some_readings(&mut random, variables), edge);
+                // Of a frame no more than that is taken.
+                if frame.len() <= MOST_READ {
+                    frames.push(frame);
+                }
             }
             12 => {
-                let block = &crate::corpus::damaged(random.draw(), 1)[0];
+                let block = &crate::corpus::damaged_in(edition, random.draw(), 1)[0];
                 let variables = read(block).map_or(random.below(3), |formula| formula.variables);
                 frames.push(frame(&some_readings(&mut random, variables), block));
             }
             _ => {
-                let block = &valid(random.draw(), 1)[0];
+                let block = &all_in(edition, valid(random.draw(), 1))[0];
                 let variables = read(block).expect("a valid block").variables;
                 frames.push(frame(&other_line(&mut random, variables), block));
             }

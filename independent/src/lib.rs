@@ -42,8 +42,12 @@ pub mod check;
 pub mod corpus;
 pub mod random;
 
-// The fixed edge blocks
+// The fixed edge blocks, and those that only edition 2 can have
 pub mod edge;
+pub mod pairs;
+
+// Request #109: a block in the other edition
+pub mod convert;
 
 // Blocks whose polynomials in are known
 pub mod uses;
@@ -66,3 +70,6 @@ pub mod evaluate;
 
 // Loading that a power cut cannot hurt
 pub mod loading;
+
+// Request #113: a pool of polynomials for a release
+pub mod pool;

@@ -2,7 +2,7 @@
 //! Plain lists: a load is the list of its writes, and an image is a copy of the area with some of them made.
 
 use crate::answer::simplify_formula;
-use crate::block::{self, Refusal};
+use crate::block::{self, Edition, Refusal};
 use crate::cases::{cases, polynomial};
 use crate::corpus;
 use crate::signs::SignSet;
@@ -144,5 +144,21 @@ pub fn corpus() -> Vec<Vec<u8>> {
     for pair in printed.windows(2) {
         loads.push((area(&pair[0], 120, 0), pair[1].clone()));
     }
+    // 02, #109: an edition over the other, the same condition and another one, shorter and longer; and edition 2 over itself
+    let second = |bytes: &[u8]| block::write_in(Edition::Two, &block::read(bytes).unwrap());
+    for (one, other) in
+        [(&printed[0], &printed[0]), (&printed[3], longest), (longest, &printed[0]), (&fifty, &hundred)]
+    {
+        let room = 4 + one.len().max(other.len()).max(second(one).len()).max(second(other).len());
+        loads.push((area(one, room, 0), second(other)));
+        loads.push((area(&second(one), room, 255), other.clone()));
+        loads.push((area(&second(one), room, 0), second(other)));
+    }
+    loads.push((second(&limited(24000)), second(&limited(22001))));
+    loads.push((area(&limited(24000), 64, 255), second(&limited(24000))));
+    loads.push((area(&second(&limited(24000)), 64, 0), limited(24000)));
+    loads.push((vec![255; 64], second(&printed[0])));
+    loads.push((vec![0; 300], second(&hundred)));
+    loads.push((area(&second(&past_256), 400, 255), past_256.clone()));
     loads.into_iter().flat_map(|(area, block)| [area, block]).collect()
 }

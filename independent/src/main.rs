@@ -6,14 +6,19 @@ use std::process::ExitCode;
 
 use independent::answer::{answer, read_report, report, report_with_places, report_with_rounds, MOST_READ};
 use independent::cases::{cases, later_cases};
+use independent::block::Edition;
 use independent::count::work_of;
-use independent::{bench, block, book, check, corpus, edge, engine, evaluate, loading, plain, search, smt, uses};
+use independent::{
+    bench, block, book, check, convert, corpus, edge, engine, evaluate, loading, plain, pool, search,
+    smt, uses,
+};
 
 const USAGE: &str =
     "usage: independent [rounds | places | many [rounds | places] | read | describe | deductions | plain | shown [NAME..] | lists | evaluations | live FILE |\n\
-                    loads | load | start | count | repeat | smt | bench NAME |\n\
-                    corpus KIND SEED COUNT | book SEED COUNT | book-deductions SEED COUNT | check SEED COUNT]\n\
-     KIND is valid, damaged, trees, uses, edge, long, cases, later, deductions, points, lists, evaluations, loads or candidates\n";
+                    conversions | convert [1 | 2] | pools | pool | loads | load | start | count | repeat | smt | bench NAME |\n\
+                    corpus KIND SEED COUNT [EDITION] | book SEED COUNT | book-deductions SEED COUNT | check SEED COUNT]\n\
+     KIND is valid, damaged, trees, uses, edge, long, cases, later, deductions, points, lists, evaluations, conversions,\n\
+     pools, loads or candidates\n";
 
 fn main() -> ExitCode {
     let arguments: Vec<String> = std::env::args().skip(1).collect();
@@ -33,6 +38,15 @@ fn main() -> ExitCode {
         ["lists"] => each_block(|_, block| engine::list_line(block)),
         ["live", file] => live(file),
         ["evaluations"] => each_block(|_, frame| evaluate::frame_line(frame)),
+        ["conversions"] => each_block(|_, frame| convert::frame_lines(frame)),
+        ["convert"] => write_converted(None),
+        ["convert", "1"] => write_converted(Some(Edition::One)),
+        ["convert", "2"] => write_converted(Some(Edition::Two)),
+        ["pools"] => {
+            let mut pool = pool::Pool::default();
+            each_block(move |_, frame| pool.frame_lines(frame))
+        }
+        ["pool"] => run_pool_script(),
         ["loads"] => each_load(loading::lines),
         ["load"] => each_load(loading::load_line),
         ["start"] => each_block(|_, area| loading::start_line(area)),
@@ -40,10 +54,17 @@ fn main() -> ExitCode {
         ["bench", name] => write_bench(name),
         ["repeat"] => repeat(),
         ["smt"] => write_script(),
-        ["corpus", kind, seed, count] => match (seed.parse(), count.parse()) {
-            (Ok(seed), Ok(count)) => write_corpus(kind, seed, count),
-            _ => usage(),
-        },
+        ["corpus", kind, seed, count, ref edition @ ..] => {
+            let edition = match edition {
+                [] | ["1"] => Some(Edition::One),
+                ["2"] => Some(Edition::Two),
+                _ => None,
+            };
+            match (seed.parse(), count.parse(), edition) {
+                (Ok(seed), Ok(count), Some(edition)) => write_corpus(kind, seed, count, edition),
+                _ => usage(),
+            }
+        }
         ["book", seed, count] => match (seed.parse(), count.parse()) {
             (Ok(seed), Ok(count)) => write_claims(seed, count),
             _ => usage(),
@@ -84,7 +105,7 @@ fn program(lines: fn(&[u8]) -> String) -> io::Result<ExitCode> {
 }
 
 /// The lines for each block of a stream. A frame that is cut off gets the line CUT OFF and is the last.
-fn each_block(lines: fn(usize, &[u8]) -> String) -> io::Result<ExitCode> {
+fn each_block(mut lines: impl FnMut(usize, &[u8]) -> String) -> io::Result<ExitCode> {
     let mut input = vec![];
     io::stdin().lock().read_to_end(&mut input)?;
     let mut output = io::BufWriter::new(io::stdout().lock());
@@ -125,28 +146,50 @@ fn each_load(lines: fn(&[u8], &[u8]) -> String) -> io::Result<ExitCode> {
     Ok(ExitCode::SUCCESS)
 }
 
-fn write_corpus(kind: &str, seed: u64, count: usize) -> io::Result<ExitCode> {
+/// A corpus in edition 1, or in edition 2: then its accepted blocks are converted, and what is wrong is made wrong in edition 2.
+fn write_corpus(kind: &str, seed: u64, count: usize, edition: Edition) -> io::Result<ExitCode> {
     let blocks = match kind {
         "valid" => corpus::valid(seed, count),
-        "damaged" => corpus::damaged(seed, count),
+        "damaged" => corpus::damaged_in(edition, seed, count),
         "trees" => corpus::trees(seed, count),
         "uses" => {
             let known = uses::blocks().into_iter().map(|known| known.bytes);
             known.chain(corpus::uses(seed, count)).collect()
         }
-        "edge" => edge::blocks().into_iter().map(|edge| edge.bytes).collect(),
+        "edge" => edge::blocks_in(edition).into_iter().map(|edge| edge.bytes).collect(),
         "long" => edge::long(),
         "deductions" => engine::deductions(seed, count),
         "lists" => engine::lists(seed, count),
         "loads" => loading::corpus(),
         "candidates" => (seed..seed + count as u64).map(|k| block::write(&search::candidate(k))).collect(),
-        "evaluations" => evaluate::corpus(seed, count),
+        "evaluations" => evaluate::corpus_in(edition, seed, count),
+        "conversions" => convert::corpus(seed, count),
+        "pools" if edition == Edition::One => pool::corpus(seed, count, block::write),
+        "pools" => pool::corpus(seed, count, |formula| block::write_in(Edition::Two, formula)),
         "cases" => cases().iter().map(|case| block::write(&case.formula)).collect(),
         "later" => later_cases().iter().map(|case| block::write(&case.formula)).collect(),
         "points" => engine::single_points(),
         _ => return usage(),
     };
+    let as_made = edition == Edition::One
+        || ["damaged", "edge", "long", "loads", "evaluations", "conversions", "pools"].contains(&kind);
+    let blocks = if as_made { blocks } else { convert::all_in(edition, blocks) };
     io::stdout().lock().write_all(&corpus::stream(&blocks))?;
+    Ok(ExitCode::SUCCESS)
+}
+
+/// The block on standard input in this edition, or in the other one.
+fn write_converted(to: Option<Edition>) -> io::Result<ExitCode> {
+    let mut input = vec![];
+    io::stdin().lock().take(MOST_READ as u64).read_to_end(&mut input)?;
+    let outcome = match to {
+        Some(edition) => convert::convert(edition, &input, usize::MAX),
+        None => convert::to_the_other(&input, usize::MAX),
+    };
+    match outcome {
+        Ok(bytes) => io::stdout().write_all(&bytes)?,
+        Err(refusal) => eprintln!("REFUSED {refusal}"),
+    }
     Ok(ExitCode::SUCCESS)
 }
 
@@ -160,6 +203,25 @@ fn live(file: &str) -> io::Result<ExitCode> {
     for line in input.strip_suffix('\n').unwrap_or(&input).split('\n').filter(|_| !input.is_empty()) {
         let readings = evaluate::readings_of(line);
         output.write_all(evaluate::line(evaluate::evaluate(&block, readings.as_deref())).as_bytes())?;
+    }
+    output.flush()?;
+    Ok(ExitCode::SUCCESS)
+}
+
+/// A release manager's script: additions and withdrawals of blocks in files, and what the pool holds.
+fn run_pool_script() -> io::Result<ExitCode> {
+    let mut input = vec![];
+    io::stdin().lock().read_to_end(&mut input)?;
+    let mut pool = pool::Pool::default();
+    let mut output = io::BufWriter::new(io::stdout().lock());
+    let lines = input.strip_suffix(b"\n").unwrap_or(&input);
+    for line in lines.split(|&byte| byte == b'\n').filter(|_| !input.is_empty()) {
+        let load = |file: &str| {
+            let mut block = vec![];
+            std::fs::File::open(file).ok()?.take(MOST_READ as u64).read_to_end(&mut block).ok()?;
+            Some(block)
+        };
+        output.write_all(pool.script_lines(&String::from_utf8_lossy(line), load).as_bytes())?;
     }
     output.flush()?;
     Ok(ExitCode::SUCCESS)

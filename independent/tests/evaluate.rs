@@ -3,8 +3,9 @@
 use std::collections::BTreeMap;
 
 use independent::answer::answer;
-use independent::block::{read, write, Formula};
-use independent::evaluate::{corpus, evaluate, frame_line, readings_of, some_negated};
+use independent::block::{read, write, Edition, Formula};
+use independent::convert::convert;
+use independent::evaluate::{corpus, corpus_in, evaluate, frame_line, readings_of, some_negated};
 use independent::polynomial::{Polynomial, Term};
 use independent::signs::SignSet;
 use independent::tree::Node;
@@ -30,6 +31,24 @@ fn the_corpus_meets_each_outcome() {
         assert!(met.get(&format!("REFUSED {number}\n")).is_some_and(|&times| times > 5), "{number}: {met:?}");
     }
     assert!(met["PERMIT\n"] > 2_000 && met["DENY\n"] > 2_000 && met["REFUSED 17\n"] > 2_000, "{met:?}");
+}
+
+/// The readings say the same of a block in either edition.
+#[test]
+fn an_edition_changes_no_answer() {
+    for frame in corpus(5, 6_000) {
+        let (line, block) = frame.split_at(1 + frame.iter().position(|&byte| byte == b'\n').unwrap());
+        if let Ok(second) = convert(Edition::Two, block, 65_535) {
+            assert_eq!(frame_line(&frame), frame_line(&[line, &second].concat()));
+        }
+    }
+    let mut met: BTreeMap<String, usize> = BTreeMap::new();
+    for frame in corpus_in(Edition::Two, 3, 20_000) {
+        *met.entry(frame_line(&frame)).or_default() += 1;
+    }
+    for number in (2..=17).chain(21..=23) {
+        assert!(met.get(&format!("REFUSED {number}\n")).is_some_and(|&times| times > 5), "{number}: {met:?}");
+    }
 }
 
 /// Where both answer they answer alike; where the original answers and the answer does not, a negated polynomial met the edge.

@@ -84,7 +84,7 @@ fn many_blocks() {
 fn reading_alone() {
     let mut stream = run(&["corpus", "cases", "0", "0"], &[]);
     assert_eq!(lines(&["read"], &stream), "ACCEPTED\n".repeat(13));
-    stream.extend([0, 5, 0x20, 0, 0, 0, 5, 0, 9, 1]);
+    stream.extend([0, 5, 0x30, 0, 0, 0, 5, 0, 9, 1]);
     let end = lines(&["read"], &stream);
     assert!(end.ends_with("ACCEPTED\nREFUSED 3\nCUT OFF\n"));
     let numbered = lines(&["describe"], &stream);

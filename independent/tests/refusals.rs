@@ -101,7 +101,7 @@ fn an_earlier_refusal_hides_the_later() {
         }
         read(&block).err()
     };
-    let wrong_edition = (0, 0x21);
+    let wrong_edition = (0, 0x31);
     let wrong_length = (4, 59);
     let no_nodes = (2, 0);
     let no_terms = (5, 0);
