@@ -17,7 +17,7 @@ def why(options, words):
         files.put(head + "\n")
         answers.tell_refusal(int(head.split()[1]), path or "")
         return REFUSED
-    variables, root = texts.tree_of(block, path)
+    _, variables, root = texts.tree_of(block, path)
     called = names.of(path, variables, given)
     chart = atoms(root)
     shown = [fates.shown_atom(called, atom[1], atom[2]) for atom in chart]

@@ -59,9 +59,8 @@ class Told:
         self.fates = None
         if self.answer.refusal is not None:
             return
-        self.edition = self.block[0] >> 4
-        self.variables, self.root = texts.tree_of(self.block, path)
-        _, self.short = texts.tree_of(self.answer.block, path)
+        self.edition, self.variables, self.root = texts.tree_of(self.block, path)
+        _, _, self.short = texts.tree_of(self.answer.block, path)
         self.names = names.of(path, self.variables)
         head, found = fates.told(self.block)
         self.reasons = not head.startswith("REFUSED")
@@ -112,7 +111,7 @@ def block_section(told):
         "answer's places name it, else as gone."
     )
     table = '<table><tr><th class="place">Line</th><th>As the maker wrote it</th><th class="fate">What became of it</th></tr>%s</table>' % rows
-    short = html.escape(write_text(told.names, told.short, told.answer.places))
+    short = html.escape(write_text(told.edition, told.names, told.short, told.answer.places))
     return '<section class="block">%s%s<h3>The chart\'s lines</h3><p>%s</p>%s<h3>The short condition</h3><p>Behind each line the chart\'s line that it comes from.</p><pre>%s</pre></section>' % (
         title, facts(told), source, table, short)
 

@@ -7,8 +7,7 @@ import names
 import programs
 import running
 import shortening
-import texts
-from condition import shown_polynomial
+from condition import Bits, read_polynomial, shown_polynomial
 from endings import ANSWERED, REFUSED, USAGE, Usage
 
 TERM = re.compile(r"(-?[0-9]+):([0-9.]+)")
@@ -21,11 +20,11 @@ def read_form(words):
 
 def table_bits(block):
     """The bits of a block's table: all between its head of 40 bits and its tree, as the block has them."""
-    bits = texts.Bits(block)
+    bits = Bits(block)
     edition, variables, polynomials = bits.field(4), bits.field(5), bits.field(7)
     bits.field(24)
     for _ in range(polynomials):
-        texts.read_polynomial(bits, variables, edition)
+        read_polynomial(bits, edition, variables)
     return bits.at - 40
 
 

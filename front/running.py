@@ -1,12 +1,10 @@
 """The commands that hand their input on to a proved program and its output back: evaluate, convert, smt, pool, load, start."""
 import re
+import subprocess
 
 import answers
 import files
-import names
 import programs
-import texts
-from condition import shown_polynomial
 from endings import ANSWERED, REFUSED, Usage
 
 
@@ -34,8 +32,6 @@ def evaluate(options, words):
 
 def converted(block, words):
     """The block in another edition, or the number of a refusal; and what the program says of the sizes."""
-    import subprocess
-
     programs.build("placardpan_convert")
     done = subprocess.run(programs.words_of("placardpan_convert", words), input=block, stdout=subprocess.PIPE, stderr=subprocess.PIPE)
     said = done.stderr.decode(errors="replace").strip()

@@ -9,7 +9,7 @@ from endings import ANSWERED, REFUSED, Usage
 
 
 def tree_of(block, path):
-    """The variables and the tree of a block that was accepted."""
+    """The edition, the variables and the tree of a block that was accepted."""
     try:
         return read_block(block)
     except (ValueError, RecursionError) as error:
@@ -26,11 +26,11 @@ def text(options, words):
         answers.tell_refusal(found.refusal, path or "")
         return REFUSED
     if "short" in options:
-        variables, root = tree_of(found.block, path)
-        shown = found.lines[0] + "\n" + write_text(names.of(path, variables, given, strict=True), root, found.places)
+        edition, variables, root = tree_of(found.block, path)
+        shown = found.lines[0] + "\n" + write_text(edition, names.of(path, variables, given, strict=True), root, found.places)
     else:
-        variables, root = tree_of(block, path)
-        shown = write_text(names.of(path, variables, given, strict=True), root)
+        edition, variables, root = tree_of(block, path)
+        shown = write_text(edition, names.of(path, variables, given, strict=True), root)
     if "o" in options:
         files.write(options["o"], shown.encode())
     else:
@@ -44,10 +44,10 @@ def block(options, words):
         raise Usage("one FILE, or standard input")
     path = words[0] if words else None
     try:
-        given, root = read_text(files.read_text(path))
+        edition, given, root = read_text(files.read_text(path))
     except Bad as bad:
         raise Usage("%s:%d:%d: %s" % (path or "standard input", bad.line, bad.column, bad.why))
-    made = write_block(len(given), root)
+    made = write_block(edition, len(given), root)
     if "o" in options:
         files.write(options["o"], made)
         if os.path.splitext(options["o"])[1] != ".names":
