@@ -12,6 +12,7 @@ use Rattle.rules.specs.Formula.{open-formula}
 use Rattle.rules.specs.Level.{open-level}
 use Rattle.rules.specs.Count.{open-count}
 use Rattle.rules.specs.Bits.{open-bits}
+use Rattle.rules.specs.Pairs.{open-pairs}
 use Rattle.rules.specs.Block.{readBlock, open-block}
 use Rattle.rules.specs.Answer.{Answer, refusal, answered, formula, always, unsatisfiable, answer, roundsOf, open-answer}
 
@@ -45,11 +46,11 @@ examples-1 =
     []
 
 pub agrees-1 : map (λ (e : Example). answer (length (e .given)) (e .given)) examples-1 ≡ map (λ (e : Example). e .gives) examples-1
-unfolding open-signs open-polynomial open-deduce open-rounds open-formula open-level open-bits open-block open-answer examples-1
+unfolding open-signs open-polynomial open-deduce open-rounds open-formula open-level open-bits open-pairs open-block open-answer examples-1
 agrees-1 = refl
 
 pub counts-1 : map (λ (e : Example). roundsOf (readBlock (e .given))) examples-1 ≡ map (λ (e : Example). e .takes) examples-1
-unfolding open-signs open-polynomial open-deduce open-rounds open-formula open-level open-count open-bits open-block open-answer examples-1
+unfolding open-signs open-polynomial open-deduce open-rounds open-formula open-level open-count open-bits open-pairs open-block open-answer examples-1
 counts-1 = refl
 
 unfoldable pub examples-2 : List Example
@@ -77,11 +78,11 @@ examples-2 =
     []
 
 pub agrees-2 : map (λ (e : Example). answer (length (e .given)) (e .given)) examples-2 ≡ map (λ (e : Example). e .gives) examples-2
-unfolding open-signs open-polynomial open-deduce open-rounds open-formula open-level open-bits open-block open-answer examples-2
+unfolding open-signs open-polynomial open-deduce open-rounds open-formula open-level open-bits open-pairs open-block open-answer examples-2
 agrees-2 = refl
 
 pub counts-2 : map (λ (e : Example). roundsOf (readBlock (e .given))) examples-2 ≡ map (λ (e : Example). e .takes) examples-2
-unfolding open-signs open-polynomial open-deduce open-rounds open-formula open-level open-count open-bits open-block open-answer examples-2
+unfolding open-signs open-polynomial open-deduce open-rounds open-formula open-level open-count open-bits open-pairs open-block open-answer examples-2
 counts-2 = refl
 
 unfoldable pub examples-3 : List Example
@@ -109,11 +110,11 @@ examples-3 =
     []
 
 pub agrees-3 : map (λ (e : Example). answer (length (e .given)) (e .given)) examples-3 ≡ map (λ (e : Example). e .gives) examples-3
-unfolding open-signs open-polynomial open-deduce open-rounds open-formula open-level open-bits open-block open-answer examples-3
+unfolding open-signs open-polynomial open-deduce open-rounds open-formula open-level open-bits open-pairs open-block open-answer examples-3
 agrees-3 = refl
 
 pub counts-3 : map (λ (e : Example). roundsOf (readBlock (e .given))) examples-3 ≡ map (λ (e : Example). e .takes) examples-3
-unfolding open-signs open-polynomial open-deduce open-rounds open-formula open-level open-count open-bits open-block open-answer examples-3
+unfolding open-signs open-polynomial open-deduce open-rounds open-formula open-level open-count open-bits open-pairs open-block open-answer examples-3
 counts-3 = refl
 
 unfoldable pub examples-4 : List Example
@@ -141,11 +142,11 @@ examples-4 =
     []
 
 pub agrees-4 : map (λ (e : Example). answer (length (e .given)) (e .given)) examples-4 ≡ map (λ (e : Example). e .gives) examples-4
-unfolding open-signs open-polynomial open-deduce open-rounds open-formula open-level open-bits open-block open-answer examples-4
+unfolding open-signs open-polynomial open-deduce open-rounds open-formula open-level open-bits open-pairs open-block open-answer examples-4
 agrees-4 = refl
 
 pub counts-4 : map (λ (e : Example). roundsOf (readBlock (e .given))) examples-4 ≡ map (λ (e : Example). e .takes) examples-4
-unfolding open-signs open-polynomial open-deduce open-rounds open-formula open-level open-count open-bits open-block open-answer examples-4
+unfolding open-signs open-polynomial open-deduce open-rounds open-formula open-level open-count open-bits open-pairs open-block open-answer examples-4
 counts-4 = refl
 
 unfoldable pub examples-5 : List Example
@@ -173,11 +174,11 @@ examples-5 =
     []
 
 pub agrees-5 : map (λ (e : Example). answer (length (e .given)) (e .given)) examples-5 ≡ map (λ (e : Example). e .gives) examples-5
-unfolding open-signs open-polynomial open-deduce open-rounds open-formula open-level open-bits open-block open-answer examples-5
+unfolding open-signs open-polynomial open-deduce open-rounds open-formula open-level open-bits open-pairs open-block open-answer examples-5
 agrees-5 = refl
 
 pub counts-5 : map (λ (e : Example). roundsOf (readBlock (e .given))) examples-5 ≡ map (λ (e : Example). e .takes) examples-5
-unfolding open-signs open-polynomial open-deduce open-rounds open-formula open-level open-count open-bits open-block open-answer examples-5
+unfolding open-signs open-polynomial open-deduce open-rounds open-formula open-level open-count open-bits open-pairs open-block open-answer examples-5
 counts-5 = refl
 
 unfoldable pub examples-6 : List Example
@@ -205,11 +206,11 @@ examples-6 =
     []
 
 pub agrees-6 : map (λ (e : Example). answer (length (e .given)) (e .given)) examples-6 ≡ map (λ (e : Example). e .gives) examples-6
-unfolding open-signs open-polynomial open-deduce open-rounds open-formula open-level open-bits open-block open-answer examples-6
+unfolding open-signs open-polynomial open-deduce open-rounds open-formula open-level open-bits open-pairs open-block open-answer examples-6
 agrees-6 = refl
 
 pub counts-6 : map (λ (e : Example). roundsOf (readBlock (e .given))) examples-6 ≡ map (λ (e : Example). e .takes) examples-6
-unfolding open-signs open-polynomial open-deduce open-rounds open-formula open-level open-count open-bits open-block open-answer examples-6
+unfolding open-signs open-polynomial open-deduce open-rounds open-formula open-level open-count open-bits open-pairs open-block open-answer examples-6
 counts-6 = refl
 
 unfoldable pub examples-7 : List Example
@@ -237,11 +238,11 @@ examples-7 =
     []
 
 pub agrees-7 : map (λ (e : Example). answer (length (e .given)) (e .given)) examples-7 ≡ map (λ (e : Example). e .gives) examples-7
-unfolding open-signs open-polynomial open-deduce open-rounds open-formula open-level open-bits open-block open-answer examples-7
+unfolding open-signs open-polynomial open-deduce open-rounds open-formula open-level open-bits open-pairs open-block open-answer examples-7
 agrees-7 = refl
 
 pub counts-7 : map (λ (e : Example). roundsOf (readBlock (e .given))) examples-7 ≡ map (λ (e : Example). e .takes) examples-7
-unfolding open-signs open-polynomial open-deduce open-rounds open-formula open-level open-count open-bits open-block open-answer examples-7
+unfolding open-signs open-polynomial open-deduce open-rounds open-formula open-level open-count open-bits open-pairs open-block open-answer examples-7
 counts-7 = refl
 
 unfoldable pub examples-8 : List Example
@@ -269,11 +270,11 @@ examples-8 =
     []
 
 pub agrees-8 : map (λ (e : Example). answer (length (e .given)) (e .given)) examples-8 ≡ map (λ (e : Example). e .gives) examples-8
-unfolding open-signs open-polynomial open-deduce open-rounds open-formula open-level open-bits open-block open-answer examples-8
+unfolding open-signs open-polynomial open-deduce open-rounds open-formula open-level open-bits open-pairs open-block open-answer examples-8
 agrees-8 = refl
 
 pub counts-8 : map (λ (e : Example). roundsOf (readBlock (e .given))) examples-8 ≡ map (λ (e : Example). e .takes) examples-8
-unfolding open-signs open-polynomial open-deduce open-rounds open-formula open-level open-count open-bits open-block open-answer examples-8
+unfolding open-signs open-polynomial open-deduce open-rounds open-formula open-level open-count open-bits open-pairs open-block open-answer examples-8
 counts-8 = refl
 
 unfoldable pub examples-9 : List Example
@@ -301,11 +302,11 @@ examples-9 =
     []
 
 pub agrees-9 : map (λ (e : Example). answer (length (e .given)) (e .given)) examples-9 ≡ map (λ (e : Example). e .gives) examples-9
-unfolding open-signs open-polynomial open-deduce open-rounds open-formula open-level open-bits open-block open-answer examples-9
+unfolding open-signs open-polynomial open-deduce open-rounds open-formula open-level open-bits open-pairs open-block open-answer examples-9
 agrees-9 = refl
 
 pub counts-9 : map (λ (e : Example). roundsOf (readBlock (e .given))) examples-9 ≡ map (λ (e : Example). e .takes) examples-9
-unfolding open-signs open-polynomial open-deduce open-rounds open-formula open-level open-count open-bits open-block open-answer examples-9
+unfolding open-signs open-polynomial open-deduce open-rounds open-formula open-level open-count open-bits open-pairs open-block open-answer examples-9
 counts-9 = refl
 
 unfoldable pub examples-10 : List Example
@@ -333,11 +334,11 @@ examples-10 =
     []
 
 pub agrees-10 : map (λ (e : Example). answer (length (e .given)) (e .given)) examples-10 ≡ map (λ (e : Example). e .gives) examples-10
-unfolding open-signs open-polynomial open-deduce open-rounds open-formula open-level open-bits open-block open-answer examples-10
+unfolding open-signs open-polynomial open-deduce open-rounds open-formula open-level open-bits open-pairs open-block open-answer examples-10
 agrees-10 = refl
 
 pub counts-10 : map (λ (e : Example). roundsOf (readBlock (e .given))) examples-10 ≡ map (λ (e : Example). e .takes) examples-10
-unfolding open-signs open-polynomial open-deduce open-rounds open-formula open-level open-count open-bits open-block open-answer examples-10
+unfolding open-signs open-polynomial open-deduce open-rounds open-formula open-level open-count open-bits open-pairs open-block open-answer examples-10
 counts-10 = refl
 
 unfoldable pub examples-11 : List Example
@@ -360,9 +361,9 @@ examples-11 =
     []
 
 pub agrees-11 : map (λ (e : Example). answer (length (e .given)) (e .given)) examples-11 ≡ map (λ (e : Example). e .gives) examples-11
-unfolding open-signs open-polynomial open-deduce open-rounds open-formula open-level open-bits open-block open-answer examples-11
+unfolding open-signs open-polynomial open-deduce open-rounds open-formula open-level open-bits open-pairs open-block open-answer examples-11
 agrees-11 = refl
 
 pub counts-11 : map (λ (e : Example). roundsOf (readBlock (e .given))) examples-11 ≡ map (λ (e : Example). e .takes) examples-11
-unfolding open-signs open-polynomial open-deduce open-rounds open-formula open-level open-count open-bits open-block open-answer examples-11
+unfolding open-signs open-polynomial open-deduce open-rounds open-formula open-level open-count open-bits open-pairs open-block open-answer examples-11
 counts-11 = refl
