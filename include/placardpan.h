@@ -138,7 +138,8 @@ uint32_t placardpan_to_edition2(const uint8_t *input, size_t input_length, uint8
 
 /* Simplifies a block and writes the answer as a script in SMT-LIB 2 (request #112; docs/SMTLIB.md has the text byte by byte). The block may be of either
  * edition. Below 256 the number of the refusal: the reader's 2 to 15 and 21 to 23, then 24; there is no 1. Else 65,536 plus the script's length, and the text
- * is the script and then what was there. A refusal leaves each byte of the text as it is. The script is measured before it is written. No 0 byte ends it. */
+ * is the script and then what was there. A refusal leaves each byte of the text as it is. The script is measured before it is written. No 0 byte ends it.
+ * A call takes some 170 KB of stack; give its thread 256 KiB or more. */
 #define PLACARDPAN_TEXT_SHORT 24 /* the lent text is shorter than the finished script */
 
 uint32_t placardpan_script(const uint8_t *input, size_t input_length, uint8_t *text, size_t text_length);
