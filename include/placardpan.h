@@ -1,7 +1,6 @@
 /* Placardpan for C: a lift condition block is read, simplified and written again, or refused by a number.
  * The functions are those of liblift.a, but for placardpan_evaluate, which is libevaluate.a's, and placardpan_script, which is libscript.a's; docs/LINKING.md
- * says how to link them and what a caller
- * holds to.
+ * says how to link them and what a caller holds to.
  *
  * A lent slice is a pointer and a length in bytes. In every call
  *   - the pointers are not null, also where the length is 0, and the bytes from each on are the caller's, as many as the length says;
@@ -137,9 +136,10 @@ uint32_t placardpan_evaluate(const uint8_t *input, size_t input_length, const in
 uint32_t placardpan_to_edition1(const uint8_t *input, size_t input_length, uint8_t *output, size_t output_length);
 uint32_t placardpan_to_edition2(const uint8_t *input, size_t input_length, uint8_t *output, size_t output_length);
 
-/* Simplifies a block and writes the answer as a script in SMT-LIB 2 (request #112; docs/SMTLIB.md has the text byte by byte). Below 256 the number of the
- * refusal: the reader's 2 to 15, then 24; there is no 1. Else 65,536 plus the script's length, and the text is the script and then what was there. A refusal
- * leaves each byte of the text as it is. The script is measured before it is written. No 0 byte ends it. */
+/* Simplifies a block and writes the answer as a script in SMT-LIB 2 (request #112; docs/SMTLIB.md has the text byte by byte). The block may be of either
+ * edition. Below 256 the number of the refusal: the reader's 2 to 15 and 21 to 23, then 24; there is no 1. Else 65,536 plus the script's length, and the text
+ * is the script and then what was there. A refusal leaves each byte of the text as it is. The script is measured before it is written. No 0 byte ends it.
+ * A call takes some 170 KB of stack; give its thread 256 KiB or more. */
 #define PLACARDPAN_TEXT_SHORT 24 /* the lent text is shorter than the finished script */
 
 uint32_t placardpan_script(const uint8_t *input, size_t input_length, uint8_t *text, size_t text_length);

@@ -60,6 +60,7 @@ use Rattle.rules.specs.Formula.{open-formula}
 use Rattle.rules.specs.Level.{open-level}
 use Rattle.rules.specs.Count.{open-count}
 use Rattle.rules.specs.Bits.{open-bits}
+use Rattle.rules.specs.Pairs.{open-pairs}
 use Rattle.rules.specs.Block.{readBlock, open-block}
 use Rattle.rules.specs.Answer.{Answer, refusal, answered, formula, always, unsatisfiable, answer, roundsOf, open-answer}
 
@@ -79,14 +80,14 @@ fn claim(number: usize, blocks: &[Vec<u8>]) -> String {
         "pub agrees-{number} : map (λ (e : Example). answer (length (e .given)) (e .given)) examples-{number} ≡ map (λ (e : Example). e .gives) examples-{number}\n"
     );
     text += &format!(
-        "unfolding open-signs open-polynomial open-deduce open-rounds open-formula open-level open-bits open-block open-answer examples-{number}\n"
+        "unfolding open-signs open-polynomial open-deduce open-rounds open-formula open-level open-bits open-pairs open-block open-answer examples-{number}\n"
     );
     text += &format!("agrees-{number} = refl\n\n");
     text += &format!(
         "pub counts-{number} : map (λ (e : Example). roundsOf (readBlock (e .given))) examples-{number} ≡ map (λ (e : Example). e .takes) examples-{number}\n"
     );
     text += &format!(
-        "unfolding open-signs open-polynomial open-deduce open-rounds open-formula open-level open-count open-bits open-block open-answer examples-{number}\n"
+        "unfolding open-signs open-polynomial open-deduce open-rounds open-formula open-level open-count open-bits open-pairs open-block open-answer examples-{number}\n"
     );
     text += &format!("counts-{number} = refl\n");
     text

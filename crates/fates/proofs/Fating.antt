@@ -91,7 +91,7 @@ module _ {t : Table} (forms : Forms t) {l : List ℕ} {joins : Row} (joined : Jo
   low = subst (λ (k : List Placed). LowAtoms (plains k)) split (low-tokens t m)
 
   -- ---- The rounds over these.
-  module _ {row : Row} {r : Carrying} (ran : Carries t d row r) where
+  module _ {most : ℕ} {row : Row} {r : Carrying} (ran : Carries t d most row r) where
     -- A contradiction.
     found : r .contradiction ≡ true → hasContradiction (run n (plains (atomsIn t d))) ≡ true
     unfolding hasContradiction
@@ -176,8 +176,8 @@ module _ {t : Table} (forms : Forms t) {l : List ℕ} {joins : Row} (joined : Jo
     pub left-by : r .contradiction ≡ false → LeftBy t (r .state) row
     left-by e = record { list = ran .list; lists = ran .lists; carries = left-from e }
 
-    pub each-by : b ≤ 0 → r .contradiction ≡ false → {rest : Row} → Remains t (ran .list) rest → (made : Fates) → made .excluded ≡ false → made .joined ≡ joins
-        → made .carried ≡ row → made .left ≡ rest → made .state ≡ r .state → FatesOf t l made
+    pub each-by : b ≤ 0 → r .contradiction ≡ false → {rest : Row} {rounds : ℕ} → Remains t (ran .list) most rest rounds → (made : Fates)
+        → made .excluded ≡ false → made .joined ≡ joins → made .carried ≡ row → made .left ≡ rest → made .state ≡ r .state → FatesOf t l made
     unfolding reasonsAfter carriedClauses
     each-by low-b e {rest} remains made flag same-joined same-carried same-left same-state =
         let first : b ≡ 0 = omega arith in

@@ -18,6 +18,9 @@ use tape::rows::append;
 use tape::rows::empty;
 use tape::rows::part;
 
+// No run takes more rounds (`laws/Rounds: few-rounds`): where this is the largest number so far, none is counted. Nobody asks for the number here.
+const MOST_ROUNDS: usize = 161;
+
 // The merged atoms, full ones among them; those that carry their sets, and the state that they carry them from; those of them that stay.
 // If the whole is false, `carried` has the atoms by which it is.
 pub struct Fates {
@@ -49,7 +52,15 @@ pub fn fate_of_all(
     let later = part(&tokens, behind, merged.count);
     let n = later.count;
     let mut list = later.token;
-    let ran = carry(coefficient, monomial, terms, variables, &mut list, n);
+    let ran = carry(
+        coefficient,
+        monomial,
+        terms,
+        variables,
+        &mut list,
+        n,
+        MOST_ROUNDS,
+    );
     let state = ran.state;
     if ran.contradiction {
         let question = Question {
@@ -80,8 +91,20 @@ pub fn fate_of_all(
         token: list,
         count: n,
     };
-    let count = without_implied(coefficient, monomial, terms, variables, &mut list, n, state);
-    let left = Row { token: list, count };
+    let remaining = without_implied(
+        coefficient,
+        monomial,
+        terms,
+        variables,
+        &mut list,
+        n,
+        state,
+        MOST_ROUNDS,
+    );
+    let left = Row {
+        token: list,
+        count: remaining.count,
+    };
     Fates {
         joined,
         carried,

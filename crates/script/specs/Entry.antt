@@ -12,7 +12,7 @@ use lib.IntN.{ℤ, pos}
 use lib.ListN.{length, take, drop, replicate, length-replicate, length-append}
 use lib.Seq.{take-append-seam}
 use Rattle.rules.specs.Formula.{alone}
-use Rattle.rules.specs.Block.{Block, Stream, Reading, refused, read, readBlock, writeBlock}
+use Rattle.rules.specs.Block.{Block, Stream, Reading, refused, read, headEdition, readBlock, writeBlock}
 use Rattle.rules.specs.Limits.{BlockWithin}
 use Rattle.rules.specs.Answer as book
 use Rattle.rules.specs.Answer.{newBlock, written}
@@ -140,8 +140,12 @@ module _ {bytes before after : List ℕ} {returned : Answer} (long : length befo
   abbrev new : Block
   new = newBlock (given .given)
 
+  -- "The simplifier answers in the edition it was given".
+  abbrev new-bytes : List ℕ
+  new-bytes = writeBlock (headEdition bytes) new
+
   abbrev its-answer : book.Answer
-  its-answer = book.answered (book.verdictOf (book.simplified (given .given))) (writeBlock new) (book.countsOf (given .given) new)
+  its-answer = book.answered (book.verdictOf (book.simplified (given .given))) new-bytes (book.countsOf (given .given) new)
 
   is-answered : returned ≡ answerOf its-answer
   is-answered = answers .returns ∙ ap answerOf (answer-accepted (length before) bytes enough (given .accepted))
@@ -151,27 +155,27 @@ module _ {bytes before after : List ℕ} {returned : Answer} (long : length befo
   never-refused e = subst IsAnswered (sym is-answered ∙ e) tt
 
   module _ {verdict : Verdict} {size : ℕ} {counts : Counts} (e : returned ≡ Answered verdict size counts) where
-    its-size : size ≡ length (writeBlock new)
+    its-size : size ≡ length new-bytes
     unfolding answerOf
     its-size = ap lengthIn (sym e ∙ is-answered)
 
-    its-output : after ≡ writeBlock new ++ drop (length (writeBlock new)) before
+    its-output : after ≡ new-bytes ++ drop (length new-bytes) before
     unfolding written
     its-output = answers .output ∙ ap (λ (a : book.Answer). written a before) (answer-accepted (length before) bytes enough (given .accepted))
 
     -- The answer is the output's first part,
     pub answer-inside : size ≤ length after
-    answer-inside = rw (its-size, its-output, length-append (writeBlock new) (drop (length (writeBlock new)) before)) (omega arith)
+    answer-inside = rw (its-size, its-output, length-append new-bytes (drop (length new-bytes) before)) (omega arith)
 
-    answer-part : take size after ≡ writeBlock new
-    answer-part = rw (its-size, its-output) (take-append-seam (writeBlock new) (drop (length (writeBlock new)) before))
+    answer-part : take size after ≡ new-bytes
+    answer-part = rw (its-size, its-output) (take-append-seam new-bytes (drop (length new-bytes) before))
 
     -- and its script is told.
     pub tells-answer : (room : ℕ) {first last : List ℕ} {r : Outcome} → Tells (scriptRead room (readBlock (take size after))) first last r
         → Tells (scriptRead room (simplifiedRead (readBlock bytes))) first last r
     unfolding scriptRead simplifiedRead
     tells-answer room t =
-        let (stream, back) = reads-back new (new-within (given .given) (accepted-within bytes (given .accepted))) in
+        let (stream, back) = reads-back (headEdition bytes) new (new-within (given .given) (accepted-within bytes (given .accepted))) in
         rw (given .accepted) (rw (answer-part, back) at t)
 
 -- ---- one number for C
