@@ -99,6 +99,10 @@ form-shape : (p : Polynomial) → Shape p (normalForm p)
 unfolding normalForm
 form-shape p = normal-shape (record { polynomial = p; set = full })
 
+-- A polynomial and its normal form are both constants or neither is.
+pub constant-form : (p : Polynomial) → (constant p ≡ none → constant (normalForm p) ≡ none) × (constant (normalForm p) ≡ none → constant p ≡ none)
+constant-form p = (λ e. shape-constant (form-shape p) e, λ e. shape-back (form-shape p) e)
+
 without-append : (forms : List Polynomial) (p : Polynomial) → withoutConstants (forms ++ (p ∷ [])) ≡ withoutConstants forms ++ withoutConstants (p ∷ [])
 unfolding withoutConstants unlessConstant
 without-append [] p = refl
