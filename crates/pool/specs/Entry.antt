@@ -1,5 +1,5 @@
 -- What a call on lent words gives: the refusal's number, the words afterwards, and the pool that they stand for. A refused call changes no word.
-use mathlib.Core.Path.{_≡_, refl, sym, ap, ap₂, _∙_}
+use mathlib.Core.Path.{_≡_, refl, sym, ap, ap₂, _∙_, subst}
 use mathlib.Core.Bool.{Bool, true, false, not, _&&_, _||_}
 use mathlib.Core.List.{List, []}
 use mathlib.Core.Option.{some}
@@ -7,17 +7,21 @@ use Prim.Native.Nat.{ℕ, zero, suc, _+_, _<_, _≤_}
 use native.Mathlib.Omega.{arith}
 use lib.Dec.{leb, ltb, eqb}
 use lib.ListN.{length, getD, set}
-use borrow.Author.Tests.{le-leb, lt-leb}
+use borrow.Author.Tests.{le-leb, lt-leb, ltb-true}
+use lib.IntN.{ℤ}
 use Rattle.rules.specs.Polynomial.{Polynomial}
 use Rattle.rules.specs.Block.{Block, Stream, Reading, refused, read, readBlock}
+use Rattle.sign_laws.specs.Booleans.{and-first}
 use Rattle.sign_laws.specs.Lists.{Every}
 use Rattle.pool_laws.specs.Pool.{together, formsListed, Outcome, unlessRefused, either, count, Pool, formsInUse, listForms, addBlock, addReading, add}
 use Rattle.pool_laws.specs.Pool.{unmarked, unlessNone, withdraw, listedOf}
 use Rattle.pool_laws.specs.Holds.{listed-once}
 use Rattle.pool_laws.specs.Places.{usedSlots, used-length, newForms, together-length}
-use Rattle.pool.specs.Marks.{marks}
-use Rattle.pool.specs.Words.{slotsOf, poolOf, addedWords, withdrawnWords}
+use Rattle.pool.specs.Marks.{marks, rowWord, none-left}
+use Rattle.pool.specs.Words.{slotsOf, poolOf, allListed, addedWords, allUnlisted, withdrawnWords}
 use Rattle.pool.specs.Calls.{Fits, added-pool, withdrawn-pool}
+use Rattle.pool.specs.Reading.{formsIn, forms-fit, HoldsForms}
+use Rattle.terms.specs.View.{numbersFrom}
 
 -- "A refused call gives back the pool as it was."
 unfoldable pub wordsAfter : ℕ → List ℕ → List ℕ → List ℕ
@@ -190,3 +194,40 @@ module _ (number : ℕ) (words : List ℕ) (room : 4354 ≤ length words) where
       → Gives words (withdrawnWords number words) 0 (entered words (withdraw number (poolOf words))) (withdrawnWords number words)
   unfolding entered withdraw unlessRefused poolOf
   withdraw-done a = gives-done words (withdrawnWords number words) _ _ (rw (le-leb 4354 (length words) room, a)) (withdrawn-pool number words room)
+
+-- ---- The words, store by store.
+
+pub added-is : (number n : ℕ) (forms : List Polynomial) (words all : List ℕ) (row : ℕ) → all ≡ allListed number words forms
+    → row ≡ rowWord (set (marks 32 (getD words 1 0)) number true) → set (set all 0 n) 1 row ≡ addedWords number n forms words
+unfolding addedWords
+added-is number n forms words all row e f = ap₂ (λ (l : List ℕ) (r : ℕ). set (set l 0 n) 1 r) e f
+
+pub filled-as : (words after : List ℕ) (number n : ℕ) (forms : List Polynomial) → after ≡ addedWords number n forms words
+    → usedSlots (slotsOf words) + newForms (formsInUse (slotsOf words)) forms ≤ 128 → Filled words after number n forms 0
+filled-as words after number n forms e h = rw e (filled-done words number n forms h)
+
+pub withdrawn-is : (number : ℕ) (words all : List ℕ) (left n : ℕ) → all ≡ allUnlisted number words 0 128
+    → left ≡ rowWord (set (marks 32 (getD words 1 0)) number false) → n ≡ unlessNone left (getD words 0 0)
+    → set (set all 1 left) 0 n ≡ withdrawnWords number words
+unfolding withdrawnWords
+withdrawn-is number words all left n e f g =
+    let row : List Bool = set (marks 32 (getD words 1 0)) number false in
+    ap₂ (λ (l : List ℕ) (r : ℕ). set (set l 1 r) 0 n) e f
+    ∙ ap (set (set (allUnlisted number words 0 128) 1 (rowWord row)) 0) (g ∙ ap (λ (r : ℕ). unlessNone r (getD words 0 0)) f ∙ none-left row (getD words 0 0))
+
+pub gives-as : {words after new : List ℕ} {refusal : ℕ} {outcome : Outcome Pool} → after ≡ new → Gives words new refusal outcome new → Gives words after refusal outcome new
+gives-as e g = rw e g
+
+-- What the listed forms come to is what the block comes to.
+pub gives-forms : (number refusal : ℕ) (block : Block) (words after : List ℕ) (cs : List ℤ) (ms ts order : List ℕ) (count : ℕ) → 4354 ≤ length words
+    → isOpen number block words ≡ true → allowed number block words ≡ true → HoldsForms cs ms ts order count (formsListed block)
+    → Filled words after number (block .variables) (formsIn cs ms ts (numbersFrom order 0 count)) refusal
+    → Gives words after refusal (addBlock number block (poolOf words)) (addedWords number (block .variables) (formsListed block) words)
+gives-forms number refusal block words after cs ms ts order count room a b h filled =
+    gives-filled number refusal block words after room
+    (subst (λ (l : List Polynomial). Every Fits l) (h .is) (forms-fit cs ms ts (h .room .few) (numbersFrom order 0 count))) a b
+    (subst (λ (l : List Polynomial). Filled words after number (block .variables) l refusal) (h .is) filled)
+
+-- A number that is open, or there, is below 32.
+pub below-32 : (number : ℕ) (b : Bool) → (ltb number 32 && b) ≡ true → number < 32
+below-32 number b e = ltb-true number 32 (and-first (ltb number 32) b e)

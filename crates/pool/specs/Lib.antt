@@ -7,3 +7,4 @@ pub mod Listing
 pub mod Run
 pub mod Reading
 pub mod Entry
+pub mod Found

@@ -1,87 +1,36 @@
+-- `add` meets its contract: what the reader refuses changes nothing, what it accepts is added.
 use borrow.Author.Needs.{needs}
+use native.Mathlib.Omega.{arith}
+use Rattle.pool.specs.Reading.{blockFrom}
+use Rattle.pool.specs.Found.{found-refused, found-taken}
+use Rattle.pool.specs.Entry.{gives-short, gives-unread, gives-read}
 use Rattle.pool.proofs.add.Statement.{statement}
 use Rattle.pool.proofs.add.Tie as tie
-use Rattle.pool.proofs.add.Reads as reads
-use Rattle.pool.proofs.add.Lts as lts
-use Rattle.block.proofs.read_into.Reads as read-into-reads
-use Rattle.pool.proofs.add_read.Reads as add-read-reads
 
--- src/lib.rt:221:9
 returns : tie.Need-returns
-returns c = ?
+returns c = gives-short (c .before .before .before .args .pool .now) _ _ (c .if1 .taken)
 
--- src/lib.rt:229:9
-slice-aggregate-read-into : tie.Need-slice-aggregate-read-into
-slice-aggregate-read-into c = search needs
-
--- src/lib.rt:230:9
-slice-aggregate-read-into-2 : tie.Need-slice-aggregate-read-into-2
-slice-aggregate-read-into-2 c = search needs
-
--- src/lib.rt:231:9
-slice-aggregate-read-into-3 : tie.Need-slice-aggregate-read-into-3
-slice-aggregate-read-into-3 c = search needs
-
--- src/lib.rt:232:9
-slice-aggregate-read-into-4 : tie.Need-slice-aggregate-read-into-4
-slice-aggregate-read-into-4 c = search needs
-
--- src/lib.rt:227:9
 read-into-requires : tie.Need-read-into-requires
-read-into-requires c κs = search needs
+read-into-requires c κs = record { coefficients = omega arith; monomials = omega arith; counts = omega arith; tokens = omega arith }
 
--- src/lib.rt:235:27
-enum-known-contents : tie.Need-enum-known-contents
-enum-known-contents c = search needs
-
--- src/lib.rt:237:13
-enum-known-contents-2 : tie.Need-enum-known-contents-2
-enum-known-contents-2 c = search needs
-
--- src/lib.rt:246:13
-slice-aggregate-add-read : tie.Need-slice-aggregate-add-read
-slice-aggregate-add-read c = search needs
-
--- src/lib.rt:247:13
-slice-aggregate-add-read-2 : tie.Need-slice-aggregate-add-read-2
-slice-aggregate-add-read-2 c = search needs
-
--- src/lib.rt:248:13
-slice-aggregate-add-read-3 : tie.Need-slice-aggregate-add-read-3
-slice-aggregate-add-read-3 c = search needs
-
--- src/lib.rt:241:14
 add-read-requires : tie.Need-add-read-requires
-add-read-requires c κs = ?
+add-read-requires c κs = (c .before .before .before .before .before .before .before .before .before .before .before .before .before .before .before .before .if1 .left, found-taken (c .before .before .before .before .before .before .before .before .before .before .before .read-into .ensures) (c .before .before .before .before .before .contents2 .given .1) .read-table)
 
--- src/lib.rt:216:1
 returns-2 : tie.Need-returns-2
-returns-2 c = ?
+returns-2 c =
+    let a = c .before .before .before .before .before .before .before .before .before .before .before .before .before .before .before .args in
+    gives-unread (a .number) (a .pool .now) (a .block .now) _ (found-refused (c .before .before .before .before .before .before .before .read-into .ensures) (c .before .contents .given .1)) (c .before .before .before .before .before .before .before .before .before .before .before .before .if1 .left)
 
--- src/lib.rt:216:1
-same-length : tie.Need-same-length
-same-length c = search needs
-
--- src/lib.rt:216:1
 returns-3 : tie.Need-returns-3
-returns-3 c = ?
+unfolding blockFrom
+returns-3 c =
+    let a = c .before .before .before .before .before .before .before .before .before .before .before .before .before .before .before .before .before .before .before .before .before .before .args in
+    let taken = found-taken (c .before .before .before .before .before .before .before .before .before .before .before .before .before .before .read-into .ensures) (c .before .before .before .before .before .before .before .before .contents2 .given .1) in
+    gives-read (a .number) _ (a .pool .now) _ (a .block .now) _ (taken .given) (taken .rest) (taken .reading) (taken .variables) (taken .table)
+    (c .before .before .before .before .before .before .before .before .before .before .before .before .before .before .before .before .before .before .before .if1 .left) (c .before .before .add-read .ensures)
 
 pub add-spec : {M : Type 1} → statement M
 add-spec =
     tie.close
-    (tie.spec
-    returns
-    slice-aggregate-read-into
-    slice-aggregate-read-into-2
-    slice-aggregate-read-into-3
-    slice-aggregate-read-into-4
-    read-into-requires
-    enum-known-contents
-    enum-known-contents-2
-    slice-aggregate-add-read
-    slice-aggregate-add-read-2
-    slice-aggregate-add-read-3
-    add-read-requires
-    returns-2
-    same-length
-    returns-3)
+    (tie.spec returns (λ c. search needs) (λ c. search needs) (λ c. search needs) (λ c. search needs) read-into-requires (λ c. search needs) (λ c. search needs) (λ c. search needs) (λ c. search needs)
+    (λ c. search needs) add-read-requires returns-2 (λ c. search needs) returns-3)

@@ -1,74 +1,35 @@
+-- `withdraw` meets its contract.
 use borrow.Author.Needs.{needs}
+use borrow.Author.Tests.{not-true, not-false}
+use mathlib.Core.Path.{sym, _∙_}
+use lib.ListN.{length-set}
+use Rattle.pool.specs.Entry.{gives-short, withdraw-absent, withdraw-done, withdrawn-is, gives-as, below-32}
 use Rattle.pool.proofs.withdraw.Statement.{statement}
 use Rattle.pool.proofs.withdraw.Tie as tie
-use Rattle.pool.proofs.withdraw.Reads as reads
-use Rattle.pool.proofs.withdraw.Lts as lts
-use Rattle.pool.proofs.is_there.Reads as is-there-reads
-use Rattle.pool.proofs.kept.Reads as kept-reads
-use Rattle.pool.proofs.unlist_all.Reads as unlist-all-reads
-use Rattle.pool.proofs.words.with_mark.Reads as with-mark-reads
 
--- src/lib.rt:292:9
 returns : tie.Need-returns
-returns c = ?
+returns c = gives-short (c .before .before .args .pool .now) _ _ (c .if1 .taken)
 
--- src/lib.rt:294:19
-slice-read-present : tie.Need-slice-read-present
-slice-read-present c = search needs
-
--- src/lib.rt:295:9
-is-there-requires : tie.Need-is-there-requires
-is-there-requires c κs = search needs
-
--- src/lib.rt:296:9
 returns-2 : tie.Need-returns-2
-returns-2 c = ?
+returns-2 c =
+    let a = c .before .before .before .before .before .args in
+    withdraw-absent (a .number) (a .pool .now) (c .before .before .before .if1 .left) (sym (c .before .is-there .ensures) ∙ not-true _ (c .if2 .taken))
 
--- src/lib.rt:298:21
-slice-read-variables : tie.Need-slice-read-variables
-slice-read-variables c = search needs
-
--- src/lib.rt:299:9
 with-mark-requires : tie.Need-with-mark-requires
-with-mark-requires c κs = ?
+with-mark-requires c κs = below-32 (c .before .before .before .before .before .before .args .number) _ (sym (c .before .before .is-there .ensures) ∙ not-false _ (c .before .if2 .left))
 
--- src/lib.rt:300:5
 unlist-all-requires : tie.Need-unlist-all-requires
-unlist-all-requires c κs = ?
+unlist-all-requires c κs =
+    (c .before .before .before .before .before .before .if1 .left, below-32 (c .before .before .before .before .before .before .before .before .args .number) _ (sym (c .before .before .before .before .is-there .ensures) ∙ not-false _ (c .before .before .before .if2 .left)))
 
--- src/lib.rt:301:5
-slice-write-pool : tie.Need-slice-write-pool
-slice-write-pool c = search needs
-
--- src/lib.rt:302:15
-kept-requires : tie.Need-kept-requires
-kept-requires c κs = search needs
-
--- src/lib.rt:302:5
-slice-write-pool-2 : tie.Need-slice-write-pool-2
-slice-write-pool-2 c = ?
-
--- src/lib.rt:287:1
-same-length : tie.Need-same-length
-same-length c = search needs
-
--- src/lib.rt:287:1
 returns-3 : tie.Need-returns-3
-returns-3 c = ?
+returns-3 c =
+    let a = c .before .before .before .before .before .before .before .before .before .before .before .before .args in
+    gives-as (withdrawn-is (a .number) (a .pool .now) _ _ _ (c .before .before .before .unlist-all .ensures) (c .before .before .before .before .before .with-mark .ensures) (c .kept .ensures))
+    (withdraw-done (a .number) (a .pool .now) (c .before .before .before .before .before .before .before .before .before .before .if1 .left) (sym (c .before .before .before .before .before .before .before .before .is-there .ensures) ∙ not-false _ (c .before .before .before .before .before .before .before .if2 .left)))
 
 pub withdraw-spec : {M : Type 1} → statement M
 withdraw-spec =
     tie.close
-    (tie.spec
-    returns
-    slice-read-present
-    is-there-requires
-    returns-2
-    slice-read-variables
-    with-mark-requires
-    unlist-all-requires
-    slice-write-pool
-    kept-requires
-    slice-write-pool-2
-    same-length
-    returns-3)
+    (tie.spec returns (λ c. search needs) (λ c κs. search needs) returns-2 (λ c. search needs) with-mark-requires unlist-all-requires (λ c. search needs) (λ c κs. search needs)
+    (λ c. simp length-set (search needs)) (λ c. search needs) returns-3)
