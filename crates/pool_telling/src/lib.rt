@@ -32,33 +32,45 @@ pub fn withdraw(words: &mut [u64], number: usize) {
     tell(b"WITHDRAWN ", number, refusal);
 }
 
-// ---- show
+// ---- show: n, the numbers present, and of each slot the row of marks, the number of terms, 16 coefficients and 16 monomials
 
-fn blocks(words: &[u64]) -> u64 {
-    let mut total = 0;
-    let mut number = 0;
-    while number < 32 {
-        let at = number;
-        number += 1;
-        if pool::is_present(words, at) {
-            total += 1;
+// The word at a place, 0 where there is none.
+fn word(words: &[u64], k: usize) -> u64 {
+    if k < words.len() {
+        return words[k];
+    }
+    0
+}
+
+// Where word k of a slot stands; the first word that no pool has, if the pool has no such slot.
+fn place(slot: usize, k: usize) -> usize {
+    if slot < 128 {
+        if k < 34 {
+            return 2 + 34 * slot + k;
         }
     }
-    total
+    4354
+}
+
+fn wide(count: u32) -> u64 {
+    count as u64
+}
+
+// How many of a word's 32 marks there are.
+fn marks(word: u64) -> u64 {
+    wide(u32::count_ones((word % 4294967296) as u32))
+}
+
+fn has_mark(word: u64, number: u64) -> bool {
+    if number < 32 {
+        return (word >> number) % 2 == 1;
+    }
+    false
 }
 
 // How many blocks list the form of a slot.
 fn uses(words: &[u64], slot: usize) -> u64 {
-    let mut total = 0;
-    let mut number = 0;
-    while number < 32 {
-        let at = number;
-        number += 1;
-        if pool::lists(words, slot, at) {
-            total += 1;
-        }
-    }
-    total
+    marks(word(words, place(slot, 0)))
 }
 
 fn forms(words: &[u64]) -> u64 {
@@ -74,24 +86,29 @@ fn forms(words: &[u64]) -> u64 {
     total
 }
 
-// The numbers of the blocks that list a slot's form, joined by commas.
-fn print_numbers(words: &[u64], slot: usize) {
+// A number behind a comma, unless it is the first.
+fn print_listed(first: bool, number: u64) {
+    if !first {
+        print_word(b",");
+    }
+    print_number(number);
+}
+
+// The numbers whose marks a word has, joined by commas.
+fn print_numbers(row: u64) {
     let mut first = true;
     let mut number = 0;
     while number < 32 {
         let at = number;
         number += 1;
-        if pool::lists(words, slot, at) {
-            if !first {
-                print_word(b",");
-            }
+        if has_mark(row, at) {
+            print_listed(first, at);
             first = false;
-            print_number(at as u64);
         }
     }
 }
 
-// A coefficient in decimal: an even word is twice the number, an odd one twice the number below 0 and one more.
+// A coefficient in decimal: an even word is twice the number, an odd one twice the magnitude and one less.
 fn print_coefficient(word: u64) {
     if word % 2 == 0 {
         print_number(word / 2);
@@ -101,7 +118,15 @@ fn print_coefficient(word: u64) {
     print_number(word / 2 + 1);
 }
 
-// The exponents of so many variables in decimal, joined by dots: four bits for each, the first variable foremost.
+// The exponent behind which so many variables' exponents stand, four bits each; 0 where there are more than fifteen.
+fn exponent(monomial: u64, behind: u64) -> u64 {
+    if behind < 16 {
+        return (monomial >> (4 * behind)) % 16;
+    }
+    0
+}
+
+// The exponents of so many variables in decimal, joined by dots, the first variable foremost.
 fn print_exponents(monomial: u64, variables: u64) {
     let mut left = variables;
     while left > 0 {
@@ -113,23 +138,23 @@ fn print_exponents(monomial: u64, variables: u64) {
     }
 }
 
-// The four bits behind which so many variables' bits stand; 0 where there are more than sixteen.
-fn exponent(monomial: u64, behind: u64) -> u64 {
-    if behind < 16 {
-        return (monomial >> (4 * behind)) % 16;
+fn print_term(words: &[u64], slot: usize, i: usize, variables: u64) {
+    if i < 16 {
+        print_word(b" ");
+        print_coefficient(word(words, place(slot, 2 + i)));
+        print_word(b":");
+        print_exponents(word(words, place(slot, 18 + i)), variables);
     }
-    0
 }
 
 fn print_form(words: &[u64], slot: usize) {
-    let variables = pool::variables(words);
-    let count = pool::terms(words, slot);
+    let variables = word(words, 0);
+    let count = word(words, place(slot, 1));
     let mut i = 0;
-    while i < count {
-        print_word(b" ");
-        print_coefficient(pool::coefficient(words, slot, i));
-        print_word(b":");
-        print_exponents(pool::monomial(words, slot, i), variables);
+    while i < 16 {
+        if i < count {
+            print_term(words, slot, i as usize, variables);
+        }
         i += 1;
     }
 }
@@ -140,18 +165,13 @@ fn print_slot(words: &[u64], slot: usize) {
     print_word(b" ");
     print_number(uses(words, slot));
     print_word(b" ");
-    print_numbers(words, slot);
+    print_numbers(word(words, place(slot, 0)));
     print_form(words, slot);
     print_word(b"\n");
 }
 
-// `FORMS k BLOCKS b`, then a line for each form in slot order.
-pub fn show(words: &[u64]) {
-    print_word(b"FORMS ");
-    print_number(forms(words));
-    print_word(b" BLOCKS ");
-    print_number(blocks(words));
-    print_word(b"\n");
+// A line for each form in slot order.
+fn print_slots(words: &[u64]) {
     let mut slot = 0;
     while slot < 128 {
         let at = slot;
@@ -160,4 +180,14 @@ pub fn show(words: &[u64]) {
             print_slot(words, at);
         }
     }
+}
+
+// `FORMS k BLOCKS b`, then the forms.
+pub fn show(words: &[u64]) {
+    print_word(b"FORMS ");
+    print_number(forms(words));
+    print_word(b" BLOCKS ");
+    print_number(marks(word(words, 1)));
+    print_word(b"\n");
+    print_slots(words);
 }
