@@ -1,57 +1,20 @@
+-- `pool_vectors::clear` stores within the words, and ends.
+use borrow.Author.Needs.{needs}
+use mathlib.Core.Path.{_≡_, refl, _∙_}
+use Prim.Native.Nat.{_-_}
+use native.Mathlib.Omega.{arith}
+use lib.ListN.{length, length-set}
 use Rattle.pool_vectors.proofs.clear.Statement.{statement}
 use Rattle.pool_vectors.proofs.clear.Tie as tie
-use Rattle.pool_vectors.proofs.clear.Reads as reads
-use Rattle.pool_vectors.proofs.clear.Lts as lts
 
 abbrev Inv-loop : tie.InvT-loop
-Inv-loop words₀ i₀ words i = ?
+Inv-loop words₀ i₀ words i = length words ≡ length words₀
 
 abbrev μ-loop : tie.MeasureT-loop
-μ-loop words₀ i₀ words i = ?
-
--- src/main.rt:8:5
-loop-holds : tie.Need-loop-holds Inv-loop μ-loop
-loop-holds c = ?
-
--- src/main.rt:9:9
-mul-words : tie.Need-mul-words Inv-loop μ-loop
-mul-words c = ?
-
--- src/main.rt:9:9
-slice-write-words : tie.Need-slice-write-words Inv-loop μ-loop
-slice-write-words c = ?
-
--- src/main.rt:10:9
-add-i : tie.Need-add-i Inv-loop μ-loop
-add-i c = ?
-
--- src/main.rt:8:5
-loop-less : tie.Need-loop-less Inv-loop μ-loop
-loop-less c = ?
-
--- src/main.rt:8:5
-loop-again : tie.Need-loop-again Inv-loop μ-loop
-loop-again c = ?
-
--- src/main.rt:6:1
-same-length : tie.Need-same-length Inv-loop μ-loop
-same-length c = ?
-
--- src/main.rt:6:1
-returns : tie.Need-returns Inv-loop μ-loop
-returns c = ?
+μ-loop words₀ i₀ words i = length words₀ - i
 
 pub clear-spec : {M : Type 1} → statement M
 clear-spec =
     tie.close
-    (tie.spec
-    Inv-loop
-    μ-loop
-    loop-holds
-    mul-words
-    slice-write-words
-    add-i
-    loop-less
-    loop-again
-    same-length
-    returns)
+    (tie.spec Inv-loop μ-loop (λ c. refl) (λ c. omega arith) (λ c. omega arith) (λ c. omega arith) (λ c. omega arith)
+    (λ c. length-set (c .before .loop .words) (c .before .loop .i) 0 ∙ c .before .loop .inv) (λ c. c .before .loop .inv) (λ c. tt))
