@@ -8,7 +8,7 @@ use native.Mathlib.Omega.{arith}
 use lib.Dec.{eqb}
 use lib.IntN.{ℤ, pos}
 use lib.ListN.{length, getD, replicate}
-use Rattle.rules.specs.Signs.{full}
+use Rattle.rules.specs.Signs.{full, bit}
 use Rattle.rules.specs.Polynomial.{Polynomial, Atom, same, constant}
 use Rattle.rules.specs.Formula.{leaf}
 use Rattle.rules.specs.Block.{Block}
@@ -19,7 +19,7 @@ use Rattle.terms.specs.View.{numbersFrom, termsFrom}
 use Rattle.table.specs.Table.{formAt}
 use Rattle.forms.specs.declared.WorkingTable.{WorkingTable}
 use Rattle.forms.specs.Slots.{slotOf}
-use Rattle.forms.specs.Working.{tableOf, workingBy, blank, Worked}
+use Rattle.forms.specs.Working.{tableOf, workingBy, blank, isPlain, Worked}
 use Rattle.forms.specs.Holding.{Holds}
 use Rattle.pool.specs.Calls.{Fits}
 use Rattle.pool.specs.Listing.{isSome, constantIn, constant-in, listing, Name, no-names, names, listing-forms, TableRoom, Numbers, Listed}
@@ -59,7 +59,7 @@ pub forms-fit : (cs : List ℤ) (ms ts : List ℕ) → ((k : ℕ) → getD ts k 
 forms-fit cs ms ts few [] = every-none
 forms-fit cs ms ts few (k ∷ l) = every {a = slotOf cs ms ts k} (rw (terms-long cs ms (16 * k) (getD ts k 0)) (few k)) (forms-fit cs ms ts few l)
 
-module _ (cs : List ℤ) (ms ts : List ℕ) (m n : ℕ) (w : WorkingTable) (worked : Worked cs ms ts m n w) where
+module _ {plain : Bool} (cs : List ℤ) (ms ts : List ℕ) (m n : ℕ) (w : WorkingTable) (worked : Worked plain cs ms ts m n w) where
   apart : (j k : ℕ) → j < 64 → k < 64 → same (slotOf (w .coefficient) (w .monomial) (w .terms) j) (slotOf (w .coefficient) (w .monomial) (w .terms) k) ≡ eqb j k
   unfolding formAt
   apart j k a b = worked .forms .distinct j k a b
@@ -109,14 +109,14 @@ pub record HoldsForms (cs : List ℤ) (ms ts order : List ℕ) (count : ℕ) (fo
 pub record Blank (cs : List ℤ) (ms ts order : List ℕ) : Type 0 where
   pub coefficients : cs ≡ replicate 1280 (pos 0)
   pub monomials : ms ≡ replicate 1280 0
-  pub counts : ts ≡ replicate 80 0
+  pub counts : ts ≡ replicate 81 0
   pub slots : length order ≡ 64
 
-pub blank-is : {cs : List ℤ} {ms ts order : List ℕ} → Blank cs ms ts order → workingBy cs ms ts (replicate 64 0) (replicate 64 false) ≡ blank
-unfolding blank
-blank-is b = rw (b .coefficients, b .monomials, b .counts)
+pub blank-is : {cs : List ℤ} {ms ts order : List ℕ} → Blank cs ms ts order → workingBy cs ms ts (replicate 64 0) (replicate 64 false) ≡ blank (isPlain ts)
+unfolding blank bit
+blank-is b = rw (b .coefficients, b .monomials, b .counts) refl
 
-module _ (cs : List ℤ) (ms ts : List ℕ) (m n : ℕ) (few : m ≤ 64) (w : WorkingTable) (worked : Worked cs ms ts m n w) where
+module _ {plain : Bool} (cs : List ℤ) (ms ts : List ℕ) (m n : ℕ) (few : m ≤ 64) (w : WorkingTable) (worked : Worked plain cs ms ts m n w) where
   pub worked-room : TableRoom (w .monomial) (w .terms)
   worked-room = record { monomials = omega (arith, worked .forms .monomials); counts = omega (arith, worked .forms .counts) }
 

@@ -187,7 +187,7 @@ fn add_read(
     }
     let mut form_coefficient = [0i32; 1280];
     let mut form_monomial = [0u64; 1280];
-    let mut form_terms = [0u8; 80];
+    let mut form_terms = [0u8; 81];
     let mut order = [0u8; 64];
     let count = forms_of(
         coefficient,

@@ -10,7 +10,8 @@ use Rattle.rules.specs.Signs.{open-signs}
 use Rattle.rules.specs.Polynomial.{Term, Polynomial, open-polynomial}
 use Rattle.rules.specs.Formula.{leaf, open-formula}
 use Rattle.rules.specs.Bits.{open-bits}
-use Rattle.rules.specs.Block.{Block, writeBlock, open-block}
+use Rattle.rules.specs.Pairs.{open-pairs}
+use Rattle.rules.specs.Block.{Block, edition1, edition2, writeBlock, open-block}
 use Rattle.rules.specs.Answer.{open-answer}
 use Rattle.pool_laws.specs.Pool.{formsListed, Slot, slotOf, Pool, cleared, emptyPool, formsInUse, Outcome, addBlock, withdraw, Call, addition}
 use Rattle.pool_laws.specs.Pool.{withdrawal, called}
@@ -57,27 +58,27 @@ abbrev firstSlots : List Call → List Slot
 firstSlots calls = take 4 (afterAll called calls emptyPool .slots)
 
 abbrev bothAdded : List Call
-bothAdded = addition 0 (writeBlock first) ∷ addition 1 (writeBlock second) ∷ []
+bothAdded = addition 0 (writeBlock edition1 first) ∷ addition 1 (writeBlock edition2 second) ∷ []
 
 -- A form that two blocks list is stored once and has two uses; it stays while one of them is present; a freed slot is cleared, and used again.
 pub shared :
     (firstSlots bothAdded ≡ slotOf x-y (row true true false) ∷ slotOf x+1 (row true false false) ∷ slotOf y+1 (row false true false) ∷ cleared ∷ [])
     × (firstSlots (bothAdded ++ (withdrawal 0 ∷ [])) ≡ slotOf x-y (row false true false) ∷ cleared ∷ slotOf y+1 (row false true false) ∷ cleared ∷ [])
-    × (firstSlots (bothAdded ++ (withdrawal 0 ∷ addition 2 (writeBlock first) ∷ []))
+    × (firstSlots (bothAdded ++ (withdrawal 0 ∷ addition 2 (writeBlock edition1 first) ∷ []))
     ≡ slotOf x-y (row false true true) ∷ slotOf x+1 (row false false true) ∷ slotOf y+1 (row false true false) ∷ cleared ∷ [])
     × (afterAll called (bothAdded ++ (withdrawal 1 ∷ withdrawal 0 ∷ [])) emptyPool ≡ emptyPool)
-unfolding open-signs open-polynomial open-formula open-bits open-block open-answer open-pool
+unfolding open-signs open-polynomial open-formula open-bits open-pairs open-block open-answer open-pool
 shared = (refl, refl, refl, refl)
 
 -- The reader's refusal, 26 for a number present or above 31, 27 for another n, 26 for a number absent or above 31; equal bytes under two numbers; the
 -- n of a block that lists nothing; and another n when no block is present.
 pub refused-in-order :
     refusals called
-    (bothAdded ++ (addition 0 [] ∷ addition 0 (writeBlock constantAlone) ∷ addition 32 (writeBlock first) ∷ addition 31 (writeBlock constantAlone)
-    ∷ addition 31 (writeBlock first) ∷ withdrawal 32 ∷ withdrawal 2 ∷ withdrawal 0 ∷ withdrawal 0 ∷ withdrawal 1 ∷ withdrawal 31
-    ∷ addition 5 (writeBlock constantAlone) ∷ addition 6 (writeBlock second) ∷ [])) emptyPool
+    (bothAdded ++ (addition 0 [] ∷ addition 0 (writeBlock edition1 constantAlone) ∷ addition 32 (writeBlock edition1 first)
+    ∷ addition 31 (writeBlock edition1 constantAlone) ∷ addition 31 (writeBlock edition1 first) ∷ withdrawal 32 ∷ withdrawal 2 ∷ withdrawal 0 ∷ withdrawal 0 ∷ withdrawal 1 ∷ withdrawal 31
+    ∷ addition 5 (writeBlock edition1 constantAlone) ∷ addition 6 (writeBlock edition2 second) ∷ [])) emptyPool
     ≡ 0 ∷ 0 ∷ 2 ∷ 26 ∷ 26 ∷ 27 ∷ 0 ∷ 26 ∷ 26 ∷ 0 ∷ 26 ∷ 0 ∷ 0 ∷ 0 ∷ 27 ∷ []
-unfolding open-signs open-polynomial open-formula open-bits open-block open-answer open-pool
+unfolding open-signs open-polynomial open-formula open-bits open-pairs open-block open-answer open-pool
 refused-in-order = refl
 
 -- So many slots with x + c for falling c, listed by the block 0, and the others cleared.
