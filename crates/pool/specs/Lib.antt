@@ -8,3 +8,4 @@ pub mod Run
 pub mod Reading
 pub mod Entry
 pub mod Found
+pub mod Sequences

@@ -15,6 +15,7 @@ ghost use Rattle.pool.specs.Words.{slotsOf, poolOf, allListed, addedWord
 ghost use Rattle.pool.specs.Reading.{formsIn, blockFrom, FormRoom, Order, Blank, HoldsForms};
 ghost use Rattle.pool.specs.Entry.{Filled, Gives, entered, addedRead};
 
+mod exported; // the entries for C
 mod listed;
 mod slots;
 mod words;
