@@ -171,7 +171,7 @@ enum {
 uint8_t placardpan_pool_add(uint64_t *pool, size_t words, size_t number, const uint8_t *block, size_t length);
 
 /* Withdraws the block of a number: a form that no other block lists is gone, and its room is used again. 0, or the number of the refusal, 1 or 26, and the
- * words are as they were. */
+ * words are as they were. A call of either takes some 37 KB of stack; give its thread 64 KiB or more. */
 uint8_t placardpan_pool_withdraw(uint64_t *pool, size_t words, size_t number);
 
 /* ---- Loading that a power cut cannot hurt: the functions of libloading.a; docs/LOADING.md says what is proved of them. */
