@@ -1,6 +1,6 @@
 /* Placardpan for C: a lift condition block is read, simplified and written again, or refused by a number.
  * The functions are those of liblift.a, but for placardpan_evaluate, which is libevaluate.a's, and placardpan_script, which is libscript.a's; docs/LINKING.md
- * says how to link them and what a caller holds to.
+ * says how to link them and what a caller holds to. The converters are libconvert.a's, those for loading libloading.a's, the pool's two libpool.a's.
  *
  * A lent slice is a pointer and a length in bytes. In every call
  *   - the pointers are not null, also where the length is 0, and the bytes from each on are the caller's, as many as the length says;
@@ -152,6 +152,27 @@ static inline size_t placardpan_script_length(uint32_t answer)
 
 /* No script is longer. */
 #define PLACARDPAN_LONGEST_SCRIPT 2024782
+
+/* ---- A pool of polynomials for a release (request #113): the functions of libpool.a. */
+
+/* A pool is so many words of the caller's, aligned as uint64_t; what stands in them is the library's own business. Zeros are the empty pool. Any other words
+ * are a pool to these functions too: whatever they hold, a call is safe, touches nothing but the words lent, and gives the same numbers and the same words
+ * for the same words. Words that began as zeros and were changed by these functions alone hold exactly the forms of the blocks present. */
+#define PLACARDPAN_POOL_WORDS 4354
+
+enum {
+    PLACARDPAN_BLOCK_NUMBER = 26, /* the block's number is above 31, present on adding, or absent on withdrawal */
+    PLACARDPAN_OTHER_N = 27,      /* some block is present, and its n differs */
+    PLACARDPAN_POOL_FULL = 28     /* the forms in use together with the listed ones are more than 128 */
+};
+
+/* Adds a block under a number, 0 to 31: lists the different normal forms of its non-constant table polynomials, each stored once. 0, or the number of the
+ * refusal, and the words are as they were: 1 if fewer than PLACARDPAN_POOL_WORDS words are lent, the reader's 2 to 15 and 21 to 23, then 26, 27, 28. */
+uint8_t placardpan_pool_add(uint64_t *pool, size_t words, size_t number, const uint8_t *block, size_t length);
+
+/* Withdraws the block of a number: a form that no other block lists is gone, and its room is used again. 0, or the number of the refusal, 1 or 26, and the
+ * words are as they were. A call of either takes some 37 KB of stack; give its thread 64 KiB or more. */
+uint8_t placardpan_pool_withdraw(uint64_t *pool, size_t words, size_t number);
 
 /* ---- Loading that a power cut cannot hurt: the functions of libloading.a; docs/LOADING.md says what is proved of them. */
 

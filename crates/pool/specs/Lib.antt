@@ -1,0 +1,11 @@
+pub mod Marks
+pub mod Coefficients
+pub mod Words
+pub mod Stored
+pub mod Calls
+pub mod Listing
+pub mod Run
+pub mod Reading
+pub mod Entry
+pub mod Found
+pub mod Sequences

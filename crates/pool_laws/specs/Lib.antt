@@ -1,0 +1,12 @@
+pub mod Pool
+pub mod PoolCases
+pub mod Known
+pub mod Together
+pub mod Rows
+pub mod Slots
+pub mod Withdrawing
+pub mod Holds
+pub mod Calls
+pub mod Listed
+pub mod Exact
+pub mod Places
