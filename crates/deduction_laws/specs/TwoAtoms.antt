@@ -19,9 +19,8 @@ use Rattle.sign_laws.specs.Booleans.{and-first, and-second, or-cases}
 use Rattle.sign_laws.specs.Lists.{Every, every-none, every, every-append}
 use Rattle.sign_laws.specs.Whole.{_∈_, ∈-sum, ∈-product, ∈-negation, ∈-intersect, ∈-full, by-sign, by-equal, wider}
 use Rattle.deduction_laws.specs.Fractions.{is-nought, not-negative, is-negative}
-use Rattle.deduction_laws.specs.Exact.{is-zero}
+use Rattle.deduction_laws.specs.Exact.{is-zero, strict-kind}
 use Rattle.deduction_laws.specs.Rows.{total, total-a, total-b, in-named}
-use Rattle.deduction_laws.specs.Deduction.{strict-kind}
 use Rattle.deduction_laws.specs.Terms.{terms-sound}
 
 -- ---- The value of p + u·q.

@@ -17,10 +17,14 @@ use Rattle.sign_laws.specs.Sets.{_In_, in-only, in-all, in-inside, part-refl}
 use Rattle.sign_laws.specs.Whole.{_∈_, ∈-sum, by-sign, by-equal, wider}
 use Rattle.deduction_laws.specs.FractionSets.{Side, L, U, asked}
 use Rattle.deduction_laws.specs.Deduction.{turned}
-use Rattle.deduction_laws.specs.Points.{allAsked}
 use Rattle.deduction_laws.specs.TwoAtoms.{plus-value}
 use Rattle.removal_laws.specs.Terms.{Signed, product-signed, product-wider, monomialSign-small, monomialSign-signed}
 use Rattle.removal_laws.specs.Kinds.{only-if, by-check, each-kind, kind-part, kind-signed}
+
+-- Each coefficient is as its monomial's set asks.
+unfoldable pub allAsked : Side → Board → Polynomial → Bool
+allAsked side board [] = true
+allAsked side board (t ∷ ts) = has (signOf (t .coefficient)) (named (asked side (kind (monomialSign board (t .monomial))))) && allAsked side board ts
 
 -- The sign that must not be there.
 abbrev worst : Side → Sign

@@ -38,7 +38,7 @@ saidByOthers st p =
     cutByAll (cutBy (st .board) p others (byTerms (st .board) p)) (tries (st .board) p others)
 
 -- It is one of the eight sets.
-all-below : (s : SignSet) (fs : List SignSet) → s < 8 → cutByAll s fs < 8
+pub all-below : (s : SignSet) (fs : List SignSet) → s < 8 → cutByAll s fs < 8
 unfolding cutByAll
 all-below s [] h = h
 all-below s (f ∷ fs) h = all-below (intersect s f) fs (intersect-below s f)
@@ -48,7 +48,7 @@ unfolding saidByOthers
 said-below st p =
     all-below _ (tries (st .board) p (otherThan p (st .atoms))) (cutBy-below (st .board) p (otherThan p (st .atoms)) (byTerms (st .board) p) (byTerms-small (st .board) p))
 
-other-filled : (p : Polynomial) {l : List Atom} → Every Filled l → Every Filled (otherThan p l)
+pub other-filled : (p : Polynomial) {l : List Atom} → Every Filled l → Every Filled (otherThan p l)
 unfolding otherThan unlessSame
 other-filled p every-none = every-none
 other-filled p (every {a} {l} h hs) = by-test (same p (a .polynomial)) (other-filled p hs)

@@ -3,7 +3,7 @@
 use mathlib.Core.Path.{_≡_, refl, sym, ap, ap₂, _∙_, subst}
 use mathlib.Core.Bool.{false}
 use mathlib.Core.List.{List, [], _∷_, _++_}
-use mathlib.Core.Option.{none}
+use mathlib.Core.Option.{none, some, Option·none-ne-some}
 use Prim.Native.Nat.{ℕ, suc, _+_, _*_, _<_}
 use native.Mathlib.Omega.{arith}
 use lib.Dec.{lit<}
@@ -13,12 +13,12 @@ use Rattle.rules.specs.Signs.{SignSet, full}
 use Rattle.rules.specs.Polynomial.{Atom, Board, variable}
 use Rattle.rules.specs.TwoAtoms.{tries, firstCut}
 use Rattle.rules.specs.Rounds.{turn, turns, cutAtom, cutAtoms, State, round, setsOf, sameSets, hasEmpty, unchanged, settled, afterRound, rounds}
-use Rattle.rules.specs.Rounds.{atomsOr, searchAtoms, stateOr, search, afterSearch, start, enough, run, carried}
+use Rattle.rules.specs.Rounds.{searchBoard, atomsOr, searchAtoms, stateOr, search, afterSearch, start, enough, run, carried}
 use Rattle.sign_laws.specs.Booleans.{never-true, never-both}
 use Rattle.sign_laws.specs.Lists.{Every, every-none, every, every-append, every-getD}
 use Rattle.sign_laws.specs.Sets.{PartOf, parts-equal}
 use Rattle.ending_laws.specs.Cuts.{cutAtom-part, cutAtom-below}
-use Rattle.ending_laws.specs.Searches.{none-cuts, parts-cut-none, search-idle, atoms-none, board-idle}
+use Rattle.ending_laws.specs.Searches.{none-cuts, parts-cut-none, search-finds, search-idle, atoms-none, board-idle}
 use Rattle.ending_laws.specs.FirstRound.{same-unchanged}
 use Rattle.ending_laws.specs.Rounds.{start-length}
 use Rattle.removal_laws.specs.Wider.{Wider}
@@ -27,7 +27,7 @@ use Rattle.removal_laws.specs.Rounds.{LowBoard, LowAtoms, round-low, WiderState
 use Rattle.removal_laws.specs.Settled.{Settled, run-settles, start-low}
 use Rattle.removal_laws.specs.Starts.{carries-cut, run-carries, start-wider}
 use Rattle.removal_laws.specs.TwoAtoms.{Filled, tries-wider, weaker-every}
-use Rattle.removal_laws.specs.Searched.{settled-filled}
+use Rattle.removal_laws.specs.Searched.{settled-filled, search-wider}
 use Rattle.removal_laws.specs.Said.{state-empty}
 use Rattle.turn_laws.specs.AfterTurns.{AfterTurns, after-low, after-wider, cut-wider, pairs-hold, same-end, Idle, all-idle, Floor}
 use Rattle.turn_laws.specs.Some.{Some, none-there, not-there, there, some-fewer, some-append, last-not-there, nonVariable-some}
@@ -130,11 +130,28 @@ module _ {n : ℕ} {st su : State} (t : Afresh n st su) where
       let turned = all-idle n (su .atoms) (su .board) 0 n (λ j b. h j (omega arith)) in
       ap₂ (λ (b : Board) (l : List Atom). record { board = b; atoms = l }) turned no-atom-cut
 
+  -- No pair finds anything of an atom.
+  pub atoms-idle : searchAtoms (su .board) [] (su .atoms) ≡ none
+  atoms-idle = search-stays (t .boards) none-there every-none (t .lists) (settled-filled (t .still)) (search-idle n st (t .still .idle) .1)
+
+  -- So a search is one over the variables.
+  pub by-variables : search n su ≡ stateOr su (searchBoard n (su .atoms) (su .board) 0 n (su .board)) none
+  unfolding search
+  by-variables = ap (stateOr su (searchBoard n (su .atoms) (su .board) 0 n (su .board))) atoms-idle
+
   -- If no pair finds anything of a variable, no pair finds anything.
   idle-search : ((i : ℕ) → i < n → PairsIdle n su i) → search n su ≡ none
   unfolding search stateOr
-  idle-search h = ap₂ (stateOr su) (board-idle n (su .atoms) (su .board) 0 n (su .board) (λ j b. let first : 0 + j ≡ j = omega arith in rw first (h j b)))
-      (search-stays (t .boards) none-there every-none (t .lists) (settled-filled (t .still)) (search-idle n st (t .still .idle) .1))
+  idle-search h = ap₂ (stateOr su) (board-idle n (su .atoms) (su .board) 0 n (su .board) (λ j b. let first : 0 + j ≡ j = omega arith in rw first (h j b))) atoms-idle
+
+  -- What a search finds leaves the atoms,
+  pub no-atom-found : {sv : State} → search n su ≡ some sv → sv .atoms ≡ su .atoms
+  no-atom-found e = search-finds (λ (sv : State). sv .atoms ≡ su .atoms) n su e (λ sets f. refl)
+      (λ l f. absurd (Option·none-ne-some l (sym atoms-idle ∙ f)))
+
+  -- and is such a state.
+  pub afresh-found : {sv : State} → search n su ≡ some sv → Afresh n st sv
+  afresh-found e = record { still = t .still; boards = search-wider (t .still) (afresh-wider t) e .boards; lists = rw (no-atom-found e) (t .lists) }
 
 -- The settled sets are a floor of the turns.
 pub floor-settled : {n : ℕ} {st su : State} → Afresh n st su → Floor n (su .atoms) (su .board) (st .board)
