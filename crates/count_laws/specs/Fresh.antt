@@ -70,8 +70,14 @@ spends {n} {su} t low (pair-goes-on {sv = sv} e u i b r) =
     let same : spareAll (setsOf (round n su .atoms)) ≡ spareAll (setsOf (su .atoms)) = ap (λ (l : List Atom). spareAll (setsOf l)) (no-atom-cut t) in
     let again : spareAll (setsOf (sv .atoms)) ≡ spareAll (setsOf (round n su .atoms)) = ap (λ (l : List Atom). spareAll (setsOf l)) (no-atom-found (afresh-round t) i) in
     let kept = round-low n su low in
-    omega (arith, spends (afresh-found (afresh-round t) i) (search-low n (round n su) i kept .board) r,
-    searched n (round n su) i .falls (all-low (afresh-round t) (kept .board)) b, round-spare n su (all-low t low), same, again)
+    omega (
+      arith,
+      spends (afresh-found (afresh-round t) i) (search-low n (round n su) i kept .board) r,
+      searched n (round n su) i .falls (all-low (afresh-round t) (kept .board)) b,
+      round-spare n su (all-low t low),
+      same,
+      again,
+    )
 spends {n} {su} t low (goes-on e u r) =
     let same : spareAll (setsOf (round n su .atoms)) ≡ spareAll (setsOf (su .atoms)) = ap (λ (l : List Atom). spareAll (setsOf l)) (no-atom-cut t) in
     omega (arith, spends (afresh-round t) (round-low n su low .board) r, round-falls n su (all-low t low) e u, same)

@@ -170,8 +170,14 @@ spends {n} {su} low t h (pair-goes-on {sv = sv} e u i b r) =
     let same : spareAll (setsOf (round n su .atoms)) ≡ spareAll (setsOf (su .atoms)) = ap (λ (l : List Atom). spareAll (setsOf l)) (no-atom-cut (t .settles)) in
     let again : spareAll (setsOf (sv .atoms)) ≡ spareAll (setsOf (round n su .atoms)) = ap (λ (l : List Atom). spareAll (setsOf l)) (no-atom-found f i) in
     let kept = round-low n su h in
-    omega (arith, spends low (above-found (above-round t) i) (search-low n (round n su) i kept .board) r,
-    searched n (round n su) i .falls (all-low f (kept .board)) b, round-spare n su (all-low (t .settles) h), same, again)
+    omega (
+      arith,
+      spends low (above-found (above-round t) i) (search-low n (round n su) i kept .board) r,
+      searched n (round n su) i .falls (all-low f (kept .board)) b,
+      round-spare n su (all-low (t .settles) h),
+      same,
+      again,
+    )
 spends {n} {su} low t h (goes-on e u r) =
     let same : spareAll (setsOf (round n su .atoms)) ≡ spareAll (setsOf (su .atoms)) = ap (λ (l : List Atom). spareAll (setsOf l)) (no-atom-cut (t .settles)) in
     omega (arith, spends low (above-round t) (round-low n su h .board) r, round-falls n su (all-low (t .settles) h) e u, same)
