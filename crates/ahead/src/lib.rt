@@ -14,6 +14,7 @@ ghost use Rattle.round.specs.Views.{lentTable};
 ghost use Rattle.round.specs.Signing.{Ready};
 ghost use Rattle.ahead.specs.Ahead.{placeOf, FloorAt, Stepped, Reached, Ahead};
 use deduce::any_empty;
+use engines::deduce_alone;
 use engines::deduce_from;
 use round::list::many;
 use round::round::cut_down;
@@ -244,7 +245,7 @@ fn deduced(
     let q = places(terms, k);
     sign_slot(board, monomial, terms, sign, 64 + i);
     sign_slot(board, monomial, terms, sign, k);
-    deduce_from(coefficient, monomial, terms, sign, p, q, SignSet(held))
+    deduce_alone(coefficient, monomial, terms, sign, p, q, SignSet(held))
 }
 
 // Variable i's set cut by what the atom of a slot says of it, if there are such a variable and such an atom and the set is above the floor.

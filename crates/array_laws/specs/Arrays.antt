@@ -45,7 +45,7 @@ table-fits (polynomials first later) zero = first .at-most
 table-fits (polynomials first later) (suc j) = table-fits later j
 
 module _ {A : Type 0} (part : Term → A) (d : A) where
-  length-slots : (table : List Polynomial) (i : ℕ) (array : List A) → length (slots part i table array) ≡ length array
+  pub length-slots : (table : List Polynomial) (i : ℕ) (array : List A) → length (slots part i table array) ≡ length array
   unfolding slots
   length-slots [] i array = refl
   length-slots (p ∷ ps) i array = length-slots ps (suc i) (sets array (16 * i) (map part p)) ∙ length-sets array (16 * i) (map part p)
@@ -87,14 +87,15 @@ terms-are cs ms (t ∷ ts) i each-coefficient each-monomial =
 
 -- ---- what was read
 
-module _ (table : List Polynomial) (few : AtMostSixteen table) (most : length table ≤ 64) (cs : List ℤ) (ms ts : List ℕ)
-    (coefficients : length cs ≡ 1024) (monomials : length ms ≡ 1024) (counts : length ts ≡ 64) where
+module _ (table : List Polynomial) (few : AtMostSixteen table) (cs : List ℤ) (ms ts : List ℕ)
+    (coefficients : 16 * length table ≤ length cs) (monomials : 16 * length table ≤ length ms) (counts : length table ≤ length ts) where
   count-stored : (i : ℕ) → i < length table → getD (sets ts 0 (map length table)) i 0 ≡ length (getD table i [])
   count-stored i h =
       let at = stored-at (map length table) ts 0 i 0 (rw (length-map table length) (omega arith)) (rw (length-map table length) h) in
       (rw (zero-add i) at at) ∙ List·getD-map length table i []
 
-  slot-stored : (i : ℕ) → i < length table
+  -- Arrays with room for a table have each polynomial in its slot, once the table is stored over them.
+  pub slot-stored : (i : ℕ) → i < length table
       → termsFrom (slots (λ t. t .coefficient) 0 table cs) (slots (λ t. t .monomial) 0 table ms) (16 * i) (getD (sets ts 0 (map length table)) i 0) ≡ getD table i []
   slot-stored i h =
       rw (count-stored i h) (
@@ -103,13 +104,15 @@ module _ (table : List Polynomial) (few : AtMostSixteen table) (most : length ta
       (λ k inside. let at = slots-at (λ (t : Term). t .monomial) 0 table 0 ms i k few (omega arith) h inside in rw (zero-add i) at at)
       )
 
+module _ (table : List Polynomial) (few : AtMostSixteen table) (most : length table ≤ 64) (cs : List ℤ) (ms ts : List ℕ)
+    (coefficients : length cs ≡ 1024) (monomials : length ms ≡ 1024) (counts : length ts ≡ 64) where
   -- The arrays that a table is stored over hold it.
   pub arrays-hold : Holds (slots (λ t. t .coefficient) 0 table cs) (slots (λ t. t .monomial) 0 table ms) (sets ts 0 (map length table)) table
   arrays-hold = record {
     coefficients = length-slots (λ (t : Term). t .coefficient) (pos 0) table 0 cs ∙ coefficients;
     monomials = length-slots (λ (t : Term). t .monomial) 0 table 0 ms ∙ monomials;
     counts = length-sets ts 0 (map length table) ∙ counts;
-    each = slot-stored;
+    each = slot-stored table few cs ms ts (omega arith) (omega arith) (omega arith);
   }
 
 module _ (given : Block) (within : BlockWithin given) where

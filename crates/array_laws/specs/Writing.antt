@@ -115,6 +115,12 @@ module _ (block : Block) (within : BlockWithin block) where
       rw (zero-add (length (tokens (alone (block .tree))))) at
       (sets-eq (tokens (alone (block .tree))) zeros 0 (omega (arith, length-tokens (alone (block .tree)), within .nodes, long)))
 
+  -- The tape that a block within the limits is stored over holds its tree.
+  pub tree-stored : (token : List ℕ) → length token ≡ 255 → PartsHeld (sets token 0 (tokens (alone (block .tree)))) (kindOf (block .tree)) 0 (alone (block .tree))
+  tree-stored token tape =
+      tree-there (sets token 0 (tokens (alone (block .tree)))) (length (block .table)) (block .tree) (drop (length (tokens (alone (block .tree)))) token)
+      (within .polynomials) (within .tree) (tape-starts token tape)
+
   module _ (cs : List ℤ) (ms ts token : List ℕ) (coefficients : length cs ≡ 1024) (monomials : length ms ≡ 1024) (counts : length ts ≡ 64) (tape : length token ≡ 255) where
     -- The arrays that a block within the limits is stored over hold it,
     pub stored-holds : Holds (heldOver cs ms ts token block) block
@@ -125,8 +131,7 @@ module _ (block : Block) (within : BlockWithin block) where
       table = table-there (heldOver cs ms ts token block .coefficient) (heldOver cs ms ts token block .monomial) (heldOver cs ms ts token block .terms) (block .table) 0
           (λ j h. rw (zero-add j)
           (arrays-hold (block .table) (table-fits (within .table)) (within .polynomials) cs ms ts coefficients monomials counts .each j h));
-      tree = tree-there (heldOver cs ms ts token block .token) (length (block .table)) (block .tree) (drop (length (tokens (alone (block .tree)))) token)
-          (within .polynomials) (within .tree) (tape-starts token tape);
+      tree = tree-stored token tape;
     }
 
     -- so that it can be written, in an edition, where there is room for it.

@@ -10,10 +10,11 @@ use lib.ListN.{length, drop, set}
 use lib.Seq.{drop-drop}
 use borrow.Author.Tests.{lt-ltb, le-leb, lt-leb, not-true, not-false}
 use Rattle.rules.specs.Bits.{unpack}
-use Rattle.rules.specs.Pairs.{rising, aboveZero, monomialOf}
-use Rattle.rules.specs.Block.{edition2, refused, read, require, afterwards, signed, firstBits, readExponents, readTerm}
+use Rattle.rules.specs.Block.{edition2, Stream, Reading, refused, read, require, afterwards, signed, firstBits, readExponents, readTerm}
 use Rattle.block_laws.specs.Pairs.{tested-within, monomial-fits}
-use Rattle.pairs.specs.Pairs.{pairsAt, PairsInside, PairsRise}
+use Rattle.pairs.specs.Pairs.{pairsAt, PairsInside, toldOf, pairsTold}
+use Rattle.pairs.specs.declared.Told.{Told}
+use Rattle.pairs.specs.declared.Told.the-variants.{NotRising, SomeZero, Exponents as AllExponents}
 use Rattle.block.specs.Steps.{streamAt, Inside, Left, Reads, ceiling, PairsRead, ExponentsOf, ExponentsFound, TermStored}
 use Rattle.block.specs.declared.Exponents.{Exponents}
 use Rattle.block.specs.declared.Exponents.the-variants.{Refused as NoExponents, Number}
@@ -25,19 +26,41 @@ use Rattle.block.proofs.ReadingTerms.{falls-is}
 
 -- ---- the pairs
 
+-- What the book reads where the pairs are told of, and a bound of the exponents.
+unfoldable byTold : Stream → Told → Reading ℕ
+byTold s NotRising = refused 22
+byTold s SomeZero = refused 23
+byTold s (AllExponents exponents) = read exponents s
+
+unfoldable Below : ℕ → Told → Type 0
+Below bound NotRising = Unit {0}
+Below bound SomeZero = Unit {0}
+Below bound (AllExponents exponents) = exponents < bound
+
+in-order : (s : Stream) (rises above : Bool) (exponents : ℕ)
+    → require rises 22 (require above 23 (read exponents s)) ≡ byTold s (toldOf rises above exponents)
+unfolding byTold toldOf require
+in-order s false above exponents = refl
+in-order s true false exponents = refl
+in-order s true true exponents = refl
+
+below-told : (bound : ℕ) (rises above : Bool) (exponents : ℕ) → (rises ≡ true → above ≡ true → exponents < bound)
+    → Below bound (toldOf rises above exponents)
+unfolding Below toldOf
+below-told bound false above exponents h = tt
+below-told bound true false exponents h = tt
+below-told bound true true exponents h = h refl refl
+
 module _ (n : ℕ) (bytes : List ℕ) (place : Place) {count : ℕ} (c : count ≡ fieldAt bytes (place .at) 5) where
-  by-pairs : let pairs = pairsAt bytes (place .at + 5) count in
-      readExponents edition2 n (streamAt bytes place) ≡
+  by-pairs : readExponents edition2 n (streamAt bytes place) ≡
       require (leb count n) 21
       (require (leb (8 * count) (length (drop (place .at + 5) (unpack bytes)))) 6
-      (require (rising n 0 pairs) 22
-      (require (aboveZero pairs) 23
-      (read (monomialOf n pairs) (streamAt bytes (further place (5 + 8 * count)))))))
+      (byTold (streamAt bytes (further place (5 + 8 * count))) (pairsTold n (pairsAt bytes (place .at + 5) count))))
   unfolding readExponents
   by-pairs =
       let u = unpack bytes in
       let behind : place .at + 5 + 8 * count ≡ place .at + (5 + 8 * count) = omega arith in
-      rw (← c, drop-drop 5 (place .at) u, drop-drop (8 * count) (place .at + 5) u, behind)
+      rw (← in-order (streamAt bytes (further place (5 + 8 * count))), ← c, drop-drop 5 (place .at) u, drop-drop (8 * count) (place .at + 5) u, behind)
 
   refuses-pairs : {number : ℕ} → readExponents edition2 n (streamAt bytes place) ≡ refused number → ExponentsFound bytes place n (NoExponents number)
   unfolding ExponentsOf
@@ -55,40 +78,39 @@ module _ (n : ℕ) (bytes : List ℕ) (place : Place) {count : ℕ} (c : count �
         refuses-pairs (by-pairs ∙ rw (le-leb count n few, lt-leb (8 * count) _ fewer))
 
     module _ (long : 5 + 8 * count ≤ rest) where
-      enough : leb (8 * count) (length (drop (place .at + 5) (unpack bytes))) ≡ true
-      enough = le-leb (8 * count) _ (rw length-left (omega (arith, l .up-to-end)))
-
       pub pairs-inside : Inside bytes place → PairsInside bytes (place .at + 5) count
       pairs-inside inside = record { at-most = omega (arith, l .up-to-end); short = inside .short }
 
-      module _ {rises : Bool} (r : rises ≡ rising n 0 (pairsAt bytes (place .at + 5) count)) where
-        pub not-rising : not rises ≡ true → ExponentsFound bytes place n (NoExponents 22)
+      enough : leb (8 * count) (length (drop (place .at + 5) (unpack bytes))) ≡ true
+      enough = le-leb (8 * count) _ (rw length-left (omega (arith, l .up-to-end)))
+
+      module _ {told : Told} (t : told ≡ pairsTold n (pairsAt bytes (place .at + 5) count)) where
+        by-what-is-told : readExponents edition2 n (streamAt bytes place) ≡ byTold (streamAt bytes (further place (5 + 8 * count))) told
         unfolding require
-        not-rising h = refuses-pairs (by-pairs ∙ rw (le-leb count n few, enough, ← r, not-true rises h))
+        by-what-is-told = by-pairs ∙ rw (le-leb count n few, enough, ← t)
 
-        module _ (rising-is : not rises ≡ false) {above : Bool} (z : above ≡ aboveZero (pairsAt bytes (place .at + 5) count)) where
-          pub some-zero : not above ≡ true → ExponentsFound bytes place n (NoExponents 23)
-          unfolding require
-          some-zero h = refuses-pairs (by-pairs ∙ rw (le-leb count n few, enough, ← r, not-false rises rising-is, ← z, not-true above h))
+        below : Below (2 ^ (4 * n)) told
+        below =
+            rw t (below-told (2 ^ (4 * n)) _ _ _ (λ rises above. monomial-fits (tested-within n 0 count (drop (place .at + 5) (unpack bytes)) rises above)))
 
-          module _ (above-is : not above ≡ false) where
-            pub pairs-rise : PairsRise n (pairsAt bytes (place .at + 5) count)
-            pairs-rise = record {
-              least = 0;
-              within = tested-within n 0 count _ (sym r ∙ not-false rises rising-is) (sym z ∙ not-false above above-is);
-            }
+        pub not-rising : told ≡ NotRising → ExponentsFound bytes place n (NoExponents 22)
+        unfolding byTold
+        not-rising e = refuses-pairs (by-what-is-told ∙ rw e)
 
-            pub pairs-read : {exponents : ℕ} → exponents ≡ monomialOf n (pairsAt bytes (place .at + 5) count) → Inside bytes place
-                → ExponentsFound bytes place n (Number exponents (place .at + (5 + 8 * count)))
-            unfolding ExponentsOf require
-            pairs-read m inside = record {
-              found = record {
-                reading =
-                    by-pairs ∙ rw (le-leb count n few, enough, ← r, not-false rises rising-is, ← z, not-false above above-is, ← m);
-                inside = record { at-most = omega (arith, l .up-to-end); short = inside .short };
-                small = rw m (monomial-fits (tested-within n 0 count _ (sym r ∙ not-false rises rising-is) (sym z ∙ not-false above above-is)));
-              };
-            }
+        pub some-zero : told ≡ SomeZero → ExponentsFound bytes place n (NoExponents 23)
+        unfolding byTold
+        some-zero e = refuses-pairs (by-what-is-told ∙ rw e)
+
+        pub pairs-read : {exponents : ℕ} → told ≡ AllExponents exponents → Inside bytes place
+            → ExponentsFound bytes place n (Number exponents (place .at + (5 + 8 * count)))
+        unfolding ExponentsOf byTold Below
+        pairs-read e inside = record {
+          found = record {
+            reading = by-what-is-told ∙ rw e;
+            inside = record { at-most = omega (arith, l .up-to-end); short = inside .short };
+            small = rw e at below;
+          };
+        }
 
 -- What was found, by its kind.
 module _ {bytes : List ℕ} {place : Place} {n : ℕ} {found : Exponents} (f : ExponentsFound bytes place n found) where

@@ -2,19 +2,17 @@
 use mathlib.Core.Path.{_≡_, refl, sym, ap, _∙_}
 use mathlib.Core.Bool.{Bool, true, false, not, _||_}
 use mathlib.Core.List.{List, [], _∷_}
-use Prim.Native.Nat.{ℕ, zero, suc, _+_, _-_, _*_, _/_, _%_, _^_, _≤_, _<_}
+use Prim.Native.Nat.{ℕ, zero, suc, _+_, _-_, _*_, _^_, _≤_, _<_}
 use native.Mathlib.Numerals.{add-one}
 use native.Mathlib.Omega.{arith}
 use lib.Dec.{ltb}
 use lib.IntN.{ℤ}
 use lib.ListN.{length, drop, getD, set}
-use lib.Pow.{high, low}
 use lib.Seq.{drop-drop, getD-set-same}
 use borrow.Author.Tests.{lt-ltb, le-leb, lt-leb, not-true, not-false}
 use Rattle.rules.specs.Bits.{unpack}
 use Rattle.rules.specs.Polynomial.{Term, Polynomial}
 use Rattle.rules.specs.Block.{Edition, edition1, Stream, Reading, read, require, afterwards, signed, firstBits, readExponents, readTerm, readTerms}
-use Rattle.bits.proofs.Bytes.{length-unpack, value-take-add}
 use Rattle.bits.proofs.Fields.{value-take-lt}
 use Rattle.block.specs.Steps.{streamAt, Inside, Left, Reads, ceiling, TermStored, TermsStored}
 use Rattle.block.specs.declared.Place.{Place}
@@ -23,17 +21,6 @@ use Rattle.block.specs.declared.Step.the-variants.{Refused, Read}
 use Rattle.block.proofs.Steps.{fieldAt, further, refuses, reads, inside-after, same-reading, refuses-first, follows, turned-into, both-read}
 
 -- ---- a term
-
--- The first 32 bits at once are the minus bit and the magnitude.
-module _ (bytes : List ℕ) (at : ℕ) (inside : at + 32 ≤ 8 * length bytes) {word : ℕ} (w : word ≡ fieldAt bytes at 32) where
-  both-parts : word ≡ fieldAt bytes at 1 * 2 ^ 31 + fieldAt bytes (at + 1) 31
-  both-parts = w ∙ value-take-add (unpack bytes) at 1 31 (rw length-unpack inside)
-
-  pub minus-in-word : word / 2147483648 ≡ fieldAt bytes at 1
-  minus-in-word = rw both-parts (high (fieldAt bytes at 1) 31 (value-take-lt 31 (drop (at + 1) (unpack bytes))))
-
-  pub magnitude-in-word : word % 2147483648 ≡ fieldAt bytes (at + 1) 31
-  magnitude-in-word = rw both-parts (low (fieldAt bytes at 1) 31 (value-take-lt 31 (drop (at + 1) (unpack bytes))))
 
 module _ (bytes : List ℕ) (place : Place) (n above : ℕ) {rest : ℕ} (l : Left bytes place rest) (long : 32 + 4 * n ≤ rest) where
   by-fields : let magnitude = fieldAt bytes (place .at + 1) 31 in let exponents = fieldAt bytes (place .at + 32) (4 * n) in

@@ -3,7 +3,7 @@
 use mathlib.Core.Path.{_≡_, refl, sym, ap, _∙_}
 use mathlib.Core.Bool.{not}
 use mathlib.Core.List.{List, _∷_, _++_, append-nil}
-use Prim.Native.Nat.{ℕ, zero, suc, _+_, _-_, _*_, _^_, _≤_, _<_}
+use Prim.Native.Nat.{ℕ, zero, suc, _+_, _-_, _*_, _/_, _%_, _^_, _≤_, _<_}
 use native.Mathlib.Numerals.{one-add}
 use native.Mathlib.Omega.{arith}
 use lib.Dec.{eqb, ltb}
@@ -15,6 +15,7 @@ use Rattle.rules.specs.Formula.{Parts, end, Node, leaf, allOf, anyOf, before, a
 use Rattle.rules.specs.Block.{NumberedAtom, Stream, Reading, refused, read, require, afterwards, readAtom, readJoin, byKind, readNodeBy, readParts, joined, readNode}
 use Rattle.bits.proofs.Fields.{value-take-lt}
 use Rattle.bits.proofs.Stores.{sets-append}
+use Rattle.pairs.proofs.Reading.{first-part, last-part}
 use Rattle.block.specs.Held.{tokens}
 use Rattle.block.specs.Steps.{streamAt, Inside, Left, Does, Reads, pastNode, AtomOpened, JoinOpened, Opens, Opened, NodeStored, PartsStored}
 use Rattle.block.specs.declared.Place.{Place}
@@ -83,30 +84,39 @@ module _ (bytes : List ℕ) (place : Place) (nesting m parent : ℕ) where
         unfolding readAtom require
         atom-short h = let l : rest - 2 < 9 = omega arith in refuses-node (an-atom ∙ rw (behind 2, lt-leb 9 (rest - 2) l))
 
-        module _ (all : 11 ≤ rest) {number : ℕ} (n : number ≡ fieldAt bytes (place .at + 2) 6) where
+        module _ (all : 11 ≤ rest) {both : ℕ} (b : both ≡ fieldAt bytes (place .at + 2) 9) where
+          inside-both : place .at + 2 + 9 ≤ 8 * length bytes
+          inside-both = omega (arith, r .up-to-end)
+
+          number-is : both / 8 ≡ fieldAt bytes (place .at + 2) 6
+          number-is = first-part bytes (place .at + 2) 6 3 inside-both b
+
+          set-is : both % 8 ≡ fieldAt bytes (place .at + 8) 3
+          set-is = let e : place .at + 2 + 6 ≡ place .at + 8 = omega arith in rw e at (last-part bytes (place .at + 2) 6 3 inside-both b)
+
           by-number : readNode nesting m parent (streamAt bytes place)
-              ≡ require (ltb number m) 11 (read (leaf (record { number = number; set = fieldAt bytes (place .at + 8) 3 })) (streamAt bytes (pastNode place 11)))
+              ≡ require (ltb (both / 8) m) 11 (read (leaf (record { number = both / 8; set = both % 8 })) (streamAt bytes (pastNode place 11)))
           unfolding readAtom require
           by-number =
               let u = unpack bytes in
               let l : 9 ≤ rest - 2 = omega arith in
               let e : place .at + 2 + 6 ≡ place .at + 8 = omega arith in
               let f : place .at + 8 + 3 ≡ place .at + 11 = omega arith in
-              an-atom ∙ rw (behind 2, le-leb 9 (rest - 2) l, ← n, drop-drop 6 (place .at + 2) u, e, drop-drop 3 (place .at + 8) u, f)
+              an-atom ∙ rw (behind 2, le-leb 9 (rest - 2) l, number-is, set-is, drop-drop 6 (place .at + 2) u, e, drop-drop 3 (place .at + 8) u, f)
 
-          pub number-high : m ≤ number → opens (NoNode 11)
+          pub number-high : m ≤ both / 8 → opens (NoNode 11)
           unfolding require
-          number-high h = refuses-node (by-number ∙ rw (le-ltb number m h))
+          number-high h = refuses-node (by-number ∙ rw (le-ltb (both / 8) m h))
 
-          pub atom-opens : number < m → {set : ℕ} → set ≡ fieldAt bytes (place .at + 8) 3 → length bytes < 2 ^ 16 → opens (Atom number set)
+          pub atom-opens : both / 8 < m → length bytes < 2 ^ 16 → opens (Atom (both / 8) (both % 8))
           unfolding Opens require
-          atom-opens h s short = record {
+          atom-opens h short = record {
             opens = record {
-              reading = by-number ∙ rw (lt-ltb number m h, ← s);
+              reading = by-number ∙ rw (lt-ltb (both / 8) m h);
               inside = record { at-most = omega arith; short = short };
               some-allowed = some-left;
-              number-small = rw n (value-take-lt 6 (drop (place .at + 2) (unpack bytes)));
-              set-small = rw s (value-take-lt 3 (drop (place .at + 8) (unpack bytes)));
+              number-small = rw number-is (value-take-lt 6 (drop (place .at + 2) (unpack bytes)));
+              set-small = rw set-is (value-take-lt 3 (drop (place .at + 8) (unpack bytes)));
             };
           }
 

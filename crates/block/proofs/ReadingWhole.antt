@@ -1,15 +1,15 @@
 -- The whole block: the arrays that the code's steps fill are those of the block that the book reads.
 use mathlib.Core.Path.{_≡_, refl, sym, ap, _∙_}
 use mathlib.Core.List.{List, map}
-use Prim.Native.Nat.{ℕ, _-_}
+use Prim.Native.Nat.{ℕ, _-_, _≤_, _<_}
 use native.Mathlib.Omega.{arith}
 use lib.IntN.{ℤ, pos}
 use lib.ListN.{length, replicate}
 use lib.Seq.{sets}
 use Rattle.rules.specs.Formula.{alone, nodes}
 use Rattle.rules.specs.Block.{Block, editionOf, refused, afterwards, readTable, readBody, readBlock}
-use Rattle.block.specs.Held.{slots, tokens, kindOf, nothing, heldBy, heldOver, heldOf, outcomeOf}
-use Rattle.block.specs.Steps.{streamAt, Does, Reads, TableStored, readTree, RootOf, RootFound, HeadHeld, ContentsOf, ContentsFound}
+use Rattle.block.specs.Held.{slots, tokens, kindOf, nothing, BlockRoom, RoomFor, heldBy, heldOver, heldOf, outcomeOf}
+use Rattle.block.specs.Steps.{streamAt, Does, Reads, TableStored, readTree, RootOf, RootFound, HeadHeld, ContentsOf, ContentsFound, AtMost, HasAtMost, FewOf, FewFound}
 use Rattle.block.specs.declared.Held.{Held}
 use Rattle.block.specs.declared.Place.{Place}
 use Rattle.block.specs.declared.Root.{Root}
@@ -18,6 +18,7 @@ use Rattle.block.specs.declared.Step.{Step}
 use Rattle.block.specs.declared.Step.the-variants.{Refused, Read}
 use Rattle.block.specs.declared.Contents.{Contents}
 use Rattle.block.specs.declared.Contents.the-variants.{Refused as NoBlock, Numbers as BlockNumbers}
+use Rattle.block.specs.declared.Few.the-variants.{More, Read as ReadFew}
 use Rattle.block.proofs.Steps.{after-read}
 use Rattle.block.proofs.ReadingTable.{length-table}
 
@@ -26,6 +27,52 @@ pub contents-refused : {bytes : List ℕ} {number : ℕ} (cs cs′ : List ℤ) (
     → ContentsFound bytes cs cs′ ms ms′ ts ts′ token token′ (NoBlock number)
 unfolding ContentsOf
 contents-refused cs cs′ ms ms′ ts ts′ token token′ e = record { found = e }
+
+-- Where there is room for every block there is room for one that the head gives.
+pub room-for-all : {bytes : List ℕ} {edition n m count : ℕ} {cs : List ℤ} {ms ts token : List ℕ} → HeadHeld bytes edition n m count → BlockRoom cs ms ts token
+    → RoomFor m count cs ms ts token
+room-for-all head room = record {
+  coefficients = omega (arith, head .polynomials, room .coefficients);
+  monomials = omega (arith, head .polynomials, room .monomials);
+  counts = omega (arith, head .polynomials, room .counts);
+  tokens = omega (arith, head .nodes, room .tokens);
+}
+
+-- And for a block of few polynomials.
+pub room-for-few : {bytes : List ℕ} {edition n m count : ℕ} {cs : List ℤ} {ms ts token : List ℕ} → HeadHeld bytes edition n m count → m ≤ 16
+    → RoomFor 16 255 cs ms ts token → RoomFor m count cs ms ts token
+room-for-few head few room = record {
+  coefficients = omega (arith, room .coefficients);
+  monomials = omega (arith, room .monomials);
+  counts = omega (arith, room .counts);
+  tokens = omega (arith, head .nodes, room .tokens);
+}
+
+-- How many polynomials are held.
+pub none-held : (most number : ℕ) → HasAtMost most (NoBlock number)
+unfolding AtMost
+none-held most number = record { has = tt }
+
+pub held-are : (variables m root tokens : ℕ) → HasAtMost m (BlockNumbers variables m root tokens)
+unfolding AtMost
+held-are variables m root tokens = record { has = omega arith }
+
+pub held-fewer : {m most : ℕ} {contents : Contents} → m ≤ most → HasAtMost m contents → HasAtMost most contents
+unfolding AtMost
+held-fewer {contents = NoBlock number} fewer h = record { has = tt }
+held-fewer {contents = BlockNumbers variables polynomials root tokens} fewer h = record { has = omega (arith, h .has) }
+
+-- What is found of a block of few polynomials.
+module _ {bytes : List ℕ} {cs cs′ : List ℤ} {ms ms′ ts ts′ token token′ : List ℕ} where
+  pub few-more : {edition n m count : ℕ} → HeadHeld bytes edition n m count → 16 < m → FewFound bytes cs cs′ ms ms′ ts ts′ token token′ More
+  unfolding FewOf
+  few-more {edition} {n} {m} {count} head many =
+      record { found = record { edition = edition; variables = n; polynomials = m; nodes = count; head = head; many = many } }
+
+  pub few-read : {contents : Contents} → ContentsFound bytes cs cs′ ms ms′ ts ts′ token token′ contents → HasAtMost 16 contents
+      → FewFound bytes cs cs′ ms ms′ ts ts′ token token′ (ReadFew contents)
+  unfolding FewOf
+  few-read found few = record { found = (found, few) }
 
 -- Arrays that a block is stored over, each by itself.
 held-same : (block : Block) (cs : List ℤ) (ms ts token : List ℕ) {n m kind count : ℕ} {cs′ : List ℤ} {ms′ ts′ token′ : List ℕ} → n ≡ block .variables → m ≡ length (block .table)

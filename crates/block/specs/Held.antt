@@ -65,6 +65,13 @@ pub record BlockRoom (coefficient : List ℤ) (monomial terms token : List ℕ) 
   pub counts : 64 ≤ length terms
   pub tokens : 255 ≤ length token
 
+-- They have room for a block of so many polynomials and nodes.
+pub record RoomFor (polynomials nodes : ℕ) (coefficient : List ℤ) (monomial terms token : List ℕ) : Type 0 where
+  pub coefficients : 16 * polynomials ≤ length coefficient
+  pub monomials : 16 * polynomials ≤ length monomial
+  pub counts : polynomials ≤ length terms
+  pub tokens : nodes ≤ length token
+
 -- A block stored over what the arrays held before.
 abbrev pub heldOver : List ℤ → List ℕ → List ℕ → List ℕ → Block → Held
 heldOver coefficient monomial terms token block =

@@ -4,10 +4,10 @@ use mathlib.Core.Bool.{Bool, true, false}
 use mathlib.Core.List.{List, map}
 use Prim.Native.Nat.{ℕ, _+_, _-_, _*_, _^_, _≤_, _<_}
 use lib.IntN.{ℤ}
-use lib.ListN.{length, drop, set}
+use lib.ListN.{length, take, drop, set}
 use lib.Seq.{sets}
 use Rattle.rules.specs.Polynomial.{Term, Polynomial}
-use Rattle.rules.specs.Bits.{unpack}
+use Rattle.rules.specs.Bits.{value, unpack}
 use Rattle.rules.specs.Formula.{Parts, Node, leaf, alone, nodes}
 use Rattle.rules.specs.Block.{NumberedAtom, Block, edition2, editionOf, Stream, Reading, refused, read, afterwards, readExponents}
 use Rattle.rules.specs.Block.{readParts, readNode, joined, readEnd, readBody, readBlock}
@@ -16,6 +16,7 @@ use Rattle.block.specs.declared.Held.{Held}
 use Rattle.block.specs.declared.Place.{Place}
 use Rattle.block.specs.declared.Step.{Step}
 use Rattle.block.specs.declared.Step.the-variants.{Refused, Read}
+use Rattle.block.specs.declared.Fields.{Fields}
 use Rattle.block.specs.declared.Exponents.{Exponents}
 use Rattle.block.specs.declared.Exponents.the-variants.{Refused as NoExponents, Number}
 use Rattle.block.specs.declared.Head.{Head}
@@ -26,6 +27,8 @@ use Rattle.block.specs.declared.Root.{Root}
 use Rattle.block.specs.declared.Root.the-variants.{Refused as NoTree, Kind}
 use Rattle.block.specs.declared.Contents.{Contents}
 use Rattle.block.specs.declared.Contents.the-variants.{Refused as NoBlock, Numbers as BlockNumbers}
+use Rattle.block.specs.declared.Few.{Few}
+use Rattle.block.specs.declared.Few.the-variants.{More, Read as ReadFew}
 
 -- The stream at a place of the input.
 abbrev pub streamAt : List ℕ → Place → Stream
@@ -55,6 +58,11 @@ pub record Reads {A : Type 0} (bytes : List ℕ) (reading : Reading A) (Stored :
 unfoldable pub ceiling : Bool → ℕ → ℕ → ℕ
 ceiling true n above = 2 ^ (4 * n)
 ceiling false n above = above
+
+-- The fields of a term of n variables in edition 1.
+pub record FieldsAt (bytes : List ℕ) (at n : ℕ) (fields : Fields) : Type 0 where
+  pub word : fields .word ≡ value (take 32 (drop at (unpack bytes)))
+  pub exponents : fields .exponents ≡ value (take (4 * n) (drop (at + 32) (unpack bytes)))
 
 -- The exponents of edition 2 are what the book reads: one number of n variables, and the place behind its pairs.
 pub record PairsRead (bytes : List ℕ) (place : Place) (n exponents behind : ℕ) : Type 0 where
@@ -196,3 +204,28 @@ ContentsOf bytes coefficient coefficient′ monomial monomial′ terms terms′ 
 pub record ContentsFound (bytes : List ℕ) (coefficient coefficient′ : List ℤ) (monomial monomial′ terms terms′ token token′ : List ℕ) (contents : Contents)
     : Type 0 where
   pub found : ContentsOf bytes coefficient coefficient′ monomial monomial′ terms terms′ token token′ contents
+
+-- What is held has at most so many polynomials.
+unfoldable pub AtMost : ℕ → Contents → Type 0
+AtMost most (NoBlock number) = Unit {0}
+AtMost most (BlockNumbers variables polynomials root tokens) = polynomials ≤ most
+
+pub record HasAtMost (most : ℕ) (contents : Contents) : Type 0 where
+  pub has : AtMost most contents
+
+-- Reading a block of few polynomials finds the same, or that the head gives more than sixteen.
+pub record MorePolynomials (bytes : List ℕ) : Type 0 where
+  pub edition : ℕ
+  pub variables : ℕ
+  pub polynomials : ℕ
+  pub nodes : ℕ
+  pub head : HeadHeld bytes edition variables polynomials nodes
+  pub many : 16 < polynomials
+
+unfoldable pub FewOf : List ℕ → List ℤ → List ℤ → List ℕ → List ℕ → List ℕ → List ℕ → List ℕ → List ℕ → Few → Type 0
+FewOf bytes coefficient coefficient′ monomial monomial′ terms terms′ token token′ More = MorePolynomials bytes
+FewOf bytes coefficient coefficient′ monomial monomial′ terms terms′ token token′ (ReadFew contents) =
+    ContentsFound bytes coefficient coefficient′ monomial monomial′ terms terms′ token token′ contents × HasAtMost 16 contents
+
+pub record FewFound (bytes : List ℕ) (coefficient coefficient′ : List ℤ) (monomial monomial′ terms terms′ token token′ : List ℕ) (few : Few) : Type 0 where
+  pub found : FewOf bytes coefficient coefficient′ monomial monomial′ terms terms′ token token′ few

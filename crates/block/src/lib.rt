@@ -7,13 +7,12 @@ ghost use lib.Dec.{ltb};
 ghost use lib.ListN.{length};
 ghost use Rattle.rules.specs.Block.{Block, edition1, edition2, editionNumber, editionOf, headEdition, signed, readTerm, readTerms};
 ghost use Rattle.rules.specs.Block.{readPolynomial, readTable, readNode, readParts, readEnd, readBlock};
-ghost use Rattle.block.specs.Held.{nothing, BlockRoom, outcomeOf};
-ghost use Rattle.block.specs.Steps.{streamAt, Inside, Left, Reads, ceiling, TermStored, TermsStored, PolynomialStored, TableStored};
-ghost use Rattle.block.specs.Steps.{ExponentsFound, Opened, NodeStored, PartsStored, Ends, RootFound, HeadHeld, HeadFound, ContentsFound};
+ghost use Rattle.block.specs.Held.{nothing, BlockRoom, RoomFor, outcomeOf};
+ghost use Rattle.block.specs.Steps.{streamAt, Inside, Left, Reads, ceiling, FieldsAt, TermStored, TermsStored, PolynomialStored, TableStored};
+ghost use Rattle.block.specs.Steps.{ExponentsFound, Opened, NodeStored, PartsStored, Ends, RootFound, HeadHeld, HeadFound, ContentsFound, HasAtMost, FewFound};
 use bits::get;
-use pairs::above_zero;
-use pairs::monomial_of;
-use pairs::rise;
+use pairs::Told;
+use pairs::tell;
 
 // What a block holds, in arrays that are 0 wherever nothing is stored.
 pub struct Held {
@@ -89,6 +88,29 @@ fn falls(exponents: u64, first: bool, above: u64) -> bool
     if first { true } else { exponents < above }
 }
 
+// A term of edition 1: its minus bit and magnitude as one number, and its exponents.
+struct Fields {
+    word: u64,
+    exponents: u64,
+}
+
+// The fields of a term of n variables: read at once where eight bytes hold them wherever they begin.
+fn term_fields(src: &[u8], at: usize, n: usize) -> Fields
+    requires { ⌜ (at + (32 + 4 * n) ≤ 8 * length (now src)) × (length (now src) < 2 ^ 16) × (n ≤ 16) ⌝ }
+    ensures { λ r. ⌜ FieldsAt (now (src .entry)) at n r ⌝ }
+{
+    if 6 < n {
+        let word = get(src, at, 32);
+        let exponents = get(src, at + 32, 4 * n);
+        return Fields { word, exponents };
+    }
+    let whole = get(src, at, 32 + 4 * n);
+    Fields {
+        word: whole >> (4 * n),
+        exponents: whole % (1 << (4 * n)),
+    }
+}
+
 // A term of n variables in edition 1, stored at the place k: "n exponents of 4 bits".
 fn read_term(
     src: &[u8],
@@ -108,17 +130,16 @@ fn read_term(
     if left(src, place) < 32 + 4 * n {
         return Step::Refused(6);
     }
-    let word = get(src, at, 32);
-    let magnitude = word % 2147483648;
+    let fields = term_fields(src, at, n);
+    let magnitude = fields.word % 2147483648;
     if magnitude == 0 {
         return Step::Refused(8);
     }
-    let exponents = get(src, at + 32, 4 * n);
-    if !falls(exponents, first, above) {
+    if !falls(fields.exponents, first, above) {
         return Step::Refused(9);
     }
-    coefficient[k] = coefficient_of(word / 2147483648, magnitude);
-    monomial[k] = exponents;
+    coefficient[k] = coefficient_of(fields.word / 2147483648, magnitude);
+    monomial[k] = fields.exponents;
     Step::Read(Place {
         at: at + (32 + 4 * n),
         allowed: place.allowed,
@@ -144,16 +165,14 @@ fn read_pairs(src: &[u8], place: Place, n: usize) -> Exponents
     if left(src, place) < 5 + 8 * count {
         return Exponents::Refused(6);
     }
-    if !rise(src, at + 5, n, count, 0) {
-        return Exponents::Refused(22);
-    }
-    if !above_zero(src, at + 5, count) {
-        return Exponents::Refused(23);
-    }
-    let exponents = monomial_of(src, at + 5, n, count);
-    Exponents::Number {
-        exponents,
-        behind: at + (5 + 8 * count),
+    let told = tell(src, at + 5, n, count);
+    match told {
+        Told::NotRising => Exponents::Refused(22),
+        Told::SomeZero => Exponents::Refused(23),
+        Told::Exponents(exponents) => Exponents::Number {
+            exponents,
+            behind: at + (5 + 8 * count),
+        },
     }
 }
 
@@ -378,12 +397,15 @@ fn open_node(src: &[u8], place: Place, nesting: usize, parent: u64, m: u64) -> O
         if rest < 11 {
             return Opening::Refused(6);
         }
-        let number = get(src, at + 2, 6);
+        let both = get(src, at + 2, 9);
+        let number = both / 8;
         if m <= number {
             return Opening::Refused(11);
         }
-        let set = get(src, at + 8, 3);
-        return Opening::Atom { number, set };
+        return Opening::Atom {
+            number,
+            set: both % 8,
+        };
     }
     if rest < 10 {
         return Opening::Refused(6);
@@ -609,9 +631,9 @@ fn read_body(
     polynomials: usize,
     nodes: usize,
 ) -> Contents
-    requires { ⌜ HeadHeld (now src) edition variables polynomials nodes × BlockRoom (now coefficient) (now monomial) (now terms) (now token) ⌝ }
+    requires { ⌜ HeadHeld (now src) edition variables polynomials nodes × RoomFor polynomials nodes (now coefficient) (now monomial) (now terms) (now token) ⌝ }
     ensures { λ r. ⌜ ContentsFound (now (src .entry)) (now (coefficient .entry)) (now (coefficient .exit)) (now (monomial .entry)) (now (monomial .exit))
-        (now (terms .entry)) (now (terms .exit)) (now (token .entry)) (now (token .exit)) r ⌝ }
+        (now (terms .entry)) (now (terms .exit)) (now (token .entry)) (now (token .exit)) r × HasAtMost polynomials r ⌝ }
 {
     let start = Place {
         at: 40,
@@ -675,6 +697,51 @@ pub fn read_into(
             polynomials,
             nodes,
         ),
+    }
+}
+
+// What reading a block of few polynomials gives: that it has more, or what reading into lent arrays gives.
+pub enum Few {
+    More,
+    Read(Contents),
+}
+
+// The same as `read_into` for a block of at most sixteen polynomials, in arrays with room for these; of one with more no more than the head is read.
+pub fn read_few_into(
+    src: &[u8],
+    coefficient: &mut [i32],
+    monomial: &mut [u64],
+    terms: &mut [u8],
+    token: &mut [u32],
+) -> Few
+    requires { ⌜ RoomFor 16 255 (now coefficient) (now monomial) (now terms) (now token) ⌝ }
+    ensures { λ r. ⌜ FewFound (now (src .entry)) (now (coefficient .entry)) (now (coefficient .exit)) (now (monomial .entry)) (now (monomial .exit))
+        (now (terms .entry)) (now (terms .exit)) (now (token .entry)) (now (token .exit)) r ⌝ }
+{
+    let numbers = read_head(src);
+    match numbers {
+        Head::Refused(number) => Few::Read(Contents::Refused(number)),
+        Head::Numbers {
+            edition,
+            variables,
+            polynomials,
+            nodes,
+        } => {
+            if 16 < polynomials {
+                return Few::More;
+            }
+            Few::Read(read_body(
+                src,
+                coefficient,
+                monomial,
+                terms,
+                token,
+                edition,
+                variables,
+                polynomials,
+                nodes,
+            ))
+        }
     }
 }
 

@@ -4,12 +4,13 @@ use mathlib.Core.Bool.{Bool, true, false}
 use mathlib.Core.List.{List, [], _∷_, map}
 use mathlib.Core.Option.{none, some}
 use Prim.Native.Nat.{ℕ, zero, suc, _+_, _*_, _<_, _≤_}
+use native.Mathlib.Decide.{decLt}
 use native.Mathlib.Omega.{arith}
 use borrow.Author.Tests.{eq-eqb, ne-eqb}
 use lib.Dec.{eqb}
 use lib.IntN.{ℤ, pos}
 use lib.ListN.{length, getD, set, replicate, length-replicate}
-use lib.Seq.{sets}
+use lib.Seq.{sets, length-sets, getD-set-other}
 use Rattle.rules.specs.Polynomial.{Term, Polynomial, Atom}
 use Rattle.rules.specs.Formula.{Parts, end, atom, and, or, Node, leaf, allOf, anyOf, eachAtom, eachAtomOf, alone, open-formula}
 use Rattle.rules.specs.Block.{NumberedAtom, Block, Stream, Reading, refused, read, readBlock}
@@ -23,12 +24,13 @@ use Rattle.terms.specs.View.{termsFrom}
 use Rattle.block.specs.declared.Held.{Held}
 use Rattle.block.specs.declared.Contents.{Contents}
 use Rattle.block.specs.declared.Contents.the-variants.{Refused as NoBlock, Numbers}
-use Rattle.block.specs.Held.{slots, heldBy, heldOver}
-use Rattle.block.specs.Steps.{ContentsOf, ContentsFound}
+use Rattle.block.specs.Held.{heldBy, heldOver}
+use Rattle.block.specs.declared.Few.{Few}
+use Rattle.block.specs.declared.Few.the-variants.{Read as ReadFew}
+use Rattle.block.specs.Steps.{ContentsOf, ContentsFound, AtMost, HasAtMost, FewOf, FewFound}
 use Rattle.writer.specs.Written.{PartsHeld}
-use Rattle.forms.specs.Holding.{Holds}
-use Rattle.array_laws.specs.Arrays.{AtMostSixteen, table-fits, arrays-hold}
-use Rattle.array_laws.specs.Writing.{stored-holds}
+use Rattle.array_laws.specs.Arrays.{AtMostSixteen, table-fits, length-slots, slot-stored}
+use Rattle.array_laws.specs.Writing.{tree-stored}
 use Rattle.evaluate.specs.declared.Evaluation.{Evaluation}
 use Rattle.evaluate.specs.declared.Evaluation.the-variants.{Refused, Deny, Permit}
 use Rattle.evaluate.specs.declared.Seen.{Seen}
@@ -84,6 +86,18 @@ blank zero j = omega arith
 blank (suc n) zero = omega arith
 blank (suc n) (suc j) = blank n j
 
+none-there : (n j : ℕ) → getD {A = ℕ} (replicate n 0) j 0 ≡ 0
+none-there zero j = refl
+none-there (suc n) zero = refl
+none-there (suc n) (suc j) = none-there n j
+
+-- Behind the counts of a table's polynomials there is none where there was none.
+none-behind : (table : List Polynomial) (ts : List ℕ) (k : ℕ) → ((j : ℕ) → k + length table ≤ j → getD ts j 0 ≡ 0) → (j : ℕ) → k + length table ≤ j
+    → getD (sets ts k (map length table)) j 0 ≡ 0
+none-behind [] ts k each j h = each j h
+none-behind (p ∷ ps) ts k each j h =
+    none-behind ps (set ts k (length p)) (suc k) (λ i more. getD-set-other ts k i (length p) 0 (λ e. omega arith) ∙ each i (omega arith)) j (omega arith)
+
 -- The parts of a tree within the limits name polynomials of the table.
 same-parts : (cs : List ℤ) (ms ts : List ℕ) (table : List Polynomial) → ((i : ℕ) → i < length table → termsFrom cs ms (16 * i) (getD ts i 0) ≡ getD table i [])
     → (d parent : ℕ) (parts : Parts NumberedAtom) → PartsWithin d (length table) parent parts → eachAtom (stored cs ms ts) parts ≡ eachAtom (lookedUp table) parts
@@ -105,23 +119,80 @@ same-tree cs ms ts table each (anyOf kids) h = ap (λ (k : Parts Atom). anyOf k)
 
 -- ---- What the reader finds.
 
--- A block that was read, held in arrays that were blank.
+-- A block that was read, held in arrays that were blank and have room for its table.
 pub record Taken (bytes : List ℕ) (held : Held) : Type 0 where
   pub given : Block
   pub stream : Stream
   pub accepted : readBlock bytes ≡ read given stream
-  pub is : held ≡ heldOver (replicate 1024 (pos 0)) (replicate 1024 0) (replicate 64 0) (replicate 255 0) given
+  pub places : ℕ
+  pub room : 16 * length (given .table) ≤ places
+  pub is : held ≡ heldOver (replicate places (pos 0)) (replicate places 0) (replicate 64 0) (replicate 255 0) given
 
-module _ {bytes : List ℕ} {cs : List ℤ} {ms ts token : List ℕ} {contents : Contents}
-    (found : ContentsFound bytes (replicate 1024 (pos 0)) cs (replicate 1024 0) ms (replicate 64 0) ts (replicate 255 0) token contents) where
-  pub found-refused : {number : ℕ} → contents ≡ NoBlock number → readBlock bytes ≡ refused number
-  unfolding ContentsOf
-  found-refused e = (rw e at found) .found
+unfoldable pub StandsAs : List ℕ → List ℤ → List ℕ → List ℕ → List ℕ → Contents → Type 0
+StandsAs bytes cs ms ts token (NoBlock number) = readBlock bytes ≡ refused number
+StandsAs bytes cs ms ts token (Numbers variables polynomials root count) = Taken bytes (heldBy variables polynomials root count cs ms ts token)
 
-  pub found-taken : {variables polynomials root count : ℕ} → contents ≡ Numbers variables polynomials root count
+-- What the reader says of the bytes and has stored in the arrays.
+pub record Stands (bytes : List ℕ) (cs : List ℤ) (ms ts token : List ℕ) (contents : Contents) : Type 0 where
+  pub holds-as : StandsAs bytes cs ms ts token contents
+
+pub record SomeStand (cs : List ℤ) (ms ts token : List ℕ) (contents : Contents) : Type 0 where
+  pub bytes : List ℕ
+  pub stands : Stands bytes cs ms ts token contents
+
+module _ {bytes : List ℕ} {cs : List ℤ} {ms ts token : List ℕ} {contents : Contents} (s : Stands bytes cs ms ts token contents) where
+  pub stand-refused : {number : ℕ} → contents ≡ NoBlock number → readBlock bytes ≡ refused number
+  unfolding StandsAs
+  stand-refused e = (rw e at s) .holds-as
+
+  pub stand-taken : {variables polynomials root count : ℕ} → contents ≡ Numbers variables polynomials root count
       → Taken bytes (heldBy variables polynomials root count cs ms ts token)
-  unfolding ContentsOf
-  found-taken e = let stored = (rw e at found) .found in record { given = stored .block; stream = stored .rest; accepted = stored .reading; is = stored .stored }
+  unfolding StandsAs
+  stand-taken e = (rw e at s) .holds-as
+
+-- Where the arrays have room for every block,
+pub any-stands : {bytes : List ℕ} {cs : List ℤ} {ms ts token : List ℕ} {contents : Contents}
+    → ContentsFound bytes (replicate 1024 (pos 0)) cs (replicate 1024 0) ms (replicate 64 0) ts (replicate 255 0) token contents
+    → Stands bytes cs ms ts token contents
+unfolding ContentsOf StandsAs
+any-stands {contents = NoBlock number} found = record { holds-as = found .found }
+any-stands {bytes} {contents = Numbers variables polynomials root count} found =
+    let stored = found .found in
+    record {
+      holds-as = record {
+        given = stored .block;
+        stream = stored .rest;
+        accepted = stored .reading;
+        places = 1024;
+        room = omega (arith, accepted-within bytes (stored .reading) .polynomials);
+        is = stored .stored;
+      };
+    }
+
+-- and where they have room for sixteen polynomials and there are no more.
+pub few-stands : {bytes : List ℕ} {cs : List ℤ} {ms ts token : List ℕ} {contents : Contents}
+    → ContentsFound bytes (replicate 256 (pos 0)) cs (replicate 256 0) ms (replicate 64 0) ts (replicate 255 0) token contents → HasAtMost 16 contents
+    → Stands bytes cs ms ts token contents
+unfolding ContentsOf StandsAs AtMost
+few-stands {contents = NoBlock number} found few = record { holds-as = found .found }
+few-stands {contents = Numbers variables polynomials root count} found few =
+    let stored = found .found in
+    record {
+      holds-as = record {
+        given = stored .block;
+        stream = stored .rest;
+        accepted = stored .reading;
+        places = 256;
+        room = omega (arith, ap (λ (h : Held). h .polynomials) (stored .stored), few .has);
+        is = stored .stored;
+      };
+    }
+
+pub few-read : {bytes : List ℕ} {cs : List ℤ} {ms ts token : List ℕ} {few : Few} {contents : Contents}
+    → FewFound bytes (replicate 256 (pos 0)) cs (replicate 256 0) ms (replicate 64 0) ts (replicate 255 0) token few → few ≡ ReadFew contents
+    → Stands bytes cs ms ts token contents
+unfolding FewOf
+few-read found e = let read = (rw e at found) .found in few-stands (read .0) (read .1)
 
 -- ---- The three cases.
 
@@ -151,29 +222,51 @@ module _ (bytes : List ℕ) (readings : List ℤ) {variables polynomials root co
   few-readings e = omega (arith, within .variables, its-variables)
 
   -- The arrays hold the table and the tree.
-  holding : Holds (slots (λ t. t .coefficient) 0 (taken .given .table) (replicate 1024 (pos 0))) (slots (λ t. t .monomial) 0 (taken .given .table) (replicate 1024 0))
-      (sets (replicate 64 0) 0 (map length (taken .given .table))) (taken .given .table)
-  holding = arrays-hold (taken .given .table) (table-fits (within .table)) (within .polynomials) (replicate 1024 (pos 0)) (replicate 1024 0) (replicate 64 0)
-      (length-replicate 1024 (pos 0)) (length-replicate {A = ℕ} 1024 0) (length-replicate {A = ℕ} 64 0)
+  long-coefficients : length cs ≡ taken .places
+  long-coefficients =
+      ap (λ (l : Held). length (l .coefficient)) (taken .is)
+      ∙ length-slots (λ (t : Term). t .coefficient) (pos 0) (taken .given .table) 0 (replicate (taken .places) (pos 0)) ∙ length-replicate (taken .places) (pos 0)
+
+  long-monomials : length ms ≡ taken .places
+  long-monomials =
+      ap (λ (l : Held). length (l .monomial)) (taken .is)
+      ∙ length-slots (λ (t : Term). t .monomial) 0 (taken .given .table) 0 (replicate (taken .places) 0) ∙ length-replicate {A = ℕ} (taken .places) 0
+
+  counts-are : ts ≡ sets (replicate 64 0) 0 (map length (taken .given .table))
+  counts-are = ap (λ (l : Held). l .terms) (taken .is)
 
   each-stored : (i : ℕ) → i < length (taken .given .table) → termsFrom cs ms (16 * i) (getD ts i 0) ≡ getD (taken .given .table) i []
   each-stored i h = subst (λ (l : Held). termsFrom (l .coefficient) (l .monomial) (16 * i) (getD (l .terms) i 0) ≡ getD (taken .given .table) i []) (sym (taken .is))
-      (holding .each i h)
+      (slot-stored (taken .given .table) (table-fits (within .table)) (replicate (taken .places) (pos 0)) (replicate (taken .places) 0) (replicate 64 0)
+      (rw (length-replicate (taken .places) (pos 0)) (taken .room)) (rw (length-replicate {A = ℕ} (taken .places) 0) (taken .room)) (within .polynomials) i h)
 
   tree-held : HeldAt token root 0 (taken .given .tree)
   tree-held = record {
     held = subst (λ (l : Held). PartsHeld (l .token) (l .root) 0 (alone (taken .given .tree))) (sym (taken .is))
-        (stored-holds (taken .given) within (replicate 1024 (pos 0)) (replicate 1024 0) (replicate 64 0) (replicate 255 0)
-        (length-replicate 1024 (pos 0)) (length-replicate {A = ℕ} 1024 0) (length-replicate {A = ℕ} 64 0) (length-replicate {A = ℕ} 255 0) .tree);
+        (tree-stored (taken .given) within (replicate 255 0) (length-replicate {A = ℕ} 255 0));
   }
+
+  few-terms : (number : ℕ) → getD ts number 0 ≤ 16
+  few-terms number = subst (λ (l : List ℕ). getD l number 0 ≤ 16) (sym counts-are)
+      (counts-few (taken .given .table) (table-fits (within .table)) (replicate 64 0) 0 (blank 64) number)
+
+  -- A slot that has terms is one of the table's.
+  slot-used : (number : ℕ) → 0 < getD ts number 0 → number < length (taken .given .table)
+  slot-used number used = by (decLt number (length (taken .given .table)))
+    where
+      by : Dec (number < length (taken .given .table)) → number < length (taken .given .table)
+      by (yes h) = h
+      by (no beyond) =
+          let none : getD ts number 0 ≡ 0 = subst (λ (l : List ℕ). getD l number 0 ≡ 0) (sym counts-are)
+          (none-behind (taken .given .table) (replicate 64 0) 0 (λ j h. none-there 64 j) number (omega arith)) in
+          absurd (omega (arith, none, used))
 
   pub table-room : TableRoom cs ms ts
   table-room = record {
-    coefficients = omega (arith, ap (λ (l : Held). length (l .coefficient)) (taken .is), holding .coefficients);
-    monomials = omega (arith, ap (λ (l : Held). length (l .monomial)) (taken .is), holding .monomials);
-    counts = omega (arith, ap (λ (l : Held). length (l .terms)) (taken .is), holding .counts);
-    few = λ number. subst (λ (l : Held). getD (l .terms) number 0 ≤ 16) (sym (taken .is))
-        (counts-few (taken .given .table) (table-fits (within .table)) (replicate 64 0) 0 (blank 64) number);
+    coefficients = λ number used. omega (arith, slot-used number used, few-terms number, long-coefficients, taken .room);
+    monomials = λ number used. omega (arith, slot-used number used, few-terms number, long-monomials, taken .room);
+    counts = omega (arith, ap length counts-are, length-sets (replicate 64 0) 0 (map length (taken .given .table)), length-replicate {A = ℕ} 64 0);
+    few = few-terms;
   }
 
   pub some-node : SomeNode token root 0

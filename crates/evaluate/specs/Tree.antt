@@ -2,7 +2,7 @@
 use mathlib.Core.Path.{_≡_}
 use mathlib.Core.Bool.{Bool, true, false, _&&_, _||_}
 use mathlib.Core.List.{List}
-use Prim.Native.Nat.{ℕ, _+_, _*_, _≤_}
+use Prim.Native.Nat.{ℕ, zero, suc, _+_, _*_, _<_, _≤_}
 use lib.IntN.{ℤ}
 use lib.ListN.{length, getD}
 use Rattle.rules.specs.Signs.{Sign}
@@ -25,12 +25,17 @@ storedAt cs ms ts number set = record { polynomial = termsFrom cs ms (16 * numbe
 abbrev pub stored : List ℤ → List ℕ → List ℕ → NumberedAtom → Atom
 stored cs ms ts a = storedAt cs ms ts (a .number) (a .set)
 
--- Each of the 64 slots lies in the arrays, with at most sixteen terms.
+-- Each of the 64 slots that has terms lies in the arrays, with at most sixteen of them.
 pub record TableRoom (cs : List ℤ) (ms ts : List ℕ) : Type 0 where
-  pub coefficients : 1024 ≤ length cs
-  pub monomials : 1024 ≤ length ms
+  pub coefficients : (number : ℕ) → 0 < getD ts number 0 → 16 * number + getD ts number 0 ≤ length cs
+  pub monomials : (number : ℕ) → 0 < getD ts number 0 → 16 * number + getD ts number 0 ≤ length ms
   pub counts : 64 ≤ length ts
   pub few : (number : ℕ) → getD ts number 0 ≤ 16
+
+-- Where so many places from one on end; none end at the first of all.
+unfoldable pub behindOf : ℕ → ℕ → ℕ
+behindOf from zero = 0
+behindOf from (suc count) = from + suc count
 
 -- ---- What is said.
 

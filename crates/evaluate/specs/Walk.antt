@@ -24,7 +24,7 @@ use Rattle.arithmetic.specs.Checked.{keptIf, isSome, valueFrom, all-fit, value-
 use Rattle.arithmetic.specs.Numbers.{valueOf, meaning, both}
 use Rattle.evaluate.specs.declared.Truth.{Truth}
 use Rattle.evaluate.specs.declared.Seen.{Seen}
-use Rattle.evaluate.specs.Tree.{stored, storedAt, Says, AtomIs, HeldAt, SomeNode, NodeIs, joined, truthOf, Runs}
+use Rattle.evaluate.specs.Tree.{behindOf, stored, storedAt, Says, AtomIs, HeldAt, SomeNode, NodeIs, joined, truthOf, Runs}
 
 -- ---- An atom.
 
@@ -55,12 +55,21 @@ atom-says readings p set v e sign =
           ∙ ap (λ (z : ℤ). has (signOf z) set) (value-is readings p (valueOf (v .negative) (v .magnitude)) (sym e ∙ number));
     }
 
--- The places of a slot are its polynomial.
-pub in-slot : (cs : List ℤ) (ms : List ℕ) (i count : ℕ) → termsOf cs ms i (i + count) ≡ termsFrom cs ms i count
-in-slot cs ms i count = ap (termsFrom cs ms i) (less i count)
-  where
-    less : (i count : ℕ) → i + count - i ≡ count
-    less i count = omega arith
+-- The places of a slot are its polynomial, and lie in the arrays.
+pub in-slot : (cs : List ℤ) (ms : List ℕ) (i count : ℕ) {to : ℕ} → to ≡ behindOf i count → termsOf cs ms i to ≡ termsFrom cs ms i count
+unfolding behindOf
+in-slot cs ms i zero e = let none : 0 - i ≡ 0 = omega arith in rw (e, none)
+in-slot cs ms i (suc count) e = let less : i + suc count - i ≡ suc count = omega arith in rw (e, less)
+
+pub slot-inside : (i count most : ℕ) → (0 < count → i + count ≤ most) → behindOf i count ≤ most
+unfolding behindOf
+slot-inside i zero most h = omega arith
+slot-inside i (suc count) most h = h (omega arith)
+
+pub behind-is : (i count : ℕ) → (count ≡ 0 → ⊥) → i + count ≡ behindOf i count
+unfolding behindOf
+behind-is i zero h = absurd (h refl)
+behind-is i (suc count) h = refl
 
 -- ---- A node before others.
 

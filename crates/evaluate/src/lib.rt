@@ -1,17 +1,20 @@
 // Request #102, "Condition evaluator for the cab unit": a block and readings of 32 signed bits, permit or deny. Nothing is written.
 // "A node is evaluated by evaluating its children. All children are evaluated, also after the result is known."
+ghost use mathlib.Core.List.{List};
 ghost use mathlib.Core.Path.{_≡_};
-ghost use Prim.Native.Nat.{_<_, _≤_, _/_, _%_};
+ghost use Prim.Native.Nat.{ℕ, _<_, _≤_, _/_, _%_};
 ghost use lib.ListN.{length};
 ghost use Rattle.rules.specs.Formula.{Node};
 ghost use Rattle.rules.specs.Block.{NumberedAtom};
 ghost use Rattle.rules.specs.Evaluate.{evaluate as evaluateBook, evaluationNumber};
-ghost use Rattle.evaluate.specs.Entry.{evaluationOf, verdictOf, numberIn};
-ghost use Rattle.evaluate.specs.Tree.{joined as joinedOf, storedAt, TableRoom, AtomIs, SomeNode, HeldAt, NodeIs};
+ghost use Rattle.evaluate.specs.Entry.{evaluationOf, verdictOf, numberIn, Stands, SomeStand};
+ghost use Rattle.evaluate.specs.Tree.{joined as joinedOf, behindOf, storedAt, TableRoom, AtomIs, SomeNode, HeldAt, NodeIs};
 use arithmetic::both;
 use arithmetic::sign_in;
 use arithmetic::value;
 use block::Contents;
+use block::Few;
+use block::read_few_into;
 use block::read_into;
 
 // A token below this is an atom's: its polynomial's number times eight and its set. Any other is that of an AND or an OR.
@@ -30,6 +33,14 @@ pub struct Seen {
     pub holds: bool,
 }
 
+// Where the polynomial of a slot ends: one without terms stands nowhere.
+fn behind(from: usize, count: usize) -> usize
+    requires { ⌜ (from ≤ 1024) × (count ≤ 16) ⌝ }
+    ensures { λ r. ⌜ r ≡ behindOf from count ⌝ }
+{
+    if count == 0 { 0 } else { from + count }
+}
+
 // The atom of a token: its polynomial is evaluated, whatever its set.
 fn atom(coefficient: &[i32], monomial: &[u64], terms: &[u8], readings: &[i32], token: u32) -> Truth
     requires { ⌜ TableRoom (now coefficient) (now monomial) (now terms) × (length (now readings) ≤ 16) × (token < 512) ⌝ }
@@ -38,7 +49,8 @@ fn atom(coefficient: &[i32], monomial: &[u64], terms: &[u8], readings: &[i32], t
     let number = (token / 8) as usize;
     let from = 16 * number;
     let count = terms[number] as usize;
-    let total = value(coefficient, monomial, readings, from, from + count);
+    let to = behind(from, count);
+    let total = value(coefficient, monomial, readings, from, to);
     Truth {
         fits: total.fits,
         holds: sign_in(total, token % 8),
@@ -123,8 +135,38 @@ fn verdict(fits: bool, holds: bool) -> Evaluation
     Evaluation::Refused(17)
 }
 
-// Reads a block and runs it on the readings. Every input is answered or refused.
-pub fn evaluate(input: &[u8], readings: &[i32]) -> Evaluation
+// What was read, run on the readings.
+fn run(
+    coefficient: &[i32],
+    monomial: &[u64],
+    terms: &[u8],
+    token: &[u32],
+    readings: &[i32],
+    contents: Contents,
+) -> Evaluation
+    requires { ⌜ SomeStand (now coefficient) (now monomial) (now terms) (now token) contents ⌝ }
+    ensures { λ r. ⌜ ((bytes : List ℕ) → Stands bytes (now (coefficient .entry)) (now (monomial .entry)) (now (terms .entry)) (now (token .entry)) contents
+        → r ≡ evaluationOf (evaluateBook bytes (now (readings .entry)))) ⌝ }
+{
+    match contents {
+        Contents::Refused(number) => Evaluation::Refused(number),
+        Contents::Numbers {
+            variables,
+            polynomials: _,
+            root,
+            tokens: _,
+        } => {
+            if readings.len() != variables {
+                return Evaluation::Refused(16);
+            }
+            let seen = node(coefficient, monomial, terms, token, readings, 0, root);
+            verdict(seen.fits, seen.holds)
+        }
+    }
+}
+
+// Reads a block of any number of polynomials and runs it on the readings.
+fn evaluate_any(input: &[u8], readings: &[i32]) -> Evaluation
     ensures { λ r. ⌜ r ≡ evaluationOf (evaluateBook (now (input .entry)) (now (readings .entry))) ⌝ }
 {
     let mut coefficient = [0i32; 1024];
@@ -138,20 +180,28 @@ pub fn evaluate(input: &[u8], readings: &[i32]) -> Evaluation
         &mut terms,
         &mut token,
     );
-    match contents {
-        Contents::Refused(number) => Evaluation::Refused(number),
-        Contents::Numbers {
-            variables,
-            polynomials: _,
-            root,
-            tokens: _,
-        } => {
-            if readings.len() != variables {
-                return Evaluation::Refused(16);
-            }
-            let seen = node(&coefficient, &monomial, &terms, &token, readings, 0, root);
-            verdict(seen.fits, seen.holds)
-        }
+    run(&coefficient, &monomial, &terms, &token, readings, contents)
+}
+
+// Reads a block and runs it on the readings. Every input is answered or refused.
+// Most blocks have few polynomials: for these the arrays, which are filled with zeros at each call, are a quarter as long.
+pub fn evaluate(input: &[u8], readings: &[i32]) -> Evaluation
+    ensures { λ r. ⌜ r ≡ evaluationOf (evaluateBook (now (input .entry)) (now (readings .entry))) ⌝ }
+{
+    let mut coefficient = [0i32; 256];
+    let mut monomial = [0u64; 256];
+    let mut terms = [0u8; 64];
+    let mut token = [0u32; 255];
+    let few = read_few_into(
+        input,
+        &mut coefficient,
+        &mut monomial,
+        &mut terms,
+        &mut token,
+    );
+    match few {
+        Few::More => evaluate_any(input, readings),
+        Few::Read(contents) => run(&coefficient, &monomial, &terms, &token, readings, contents),
     }
 }
 

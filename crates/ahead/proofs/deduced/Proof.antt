@@ -25,7 +25,7 @@ sign-slot-requires-2 c κs =
     (form-slots {t = table s} forms (c .before .before .before .sign-slot .kept .1 .1 .1 .0 ∙ places), omega arith)
 
 -- the signs of both slots
-signed : (c : tie.After-deduce-from-arg) → let s = c .before .before .before .before .before .before .before .before .before .before .before .before .before .before .before .before in
+signed : (c : tie.After-deduce-alone-arg) → let s = c .before .before .before .before .before .before .before .before .before .before .before .before .before .before .before .before in
     BothSigned (table s) (setsOf (s .args .board)) (c .before .before .before .sign-slot2 .last .1 .1 .1 .0) (variableSlot (s .args .i)) (atomSlot (s .args .t6 .number) (s .args .j))
 signed c =
     let s = c .before .before .before .before .before .before .before .before .before .before .before .before .before .before .before .before in
@@ -33,8 +33,8 @@ signed c =
     both-signed {t = table s} (s .args .sign .now) (variableSlot (s .args .i)) (atomSlot (s .args .t6 .number) (s .args .j)) forms places (omega (arith, forms .variables)) (omega arith)
     (c .before .before .before .before .before .before .before .sign-slot .ensures) (c .before .before .before .sign-slot2 .ensures)
 
-deduce-from-requires : tie.Need-deduce-from-requires
-deduce-from-requires c κs =
+deduce-alone-requires : tie.Need-deduce-alone-requires
+deduce-alone-requires c κs =
     let s = c .before .before .before .before .before .before .before .before .before .before .before .before .before .before .before .before in
     let (forms, (places, (low, listed))) = s .pre in
     let p = c .before .before .before .before .before .before .before .before .before .before .places .ensures in
@@ -56,7 +56,7 @@ returns c none =
     let both = signed (c .before) in
     let own = run-held {t = table s} (variableSlot (s .args .i)) forms (both .places) (omega (arith, forms .variables)) (p .0) (p .1) (both .first) in
     let its = run-held {t = table s} (atomSlot (s .args .t6 .number) (s .args .j)) forms (both .places) (omega arith) (q .0) (q .1) (both .second) in
-    c .deduce-from .ensures .on (own .signed) (its .signed) none
+    c .deduce-alone .ensures .on (own .signed) (its .signed) none
     ∙ ap₂ (λ (x y : Polynomial). deduceOf (setsOf (s .args .board)) x (record { polynomial = y; set = getD (s .args .t6 .set) (s .args .j) 0 }))
     (run-form (table s) (variableSlot (s .args .i)) (p .0) (p .1) ∙ forms .each-variable (s .args .i) low)
     (run-form (table s) (atomSlot (s .args .t6 .number) (s .args .j)) (q .0) (q .1))
@@ -65,4 +65,4 @@ pub deduced-spec : {M : Type 1} → statement M
 deduced-spec =
     tie.close
     (tie.spec (λ c. search needs) (λ c. search needs) (λ c. search needs) (λ c. search needs) (λ c κs. search needs) (λ c κs. search needs) (λ c. search needs)
-    (λ c κs. search needs) sign-slot-requires-2 deduce-from-requires (λ c. search needs) returns)
+    (λ c κs. search needs) sign-slot-requires-2 deduce-alone-requires (λ c. search needs) returns)

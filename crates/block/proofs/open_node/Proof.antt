@@ -21,12 +21,11 @@ open-node-spec =
     number-high _ _ _ _ _ (kind .before .before .before .before .left .ensures) (kind .before .before .if1 .left) (kind .before .if2 .left) (kind .get .ensures)
     (c .before .before .before .if4 .taken) (c .before .before .if5 .left)
     (c .before .get2 .ensures) (c .if6 .taken))
-    (λ c. search needs) (λ c κs. search needs)
     (λ c.
-    let kind = c .before .before .before .before .before .before in
+    let kind = c .before .before .before .before .before in
     atom-opens _ _ _ _ _ (kind .before .before .before .before .left .ensures) (kind .before .before .if1 .left) (kind .before .if2 .left) (kind .get .ensures)
-    (c .before .before .before .before .if4 .taken) (c .before .before .before .if5 .left)
-    (c .before .before .get2 .ensures) (c .before .if6 .left) (c .get3 .ensures) (kind .before .before .before .before .before .before .pre .short))
+    (c .before .before .before .if4 .taken) (c .before .before .if5 .left)
+    (c .before .get2 .ensures) (c .if6 .left) (kind .before .before .before .before .before .before .pre .short))
     (λ c. let kind = c .before .before .before in join-short _ _ _ _ _ (kind .before .before .before .before .left .ensures) (kind .before .before .if1 .left)
     (kind .before .if2 .left) (kind .get .ensures) (c .before .before .if3 .left) (c .before .if4 .left) (c .if7 .taken))
     (λ c. let kind = c .before .before .before .before in same-kind _ _ _ _ _ (kind .before .before .before .before .left .ensures)
@@ -42,5 +41,5 @@ open-node-spec =
     let kind = c .before .before .before .before .before .before in
     join-opens _ _ _ _ _ (kind .before .before .before .before .left .ensures) (kind .before .before .if1 .left) (kind .before .if2 .left) (kind .get .ensures)
     (c .before .before .before .before .before .if3 .left) (c .before .before .before .before .if4 .left)
-    (c .before .before .before .if7 .left) (c .before .before .if8 .left) (c .before .if9 .left) (c .get4 .ensures)
+    (c .before .before .before .if7 .left) (c .before .before .if8 .left) (c .before .if9 .left) (c .get3 .ensures)
     (kind .before .before .before .before .before .before .pre .short)))

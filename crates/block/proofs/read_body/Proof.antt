@@ -2,7 +2,7 @@
 use native.Mathlib.Omega.{arith}
 use borrow.Author.Needs.{needs}
 use Rattle.block.proofs.Steps.{inside-after}
-use Rattle.block.proofs.ReadingWhole.{contents-refused, table-refuses, allowed-behind, tree-refuses, all-stored}
+use Rattle.block.proofs.ReadingWhole.{contents-refused, table-refuses, allowed-behind, tree-refuses, all-stored, none-held, held-are}
 use Rattle.block.proofs.read_body.Statement.{statement}
 use Rattle.block.proofs.read_body.Tie as tie
 
@@ -14,9 +14,9 @@ read-table-requires c κs =
       head .inside,
       head .variables,
       head .polynomials,
-      omega (arith, head .polynomials, room .coefficients),
-      omega (arith, head .polynomials, room .monomials),
-      omega (arith, head .polynomials, room .counts),
+      room .coefficients,
+      room .monomials,
+      room .counts,
     )
 
 read-tree-requires : tie.Need-read-tree-requires
@@ -28,7 +28,7 @@ read-tree-requires c κs =
     let read = chosen .step2 .given .1 in (
       inside-after (table .read-table .ensures) read,
       omega (arith, allowed-behind head (table .read-table .ensures) read),
-      omega (arith, head .nodes, start .pre .1 .tokens),
+      start .pre .1 .tokens,
     )
 
 returns : tie.Need-returns
@@ -36,7 +36,7 @@ returns c =
     let chosen = c .before in
     let table = chosen .before .before .before .before .before .before .before in
     let start = table .before .before .before .before .before .before .before .before in
-    contents-refused _ _ _ _ _ _ _ _ (table-refuses (start .pre .0) (table .read-table .ensures) (chosen .step .given .1))
+    (contents-refused _ _ _ _ _ _ _ _ (table-refuses (start .pre .0) (table .read-table .ensures) (chosen .step .given .1)), none-held _ _)
 
 returns-2 : tie.Need-returns-2
 returns-2 c =
@@ -44,8 +44,11 @@ returns-2 c =
     let tree = root .before .before .before .before in
     let chosen = tree .before .before .before in
     let table = chosen .before .before .before .before .before .before .before in
-    let start = table .before .before .before .before .before .before .before .before in
-    contents-refused _ _ _ _ _ _ _ _ (tree-refuses (start .pre .0) (table .read-table .ensures) (chosen .step2 .given .1) (tree .read-tree .ensures) (root .found .given .1))
+    let start = table .before .before .before .before .before .before .before .before in (
+      contents-refused _ _ _ _ _ _ _ _
+          (tree-refuses (start .pre .0) (table .read-table .ensures) (chosen .step2 .given .1) (tree .read-tree .ensures) (root .found .given .1)),
+      none-held _ _,
+    )
 
 returns-3 : tie.Need-returns-3
 returns-3 c =
@@ -54,7 +57,7 @@ returns-3 c =
     let chosen = tree .before .before .before in
     let table = chosen .before .before .before .before .before .before .before in
     let start = table .before .before .before .before .before .before .before .before in
-    all-stored (start .pre .0) (table .read-table .ensures) (chosen .step2 .given .1) (tree .read-tree .ensures) (root .found2 .given .1)
+    (all-stored (start .pre .0) (table .read-table .ensures) (chosen .step2 .given .1) (tree .read-tree .ensures) (root .found2 .given .1), held-are _ _ _ _)
 
 pub read-body-spec : {M : Type 1} → statement M
 read-body-spec =

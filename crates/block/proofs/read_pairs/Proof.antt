@@ -1,8 +1,32 @@
 -- `block::read_pairs` meets its contract: each test of the code is the book's, on the same pairs.
 use borrow.Author.Needs.{needs}
-use Rattle.block.proofs.ReadingPairs.{many-pairs, pairs-short, pairs-inside, not-rising, some-zero, pairs-rise, pairs-read}
+use Rattle.block.proofs.ReadingPairs.{many-pairs, pairs-short, pairs-inside, not-rising, some-zero, pairs-read}
 use Rattle.block.proofs.read_pairs.Statement.{statement}
 use Rattle.block.proofs.read_pairs.Tie as tie
+
+returns-3 : tie.Need-returns-3
+returns-3 c =
+    let told = c .before .before in
+    let long = told .before in
+    let count = long .before .before .before in
+    not-rising _ _ _ (count .get .ensures) (long .before .before .if1 .left) (long .before .left .ensures) (long .if2 .left) (told .tell .ensures)
+    (c .enum-told .given .1)
+
+returns-4 : tie.Need-returns-4
+returns-4 c =
+    let told = c .before .before in
+    let long = told .before in
+    let count = long .before .before .before in
+    some-zero _ _ _ (count .get .ensures) (long .before .before .if1 .left) (long .before .left .ensures) (long .if2 .left) (told .tell .ensures)
+    (c .enum-told2 .given .1)
+
+returns-5 : tie.Need-returns-5
+returns-5 c =
+    let told = c .before .before .before in
+    let long = told .before in
+    let count = long .before .before .before in
+    pairs-read _ _ _ (count .get .ensures) (long .before .before .if1 .left) (long .before .left .ensures) (long .if2 .left) (told .tell .ensures)
+    (c .before .told .given .1) (count .before .before .pre .0)
 
 pub read-pairs-spec : {M : Type 1} → statement M
 read-pairs-spec =
@@ -17,41 +41,5 @@ read-pairs-spec =
     (λ c κs.
     let count = c .before .before .before in
     let s = count .before .before in
-    pairs-inside _ _ (s .args .place) (count .get .ensures) (c .before .before .if1 .left) (c .before .left .ensures) (c .if2 .left) (s .pre .0))
-    (λ c.
-    let long = c .before .before in
-    let count = long .before .before .before in
-    not-rising _ _ _ (count .get .ensures) (long .before .before .if1 .left) (long .before .left .ensures) (long .if2 .left) (c .before .rise .ensures)
-    (c .if3 .taken))
-    (λ c. search needs)
-    (λ c κs.
-    let long = c .before .before in
-    let count = long .before .before .before in
-    let s = count .before .before in
-    pairs-inside _ _ (s .args .place) (count .get .ensures) (long .before .before .if1 .left) (long .before .left .ensures) (long .if2 .left) (s .pre .0))
-    (λ c.
-    let rising = c .before .before in
-    let long = rising .before .before in
-    let count = long .before .before .before in
-    some-zero _ _ _ (count .get .ensures) (long .before .before .if1 .left) (long .before .left .ensures) (long .if2 .left) (rising .before .rise .ensures)
-    (rising .if3 .left) (c .before .above-zero .ensures) (c .if4 .taken))
-    (λ c. search needs)
-    (λ c κs.
-    let rising = c .before .before in
-    let long = rising .before .before in
-    let count = long .before .before .before in
-    let s = count .before .before in (
-      pairs-inside _ _ (s .args .place) (count .get .ensures) (long .before .before .if1 .left) (long .before .left .ensures) (long .if2 .left) (s .pre .0),
-      s .pre .2,
-      pairs-rise _ _ (s .args .place) (count .get .ensures) (long .before .before .if1 .left) (long .before .left .ensures) (long .if2 .left)
-          (rising .before .rise .ensures)
-          (rising .if3 .left) (c .before .above-zero .ensures) (c .if4 .left),
-    ))
-    (λ c. search needs) (λ c. search needs) (λ c. search needs)
-    (λ c.
-    let above = c .before in
-    let rising = above .before .before in
-    let long = rising .before .before in
-    let count = long .before .before .before in
-    pairs-read _ _ _ (count .get .ensures) (long .before .before .if1 .left) (long .before .left .ensures) (long .if2 .left) (rising .before .rise .ensures)
-    (rising .if3 .left) (above .before .above-zero .ensures) (above .if4 .left) (c .monomial-of .ensures) (count .before .before .pre .0)))
+    (pairs-inside _ _ (s .args .place) (count .get .ensures) (c .before .before .if1 .left) (c .before .left .ensures) (c .if2 .left) (s .pre .0), s .pre .2))
+    (λ c. search needs) (λ c. search needs) (λ c. search needs) (λ c. search needs) (λ c. search needs) (λ c. search needs) returns-3 returns-4 returns-5)
