@@ -48,7 +48,7 @@ module _ (n : ℕ) {all fewer these : List Atom} (low : LowAtoms all) (lower : L
       let below : PartOf (cutBy board p fewer s) (cutBy board p all s) = rw e at (cutBy-wider (board-itself board) h p (some-fewer g) lower (part-refl s)) in
       parts-equal (cutBy-below board p fewer s small) (cutBy-below board p all s small) below above
 
-  same-turns : (board : Board) → LowBoard board → (i k : ℕ) → RestTurns n all these board i k → turns n fewer board i k ≡ turns n all board i k
+  pub same-turns : (board : Board) → LowBoard board → (i k : ℕ) → RestTurns n all these board i k → turns n fewer board i k ≡ turns n all board i k
   unfolding turns turn RestTurns
   same-turns board h i zero r = refl
   same-turns board h i (suc k) r =
@@ -71,7 +71,7 @@ module _ (n : ℕ) {all fewer these : List Atom} (low : LowAtoms all) (lower : L
 
 -- ---- Step 5: the run over the other atoms, without one that is no variable's.
 
-same-start : (n : ℕ) (kept : List Atom) (a : Atom) (later : List Atom) → which n (a .polynomial) ≡ none → (board : Board)
+pub same-start : (n : ℕ) (kept : List Atom) (a : Atom) (later : List Atom) → which n (a .polynomial) ≡ none → (board : Board)
     → placedAll n (kept ++ (a ∷ later)) board ≡ placedAll n (kept ++ later) board
 unfolding placedAll placed
 same-start n [] a later e board = ap (λ (o : Option ℕ). placedAll n later (placed o (a .set) board)) e

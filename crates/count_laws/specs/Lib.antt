@@ -1,6 +1,7 @@
 pub mod Fresh
 pub mod Boards
 pub mod Common
+pub mod Onward
 pub mod Sharper
 pub mod Removal
 pub mod AtMost

@@ -37,7 +37,7 @@ fn spare(set: u8) -> usize
 }
 
 // The same of the first n sets together.
-fn spares(sets: &[u8], n: usize) -> usize
+pub fn spares(sets: &[u8], n: usize) -> usize
     requires { ⌜ (n ≤ length (now sets)) × (n ≤ 16) ⌝ }
     ensures { λ r. ⌜ (r ≡ spareAll (numbersFrom (now (sets .entry)) 0 n)) × (r ≤ 32) ⌝ }
 {

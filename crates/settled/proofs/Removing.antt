@@ -28,6 +28,8 @@ use Rattle.rounds.specs.declared.Ran.{Ran}
 use Rattle.settled.specs.declared.removal.Remaining.{Remaining}
 use Rattle.rounds.specs.Views.{outcomeOf}
 use Rattle.rounds.specs.Afresh.{AfreshFrom}
+use Rattle.common_run.specs.declared.run.Common.{Common}
+use Rattle.common_run.specs.Known.{Known}
 use Rattle.settled.specs.Remaining.{CarriedFrom, keptWhen, remaining, KeptUnless, RemainingOf}
 
 -- ---- one atom
@@ -218,6 +220,17 @@ afresh-others {t} list kept {i} from low some e = record {
   variables = from .variables;
   some = rw (from .atoms, ← e) at (some-without kept (atomAt t (list .number) (list .set) i) (rest t list (i + 1)) (rw (rest-cons t list i low) at some));
 }
+
+-- with it too
+pub afresh-remaining : {t : Table} {state : Left} (list : Atoms) {remaining : List Atom} → CarriedFrom t state (atomsOf t list) → Some (atomsOf t list) remaining
+    → AfreshFrom t state remaining
+afresh-remaining list from some = record { given = from .given; settles = from .settles; variables = from .variables; some = rw (from .atoms) at some }
+
+-- what is known of the common run, of the atoms that remain after one more
+pub known-next : (t : Table) {state : Left} (list : Atoms) {i : ℕ} (kept : Remaining) {r : Remaining} {out : Bool} {c : Common} → KeptUnless out kept list i r
+    → Known t state (keptUnless out (atomAt t (list .number) (list .set) i) (atomsOf t (kept .atoms)) ++ rest t list (i + 1)) c
+    → Known t state (atomsOf t (r .atoms) ++ rest t list (i + 1)) c
+known-next t list kept one known = rw (one .atoms t) known
 
 pub some-first : (t : Table) (list : Atoms) (numbers : List ℕ) (sets : List SignSet)
     → Some (atomsOf t list) (atomsOf t (record { count = 0; number = numbers; set = sets }) ++ rest t list 0)

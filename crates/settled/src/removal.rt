@@ -20,6 +20,9 @@ use crate::says_at;
 use crate::staying::stays;
 use ahead::Order;
 use ahead::no_order;
+use common_run::counting::Counting;
+use common_run::counting::counted;
+use common_run::run::unknown;
 use round::State;
 use round::list::joined;
 use round::list::many;
@@ -240,7 +243,85 @@ fn remove(
     }
 }
 
-// The list is the one that step 3 left, with the sets that its atoms carry from the state that its rounds settled in.
+// The same, where a common run counts the fresh ones.
+fn remove_counting(
+    coefficient: &[i32],
+    monomial: &[u64],
+    terms: &[u8],
+    sign: &[u8],
+    variables: usize,
+    list: Atoms,
+    state: State,
+    largest: usize,
+) -> Removed
+    requires { let t = lentTable coefficient monomial terms variables in
+        ⌜ Ready t (setsOf (state .board)) (state .atoms) (now sign) × CarriedFrom t state (atomsOf t list) ⌝ }
+    requires { let t = lentTable coefficient monomial terms variables in
+        ⌜ Ready t (setsOf (state .board)) list (now sign) ⌝ }
+    ensures { λ r.
+        let t = lentTable (coefficient .entry) (monomial .entry) (terms .entry) variables in
+        ⌜ RemainingOf t list (removeFaster variables (stateOf t state) []) (r .remaining)
+        × (r .rounds ≡ max largest (countFaster variables (stateOf t state) [] (atomsOf t list))) ⌝ }
+{
+    let end = many(list.count);
+    let mut kept = Remaining {
+        atoms: Atoms {
+            count: 0,
+            number: [0; 64],
+            set: [0; 64],
+        },
+        keep: [false; 64],
+    };
+    let mut order = no_order();
+    let mut counting = Counting {
+        rounds: largest,
+        common: unknown(),
+    };
+    let mut i = 0;
+    while i < end {
+        let number = list.number[i];
+        let set = list.set[i];
+        let k = (number % 64) as usize;
+        let so_far = kept.atoms;
+        let others = joined(so_far, list, i + 1);
+        let told = goes(
+            coefficient,
+            monomial,
+            terms,
+            sign,
+            variables,
+            state,
+            others,
+            order,
+            k,
+            SignSet(set),
+        );
+        let out = told.yes;
+        order = told.order;
+        counting = counted(
+            coefficient,
+            monomial,
+            terms,
+            variables,
+            so_far,
+            list,
+            i,
+            others,
+            state,
+            counting,
+            out,
+        );
+        kept = kept_unless(out, kept, list, i);
+        i += 1;
+    }
+    Removed {
+        remaining: kept,
+        rounds: counting.rounds,
+    }
+}
+
+// The list is the one that step 3 left, with the sets that its atoms carry from the state that its rounds settled in. A fresh run over n variables and k
+// atoms takes at most 2(n + k) + 1 rounds: where that is no more than the largest number so far for all of them, none is counted.
 pub fn remove_implied(
     coefficient: &[i32],
     monomial: &[u64],
@@ -262,7 +343,19 @@ pub fn remove_implied(
     let mut sign = [0u8; 1280];
     sign_list(board, monomial, terms, atoms, &mut sign);
     sign_list(board, monomial, terms, list, &mut sign);
-    remove(
+    if 2 * (variables + many(list.count)) + 1 <= largest {
+        return remove(
+            coefficient,
+            monomial,
+            terms,
+            &sign,
+            variables,
+            list,
+            state,
+            largest,
+        );
+    }
+    remove_counting(
         coefficient,
         monomial,
         terms,

@@ -1,0 +1,172 @@
+-- What is known of a common run when an atom goes or stays, and how many rounds the run without it takes.
+use mathlib.Core.Path.{_≡_, refl, sym, _∙_, ap, subst}
+use mathlib.Core.Bool.{Bool, true, false, false≢true}
+use mathlib.Core.List.{List, [], _∷_, _++_, append-assoc}
+use mathlib.Core.Option.{none}
+use Prim.Native.Nat.{ℕ, zero, suc, _+_, _*_, _<_, _≤_}
+use native.Mathlib.Omega.{arith}
+use lib.IntN.{ℤ}
+use lib.ListN.{length, getD, replicate}
+use Rattle.rules.specs.Signs.{full}
+use Rattle.rules.specs.Polynomial.{Atom, Board, which}
+use Rattle.rules.specs.Rounds.{start, nonVariable, enough, sameSets}
+use Rattle.rules.specs.Rounds.{State as Standing}
+use Rattle.rules.specs.Level.{keptUnless}
+use Rattle.rules.specs.Count.{runCount}
+use Rattle.turn_laws.specs.Some.{Some, all-there, not-there, some-both, some-append}
+use Rattle.count_laws.specs.Boards.{turnedRounds}
+use Rattle.count_laws.specs.Common.{same-start}
+use Rattle.count_laws.specs.Onward.{afterRounds, Moving, Resting, common-onward, common-rounds}
+use Rattle.terms.specs.declared.Board.{Board as Sets}
+use Rattle.terms.specs.View.{few, setsOf, length-numbers}
+use Rattle.table.specs.Table.{Table, Forms, atomsOf, many}
+use Rattle.round.specs.declared.State.{State}
+use Rattle.round.specs.Views.{tableOf, stateOf}
+use Rattle.common_run.specs.declared.run.Common.{Common}
+use Rattle.common_run.specs.Marks.{markedBy, markedOf}
+use Rattle.common_run.specs.Boards.{boardAt}
+use Rattle.common_run.specs.Known.{CommonRun, Known, Without, Left, Lost}
+use Rattle.common_run.proofs.Marking.{marked-is, is-marked, none-marked}
+use Rattle.common_run.proofs.Apart.{marked-without}
+
+-- ---- an atom goes or stays
+
+kept-one : (kept : List Atom) (a : Atom) (later : List Atom) → keptUnless false a kept ++ later ≡ kept ++ (a ∷ later)
+unfolding keptUnless
+kept-one kept a later = append-assoc kept (a ∷ []) later
+
+gone-one : (kept : List Atom) (a : Atom) (later : List Atom) → keptUnless true a kept ++ later ≡ kept ++ later
+unfolding keptUnless
+gone-one kept a later = refl
+
+stays : (t : Table) (state : State) (c : Common) {out : Bool} → out ≡ false → (kept : List Atom) (a : Atom) (later : List Atom)
+    → Known t state (kept ++ (a ∷ later)) c → Known t state (keptUnless out a kept ++ later) c
+stays t state c e kept a later known = rw (e, kept-one kept a later) known
+
+boards-same : (n : ℕ) (kept : List Atom) (a : Atom) (later : List Atom) → which n (a .polynomial) ≡ none
+    → start n (kept ++ (a ∷ later)) .board ≡ start n (kept ++ later) .board
+unfolding start
+boards-same n kept a later no-variable = same-start n kept a later no-variable (replicate n full)
+
+fewer : (kept : List Atom) (a : Atom) (later : List Atom) → Some (kept ++ (a ∷ later)) (kept ++ later)
+fewer kept a later = some-append (all-there kept) (not-there (all-there later))
+
+module _ {out : Bool} (k : ℕ) (c : Common) where
+  pub left-staying : out ≡ false → Left out k c c
+  left-staying e = record { knows = λ t state kept a later forms between known. stays t state c e kept a later known }
+
+  pub left-unmarked : k < 64 → out ≡ true → getD (c .marks .first) k 0 ≡ 0 → Left out k c c
+  left-unmarked low e z = record {
+    knows = λ t state kept a later forms between known is. rw (e, gone-one kept a later) (
+        let run = known is in
+        record {
+          over = run .over;
+          first = run .first;
+          is-start = run .is-start;
+          ran = run .ran;
+          afresh = run .afresh;
+          some = some-both (run .some) (fewer kept a later);
+          boards = run .boards ∙ boards-same (t .variables) kept a later (between .no-variable);
+          marked = λ round. marked-without forms (c .marks .first) round k low (rw z (none-marked round)) kept a later (between .is) (between .no-variable)
+              (run .first .atoms .number) (run .first .atoms .set) 0 (many (run .first .atoms .count)) (run .marked round);
+        });
+  }
+
+  pub left-unknown : {r : Common} → (r .known ≡ true → ⊥) → Left out k c r
+  left-unknown h = record { knows = λ t state kept a later forms between known is. absurd (h is) }
+
+module _ {out : Bool} (c : Common) where
+  pub lost-staying : out ≡ false → Lost out c c
+  lost-staying e = record { knows = λ t state kept a later known. stays t state c e kept a later known }
+
+  pub lost-unknown : {r : Common} → (r .known ≡ true → ⊥) → Lost out c r
+  lost-unknown h = record { knows = λ t state kept a later known is. absurd (h is) }
+
+-- ---- the run without the atom
+
+-- a mark that is of no round up to j is of none up to an earlier one
+not-yet : (mark i j : ℕ) → markedBy mark j ≡ false → i ≤ j → markedBy mark i ≡ false
+not-yet mark i j f h = by-test (markedBy mark i) refl
+  where
+    by-test : (b : Bool) → markedBy mark i ≡ b → b ≡ false
+    by-test true e = let (some, most) = marked-is mark i e in absurd (false≢true (sym f ∙ is-marked mark j some (omega arith)))
+    by-test false e = refl
+
+-- the mark of a round is of none before it
+pub mark-zero : {mark : ℕ} (round : ℕ) → mark ≡ 0 → markedBy mark round ≡ false
+mark-zero round e = rw e (none-marked round)
+
+pub mark-above : (mark round : ℕ) → round < mark → markedBy mark round ≡ false
+mark-above mark round h = by-test (markedBy mark round) refl
+  where
+    by-test : (b : Bool) → markedBy mark round ≡ b → b ≡ false
+    by-test true e = let (some, most) = marked-is mark round e in absurd (omega arith)
+    by-test false e = refl
+
+module _ {t : Table} (forms : Forms t) {c : Common} {k : ℕ} (low : k < 64) {others : List Atom} (w : Without t c k others) where
+  abbrev n : ℕ
+  n = t .variables
+
+  abbrev run : CommonRun t (w .state) (w .kept ++ (w .atom ∷ w .later)) c
+  run = w .run
+
+  over-some : Some (run .over) others
+  over-some = subst (λ (l : List Atom). Some (run .over) l) (sym (w .are)) (some-both (run .some) (fewer (w .kept) (w .atom) (w .later)))
+
+  same-boards : start n (run .over) .board ≡ start n others .board
+  same-boards = subst (λ (l : List Atom). start n (run .over) .board ≡ start n l .board) (sym (w .are)) (run .boards ∙ boards-same n (w .kept) (w .atom) (w .later) (w .between .no-variable))
+
+  resting : (j : ℕ) → j ≤ c .rounds → markedBy (getD (c .marks .first) k 0) j ≡ false
+      → Resting n (start n (run .over) .atoms) (start n others .atoms) j (start n (run .over) .board)
+  unfolding start
+  resting j h e = subst (λ (su : Standing). Resting n (su .atoms) (nonVariable n others) j (su .board)) (run .is-start) (λ i l.
+      let a = run .first .atoms in
+      record {
+        these = markedOf (c .marks .first) (suc i) t a;
+        there = subst (λ (l : List Atom). Some (nonVariable n l) (markedOf (c .marks .first) (suc i) t a)) (sym (w .are)) (marked-without forms (c .marks .first) (suc i) k low (not-yet (getD (c .marks .first) k 0) (suc i) j e (omega arith)) (w .kept) (w .atom) (w .later)
+            (w .between .is) (w .between .no-variable) (a .number) (a .set) 0 (many (a .count)) (run .marked (suc i)));
+        rests = run .ran .rests i (omega arith);
+      })
+
+  moving : (j : ℕ) → j < c .rounds → Moving n (start n (run .over) .atoms) j (start n (run .over) .board)
+  moving j h = subst (λ (su : Standing). Moving n (su .atoms) j (su .board)) (run .is-start) (λ i l. run .ran .moves i (omega arith))
+
+  pub rounds-without : getD (c .marks .first) k 0 ≡ 0 → c .rounds ≡ runCount n others
+  rounds-without z = from (c .rounds) refl (run .ran .some)
+    where
+      from : (m : ℕ) → m ≡ c .rounds → 0 < m → c .rounds ≡ runCount n others
+      from zero e h = absurd (omega arith)
+      from (suc j) e h =
+          sym e ∙ sym (common-rounds n (run .afresh .given) (run .afresh .settles) (run .over) others (run .afresh .some) over-some same-boards j
+          (resting (suc j) (omega arith) (mark-zero (suc j) z)) (moving j (omega arith))
+          (subst (λ (su : Standing). sameSets (afterRounds n (su .atoms) j (su .board)) (afterRounds n (su .atoms) (suc j) (su .board)) ≡ true) (run .is-start) (run .ran .still j e)))
+
+  pub rounds-onward : (j : ℕ) → j < c .rounds → markedBy (getD (c .marks .first) k 0) j ≡ false
+      → runCount n others ≡ j + turnedRounds n (start n others .atoms) (enough (start n others)) (boardAt (c .boards .sets) j n)
+  rounds-onward j h e =
+      common-onward n (run .afresh .given) (run .afresh .settles) (run .over) others (run .afresh .some) over-some same-boards j
+      (resting j (omega arith) e) (moving j h)
+      ∙ ap (λ (b : Board). j + turnedRounds n (start n others .atoms) (enough (start n others)) b)
+      (ap (λ (su : Standing). afterRounds n (su .atoms) j (su .board)) (sym (run .is-start)) ∙ sym (run .ran .boards j h))
+
+-- ---- its rounds, from the board that is read back
+
+module _ (cs : List ℤ) (ms ts : List ℕ) {n m : ℕ} (same : m ≡ n) (others : List Atom) (begun : State) (own : begun .board .variables ≡ n)
+    (is-start : stateOf (tableOf cs ms ts n) begun ≡ start n others) (b : Sets) (variables : b .variables ≡ n) where
+  abbrev from : ℕ → State
+  from v = record { board = b; atoms = begun .atoms }
+
+  same-enough : enough (stateOf (tableOf cs ms ts n) (from n)) ≡ enough (start n others)
+  unfolding enough
+  same-enough =
+      let lengths : length (setsOf b) ≡ length (setsOf (begun .board)) =
+      length-numbers (b .sets) 0 (few (b .variables)) ∙ ap few (variables ∙ sym own) ∙ sym (length-numbers (begun .board .sets) 0 (few (begun .board .variables))) in
+      ap (λ (k : ℕ). 2 * (k + length (atomsOf (tableOf cs ms ts n) (begun .atoms))) + 1) lengths ∙ ap enough is-start
+
+  pub turned-from : {k : ℕ}
+      → k ≡ turnedRounds m (atomsOf (tableOf cs ms ts m) (begun .atoms)) (enough (stateOf (tableOf cs ms ts m) (from m))) (setsOf b)
+      → k ≡ turnedRounds n (start n others .atoms) (enough (start n others)) (setsOf b)
+  turned-from {k} e =
+      subst (λ (v : ℕ). k ≡ turnedRounds v (atomsOf (tableOf cs ms ts v) (begun .atoms)) (enough (stateOf (tableOf cs ms ts v) (from v))) (setsOf b)) same e
+      ∙ ap (λ (f : ℕ). turnedRounds n (atomsOf (tableOf cs ms ts n) (begun .atoms)) f (setsOf b)) same-enough
+      ∙ ap (λ (su : Standing). turnedRounds n (su .atoms) (enough (start n others)) (setsOf b)) is-start

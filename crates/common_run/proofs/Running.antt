@@ -1,0 +1,106 @@
+-- The rounds of the common run, one after the other: their boards, and that the cuts of each rest on what is marked by it, whatever is marked later.
+use mathlib.Core.Path.{_≡_, refl, sym, _∙_, ap, subst}
+use mathlib.Core.Bool.{Bool, true, false}
+use mathlib.Core.List.{List}
+use Prim.Native.Nat.{ℕ, suc, _+_, _<_}
+use native.Mathlib.Numerals.{add-one}
+use native.Mathlib.Omega.{arith}
+use borrow.Author.Count.{below-more}
+use lib.IntN.{ℤ}
+use Rattle.rules.specs.Signs.{SignSet}
+use Rattle.rules.specs.Polynomial.{Board}
+use Rattle.rules.specs.Rounds.{turns, sameSets}
+use Rattle.count_laws.specs.Common.{RestTurns}
+use Rattle.count_laws.specs.Onward.{afterRounds}
+use Rattle.terms.specs.declared.Board.{Board as Sets}
+use Rattle.terms.specs.View.{few, numbersFrom, setsOf}
+use Rattle.table.specs.declared.Atoms.{Atoms}
+use Rattle.table.specs.Table.{Table, atomsOf}
+use Rattle.round.specs.declared.State.{State}
+use Rattle.round.specs.Views.{tableOf}
+use Rattle.round.specs.Signing.{Ready}
+use Rattle.common_run.specs.Marks.{markedOf, Grows}
+use Rattle.common_run.specs.Turning.{TurnsMarking}
+use Rattle.common_run.specs.Boards.{boardAt, StoredAt}
+use Rattle.common_run.specs.Run.{after, CommonOf}
+use Rattle.common_run.proofs.Marking.{grows-itself, grows-on}
+use Rattle.common_run.proofs.Storing.{board-here, board-before}
+
+-- a board's own number of variables is the table's
+pub turns-over : (cs : List ℤ) (ms ts : List ℕ) {n m : ℕ} → n ≡ m
+    → {a : Atoms} {board : Board} {round : ℕ} {marks : List ℕ} {b : Sets} {more : List ℕ} {ss : List SignSet}
+    → TurnsMarking (tableOf cs ms ts n) a board round marks b more ss → TurnsMarking (tableOf cs ms ts m) a board round marks b more ss
+turns-over cs ms ts same {a} {board} {round} {marks} {b} {more} {ss} = subst (λ (k : ℕ). TurnsMarking (tableOf cs ms ts k) a board round marks b more ss) same
+
+-- the sets of two boards, compared by place
+pub same-boards : (b c : Sets) {k : ℕ} {r : Bool} → c .variables ≡ b .variables → k ≡ few (b .variables)
+    → r ≡ sameSets (numbersFrom (b .sets) 0 k) (numbersFrom (c .sets) 0 k) → r ≡ sameSets (setsOf b) (setsOf c)
+same-boards b c v e h = rw v (rw e at h)
+
+pub record Running (t : Table) (st : State) (round : ℕ) (stood : Sets) (boards marks : List ℕ) (ss : List SignSet) : Type 0 where
+  pub variables : stood .variables ≡ t .variables
+  pub ready : Ready t (setsOf stood) (st .atoms) ss
+  pub sets : setsOf stood ≡ after t st round
+  pub moves : (i : ℕ) → i < round → sameSets (after t st i) (after t st (suc i)) ≡ false
+  pub stored : (i : ℕ) → i < round → boardAt boards i (t .variables) ≡ after t st i
+  pub rests : (i : ℕ) → i < round → (later : List ℕ) → Grows marks later
+      → RestTurns (t .variables) (atomsOf t (st .atoms)) (markedOf later (suc i) t (st .atoms)) (after t st i) 0 (t .variables)
+
+pub running-first : {t : Table} (st : State) (boards marks : List ℕ) {ss : List SignSet} → st .board .variables ≡ t .variables
+    → Ready t (setsOf (st .board)) (st .atoms) ss
+    → Running t st 0 (st .board) boards marks ss
+unfolding afterRounds
+running-first st boards marks v r = record {
+  variables = v;
+  ready = r;
+  sets = refl;
+  moves = λ i l. absurd (omega arith);
+  stored = λ i l. absurd (omega arith);
+  rests = λ i l. absurd (omega arith);
+}
+
+module _ {t : Table} {st : State} {round : ℕ} {stood next : Sets} {boards more marks later-marks : List ℕ} {ss zs : List SignSet}
+    (r : Running t st round stood boards marks ss) (s : StoredAt boards (stood .sets) round more)
+    (m : TurnsMarking t (st .atoms) (setsOf stood) (round + 1) marks next later-marks zs) where
+  next-sets : setsOf next ≡ after t st (suc round)
+  unfolding afterRounds
+  next-sets = m .turned .sets ∙ ap (λ (b : Board). turns (t .variables) (atomsOf t (st .atoms)) b 0 (t .variables)) (r .sets)
+
+  same-so : {b : Bool} → sameSets (setsOf stood) (setsOf next) ≡ b → sameSets (after t st round) (after t st (suc round)) ≡ b
+  same-so e = rw (sym (r .sets), sym next-sets) e
+
+  boards-so : (i : ℕ) → i < round + 1 → boardAt more i (t .variables) ≡ after t st i
+  boards-so =
+      below-more (λ (i : ℕ). boardAt more i (t .variables) ≡ after t st i) round (λ (i : ℕ) (l : i < round). board-before s (t .variables) i l ∙ r .stored i l)
+      (board-here s (t .variables) ∙ (rw (r .variables) at (r .sets)))
+
+  rests-so : (i : ℕ) → i < round + 1 → (later : List ℕ) → Grows later-marks later
+      → RestTurns (t .variables) (atomsOf t (st .atoms)) (markedOf later (suc i) t (st .atoms)) (after t st i) 0 (t .variables)
+  rests-so =
+      below-more (λ (i : ℕ). (later : List ℕ) → Grows later-marks later
+      → RestTurns (t .variables) (atomsOf t (st .atoms)) (markedOf later (suc i) t (st .atoms)) (after t st i) 0 (t .variables)) round
+      (λ (i : ℕ) (l : i < round) (later : List ℕ) (g : Grows later-marks later). r .rests i l later (grows-on (m .grows) g))
+      (λ (later : List ℕ) (g : Grows later-marks later).
+      subst (λ (b : Board). RestTurns (t .variables) (atomsOf t (st .atoms)) (markedOf later (suc round) t (st .atoms)) b 0 (t .variables)) (r .sets)
+      (rw (add-one round) at (m .rests later g)))
+
+  pub running-on : sameSets (setsOf stood) (setsOf next) ≡ false → Running t st (round + 1) next more later-marks zs
+  running-on e = record {
+    variables = m .turned .variables;
+    ready = m .turned .ready;
+    sets = rw (add-one round) next-sets;
+    moves = below-more (λ (i : ℕ). sameSets (after t st i) (after t st (suc i)) ≡ false) round (r .moves) (same-so e);
+    stored = boards-so;
+    rests = rests-so;
+  }
+
+  pub running-last : round < 40 → sameSets (setsOf stood) (setsOf next) ≡ true
+      → CommonOf t st (record { known = true; rounds = round + 1; boards = record { sets = more }; marks = record { first = later-marks } })
+  running-last low e = record {
+    some = omega arith;
+    most = omega arith;
+    moves = λ i l. r .moves i (omega arith);
+    still = λ i l. let last : i ≡ round = omega arith in rw last (same-so e);
+    boards = boards-so;
+    rests = λ i l. rests-so i l later-marks (grows-itself later-marks);
+  }

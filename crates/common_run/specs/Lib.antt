@@ -1,0 +1,6 @@
+pub mod Marks
+pub mod Turning
+pub mod Boards
+pub mod Run
+pub mod Known
+pub mod Counting
