@@ -1,6 +1,7 @@
 /* Placardpan for C: a lift condition block is read, simplified and written again, or refused by a number.
  * The functions are those of liblift.a, but for placardpan_evaluate, which is libevaluate.a's, and placardpan_script, which is libscript.a's; docs/LINKING.md
- * says how to link them and what a caller holds to. The converters are libconvert.a's, those for loading libloading.a's, the pool's two libpool.a's.
+ * says how to link them and what a caller holds to. The converters are libconvert.a's, those for loading libloading.a's, the pool's two libpool.a's,
+ * placardpan_why is libwhy.a's.
  *
  * A lent slice is a pointer and a length in bytes. In every call
  *   - the pointers are not null, also where the length is 0, and the bytes from each on are the caller's, as many as the length says;
@@ -152,6 +153,49 @@ static inline size_t placardpan_script_length(uint32_t answer)
 
 /* No script is longer. */
 #define PLACARDPAN_LONGEST_SCRIPT 2024782
+
+/* ---- Why is the clause gone? (request #106): the function of libwhy.a. */
+
+/* What became of an atom, for a block whose root is an atom, or an AND all of whose children are atoms. Places are those of placardpan_placed. A set has bit
+ * 0 for above 0, bit 1 for 0, bit 2 for below 0, and is that of the clause's normal form: mirrored where the polynomial's first coefficient is below 0.
+ * A field that its kind does not use is 0. The records can be checked by themselves: each named atom carries the set that its own record tells. */
+enum {
+    PLACARDPAN_KEPT = 1,     /* it stands in the answer with its own set */
+    PLACARDPAN_NARROWED = 2, /* it stands in the answer with this smaller set */
+    PLACARDPAN_MERGED = 3,   /* it has the polynomial of the atom at `place`, and its set went into that one's */
+    PLACARDPAN_REMOVED = 4,  /* the atoms at the places named say it, and no fewer of them do; none named: its terms alone say so; set 7: all signs allowed */
+    PLACARDPAN_FALSE = 5     /* the whole is false by the atoms at the places named, the same in every record, and no fewer of them do */
+};
+
+struct placardpan_reason {
+    uint8_t kind;
+    uint8_t set;
+    uint8_t place;
+    uint64_t places[4]; /* place p is bit p % 64 of word p / 64 */
+};
+
+/* So many records are always enough. */
+#define PLACARDPAN_RECORDS 255
+
+#define PLACARDPAN_NO_AND_OF_ATOMS 19 /* the root is neither an atom nor an AND of atoms */
+#define PLACARDPAN_FEW_RECORDS 20     /* fewer records are lent than the block has atoms */
+
+/* Fills the first of the lent records, one for each atom in reading order; records behind these keep their contents. The records are aligned as uint64_t.
+ * Below 256 the number of the refusal, and every record is as it was: the reader's 2 to 15 and 21 to 23, then 19, then 20; there is no 1. Else 256 plus
+ * the number of records told. A call takes some 82 KB of stack; give its thread 128 KiB or more. */
+uint32_t placardpan_why(const uint8_t *input, size_t input_length, struct placardpan_reason *records, size_t records_length);
+
+/* How many records are told, 0 on refusal. */
+static inline size_t placardpan_told(uint32_t answer)
+{
+    return answer < 256 ? 0 : answer - 256;
+}
+
+/* Whether a record names a place below 256. */
+static inline int placardpan_names(const struct placardpan_reason *reason, unsigned place)
+{
+    return (int)(reason->places[place / 64] >> place % 64 & 1);
+}
 
 /* ---- A pool of polynomials for a release (request #113): the functions of libpool.a. */
 

@@ -1,0 +1,4 @@
+pub mod Tokens
+pub mod Stepping
+pub mod Recording
+pub mod Explaining

@@ -1,0 +1,3 @@
+pub mod Filling
+pub mod Tokens
+pub mod Walking

@@ -1,0 +1,5 @@
+pub mod Flat
+pub mod Entry
+pub mod Way
+pub mod Theorems
+pub mod Exported
