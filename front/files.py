@@ -6,6 +6,7 @@ import tempfile
 from endings import Failed, Usage
 
 MOST_READ = 32768  # 01: "It reads at most 32,768 bytes of a block on standard input (.. the rest is not read)"
+MOST_OF_SCRIPT = 2024783  # the longest script and a byte: a longer text stops before its end
 
 
 def open_to_read(path):

@@ -58,8 +58,30 @@ def convert(options, words):
     return ANSWERED
 
 
+def back(options, words):
+    """A script's block, as a line of hex pairs, or with -o its bytes to a file."""
+    if len(words) > 1:
+        raise Usage("smt back [-o BLOCK] [SCRIPT]")
+    path = words[0] if words else None
+    text = files.read(path, files.MOST_OF_SCRIPT)
+    programs.build("placardpan_smt")
+    made = programs.run("placardpan_smt", ["back"], text)
+    found = re.fullmatch(rb"REFUSED ([0-9]+) ([0-9]+)\n", made)
+    if found:
+        files.put_bytes(made)
+        answers.tell_refusal(int(found.group(1)), path or "")
+        return REFUSED
+    if "o" in options:
+        files.write(options["o"], bytes.fromhex(made.decode()))
+    else:
+        files.put_bytes(made)
+    return ANSWERED
+
+
 def smt(options, words):
-    """The shortened block as an SMT-LIB script."""
+    """The shortened block as an SMT-LIB script; or, behind the word back, a script's block."""
+    if words[:1] == ["back"]:
+        return back(options, words[1:])
     if len(words) > 1:
         raise Usage("one FILE, or standard input")
     path = words[0] if words else None

@@ -105,9 +105,10 @@ COMMANDS = [
     ),
     Command(
         "smt",
-        "[-o SCRIPT] [FILE]",
-        "writes the shortened block as an SMT-LIB script",
-        "The script (docs/SMTLIB.md) goes to standard output, or with -o to a file.",
+        "[-o SCRIPT] [FILE] | smt back [-o BLOCK] [SCRIPT]",
+        "writes the shortened block as an SMT-LIB script, or a script's block",
+        "The script (docs/SMTLIB.md) goes to standard output, or with -o to a file. With `back` a script is read: its block goes to standard output as a line\n"
+        "of hex pairs, or with -o to a file; or REFUSED 25 and the position, from 0, of the first byte at which no script goes on.",
         running.smt,
         takes=("o",),
     ),

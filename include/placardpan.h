@@ -154,6 +154,14 @@ static inline size_t placardpan_script_length(uint32_t answer)
 /* No script is longer. */
 #define PLACARDPAN_LONGEST_SCRIPT 2024782
 
+/* Reads a script back (the function of libscript_back.a) and writes the block that it is the script of, in edition 1. Below 256 the number of the refusal: 25,
+ * then 1 if the output is shorter than the finished block, and the output keeps each byte; else 65,536 plus the length, which placardpan_length takes from it,
+ * and the output's first bytes are the finished block and the rest keep their values. The position, through a number of the caller's, is with 25 that of the
+ * first byte, from 0, at which no script goes on: an unfinished text stops at its length, a text with more behind it where the extra begins; else it is 0. */
+#define PLACARDPAN_NO_SCRIPT 25 /* no script goes on at the position */
+
+uint32_t placardpan_read_script(const uint8_t *text, size_t text_length, uint8_t *output, size_t output_length, size_t *position);
+
 /* ---- Why is the clause gone? (request #106): the function of libwhy.a. */
 
 /* What became of an atom, for a block whose root is an atom, or an AND all of whose children are atoms. Places are those of placardpan_placed. A set has bit

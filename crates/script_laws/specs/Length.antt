@@ -108,7 +108,7 @@ module _ (n : ℕ) (few : n ≤ 16) where
   length-summands (t ∷ ts) low (terms h hs) = rw (length-append (termText n t) (summands n ts))
       (omega (arith, length-lower t (omega (arith, h .falls, low)), length-summands ts (omega (arith, h .falls, low)) hs))
 
-  length-polynomial : (p : Polynomial) → PolynomialWithin n p → length (polynomialText n p) ≤ 7957
+  pub length-polynomial : (p : Polynomial) → PolynomialWithin n p → length (polynomialText n p) ≤ 7957
   unfolding polynomialText summands
   length-polynomial [] h = omega arith
   length-polynomial (t ∷ []) h = omega (arith, length-term t)

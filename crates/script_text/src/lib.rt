@@ -12,7 +12,7 @@ ghost use Rattle.script_laws.specs.Text.{opening, closing, nodeText, rootText, 
 ghost use Rattle.script_text.specs.Runs.{Fits};
 ghost use Rattle.script_text.specs.Tree.{storedAt, Terms, joinText, noneText, Ahead, SomeAhead, PartsPut, Stands, SomeStands, SomeRoot};
 
-mod polynomials; // terms and polynomials
+pub mod polynomials; // terms and polynomials
 mod runs; // bytes, numbers, powers
 
 use polynomials::put_polynomial;

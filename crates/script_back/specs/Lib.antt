@@ -1,0 +1,5 @@
+pub mod Runs
+pub mod Opening
+pub mod Tree
+pub mod Whole
+pub mod Back

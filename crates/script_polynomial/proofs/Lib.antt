@@ -1,0 +1,14 @@
+pub mod Runs
+pub mod Digits
+pub mod Signed
+pub mod Letters
+pub mod Factors
+pub mod Multiplied
+pub mod Beginnings
+pub mod Added
+pub mod Polynomials
+pub mod Comparing
+pub mod Copying
+pub mod Among
+pub mod Listing
+pub mod Pieces

@@ -1,0 +1,10 @@
+pub mod At
+pub mod Agreement
+pub mod Joined
+pub mod Ways
+pub mod Closing
+pub mod Found
+pub mod Letters
+pub mod Terms
+pub mod Slots
+pub mod Tabled
