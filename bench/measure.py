@@ -39,13 +39,13 @@ def emulator():
     return [] if NATIVE else [os.path.join(kit(), "bin", "qemu-x86_64")]
 
 
-def program():
-    """The words that run the proved program: under an emulator it takes the kit's loader and C library, as rt runs it."""
+def program(path=PROGRAM):
+    """The words that run a proved program: under an emulator it takes the kit's loader and C library, as rt runs it."""
     before = emulator()
     if not before:
-        return [PROGRAM]
+        return [path]
     library = os.path.join(kit(), "lib")
-    return before + [os.path.join(library, "ld-linux-x86-64.so.2"), "--library-path", library, PROGRAM]
+    return before + [os.path.join(library, "ld-linux-x86-64.so.2"), "--library-path", library, path]
 
 
 def compiler():
@@ -67,9 +67,14 @@ def build(proved=True):
     for path, more in [(PLAIN, []), (PLAIN_COUNT, ["-DCOUNT"])]:
         subprocess.run(compiler() + ["-std=c11"] + flags() + more + ["-o", path, "bench/plain.c"], check=True)
     if proved:
-        checked = subprocess.run(["rt", "check", "placardpan_repeat"], stdout=subprocess.PIPE, stderr=subprocess.STDOUT)
-        if checked.returncode:
-            sys.exit(checked.stdout.decode())
+        prove("placardpan_repeat")
+
+
+def prove(name):
+    """Proves and builds a program."""
+    checked = subprocess.run(["rt", "check", name], stdout=subprocess.PIPE, stderr=subprocess.STDOUT)
+    if checked.returncode:
+        sys.exit(checked.stdout.decode())
 
 
 def corpus(words):

@@ -15,7 +15,7 @@ import programs
 import promises
 import shortening
 import texts
-from condition import SIGNS, shown_polynomial, write_text
+from condition import atoms, write_text
 from endings import ANSWERED, REFUSED, Usage
 from refusals import meaning
 
@@ -49,6 +49,16 @@ def identity():
     return commit, files.read_text(os.path.join(programs.HERE, "KIT-ID")).strip()
 
 
+EXPLAINED = (
+    "All lines have to hold together, so each one's fate has its reason (request #106): the lines that are named suffice for it under the rules, and with any "
+    "one of them left out they no longer do. A named line that is gone itself is named with the set that it had then; following names ends at lines that are kept."
+)
+UNEXPLAINED = (
+    "This condition has an OR, so no reasons are to be had, and none is claimed. A line is told as kept or narrowed where the places of the answer name it, else "
+    "as gone: some other lines say it, it was merged into one, or all signs are allowed."
+)
+
+
 class Told:
     """What the proved programs say of one block."""
 
@@ -62,7 +72,9 @@ class Told:
         self.edition, self.variables, self.root = texts.tree_of(self.block, path)
         _, _, self.short = texts.tree_of(self.answer.block, path)
         self.names = names.of(path, self.variables)
-        self.fates = fates.by_places(self.root, self.short, self.answer.places)
+        lines = fates.lines_for(self.block)
+        self.explained = not lines[0].startswith("REFUSED")
+        self.fates = fates.by_reasons(lines) if self.explained else fates.by_places(self.root, self.short, self.answer.places)
 
 
 def facts(told):
@@ -80,17 +92,16 @@ def facts(told):
     return '<table class="facts">%s</table>' % "".join("<tr><td>%s</td><td>%s</td></tr>" % row for row in rows)
 
 
-def chart_lines(node, called, depth, found, counter):
+def chart_lines(told, node, depth, counter):
     """The chart's lines as the maker wrote them, each atom with its place and its fate."""
     indent = "&nbsp;" * (4 * depth)
     if node[0] != "atom":
         row = '<tr><td class="place"></td><td class="line">%s%s</td><td class="fate"></td></tr>' % (indent, node[0])
-        return row + "".join(chart_lines(child, called, depth + 1, found, counter) for child in node[1])
+        return row + "".join(chart_lines(told, child, depth + 1, counter) for child in node[1])
     place = next(counter)
-    fate = found[place]
-    text = html.escape("%s %s" % (shown_polynomial(called, node[1]), SIGNS[node[2]]))
-    words = html.escape(fates.in_words(called, node, fate))
-    kind = "gone" if fate.word == "GONE" else "kept"
+    text = html.escape(fates.shown_atom(told.names, node[1], node[2]))
+    words = html.escape(fates.in_words(told.names, atoms(told.root), told.fates, place))
+    kind = "kept" if told.fates[place].word in ("KEPT", "NARROWED") else "gone"
     return '<tr class="%s"><td class="place">%d</td><td class="line">%s%s</td><td class="fate">%s</td></tr>' % (kind, place, indent, text, words)
 
 
@@ -101,11 +112,8 @@ def block_section(told):
         hashed = hashlib.sha256(told.block).hexdigest()
         return '<section class="block">%s<p class="refused">Refused by number %d: %s. Nothing was written.</p><p class="hash">%d bytes, SHA-256 %s</p></section>' % (
             title, number, html.escape(meaning(number)), len(told.block), hashed)
-    rows = chart_lines(told.root, told.names, 0, told.fates, iter(range(256)))
-    source = (
-        "A line is told as kept or narrowed where the places of the answer name it, else as gone: some other lines say it, it was merged into one, or all "
-        "signs are allowed. Which, and by which lines, is not told here, and no reason is claimed."
-    )
+    rows = chart_lines(told, told.root, 0, iter(range(256)))
+    source = EXPLAINED if told.explained else UNEXPLAINED
     table = '<table><tr><th class="place">Line</th><th>As the maker wrote it</th><th class="fate">What became of it</th></tr>%s</table>' % rows
     short = html.escape(write_text(told.edition, told.names, told.short, told.answer.places))
     return '<section class="block">%s%s<h3>The chart\'s lines</h3><p>%s</p>%s<h3>The short condition</h3><p>Behind each line the chart\'s line that it comes from.</p><pre>%s</pre></section>' % (
@@ -132,8 +140,8 @@ def page_of(release):
 <h2>The release at a glance</h2><p>For each block its bytes and its atoms, before (grey) and after.</p>%s
 %s
 <h2>What is proved on this page, and what is layout</h2>
-<p class="proved">Proved: verdict, counts, rounds, new block and places. They are what the proved programs printed for these blocks; the theorems speak of those
-programs.</p>
+<p class="proved">Proved: verdict, counts, rounds, new block, places, and where all lines have to hold together what became of each and by which lines. They are
+what the proved programs printed for these blocks; the theorems speak of those programs.</p>
 <p class="layout">Layout, not proved: conditions shown as texts with names, sums and pictures, SHA-256, and this page itself.</p>
 <h2>What is not claimed</h2><ul>%s</ul>
 </body></html>

@@ -1,4 +1,5 @@
 """The commands of ./placardpan, each with its words and its help: the one source of --help, docs/USAGE.md and the completion."""
+import explaining
 import files
 import page
 import pooling
@@ -9,11 +10,12 @@ from endings import ANSWERED, FAILED, REFUSED, USAGE
 
 
 class Command:
-    """A command: its name, the words behind it, a line on what it does, more of it, its options (with a word or without), and what carries it out."""
+    """A command: its name, the words behind it, a line on what it does, more of it, what carries it out, its options (with a word or without), and
+    examples to be run in the project's folder (tools/commands-test runs them)."""
 
-    def __init__(self, name, words, does, more, carry_out, flags=(), takes=()):
+    def __init__(self, name, words, does, more, carry_out, flags=(), takes=(), examples=()):
         self.name, self.words, self.does, self.more = name, words, does, more
-        self.carry_out, self.flags, self.takes = carry_out, flags, takes
+        self.carry_out, self.flags, self.takes, self.examples = carry_out, flags, takes, examples
 
 
 def with_line(word):
@@ -38,6 +40,10 @@ COMMANDS = [
         shortening.shorten,
         flags=("plain", "places", "rounds"),
         takes=("o",),
+        examples=(
+            "./placardpan examples/load_chart.block",
+            "./placardpan shorten --plain -o short.block examples/load_chart.block",
+        ),
     ),
     Command(
         "places",
@@ -47,6 +53,9 @@ COMMANDS = [
         with_line("places"),
         flags=("plain", "rounds"),
         takes=("o",),
+        examples=(
+            "./placardpan places examples/load_chart.block",
+        ),
     ),
     Command(
         "rounds",
@@ -56,6 +65,9 @@ COMMANDS = [
         with_line("rounds"),
         flags=("plain", "places"),
         takes=("o",),
+        examples=(
+            "./placardpan rounds examples/load_chart.block",
+        ),
     ),
     Command(
         "many",
@@ -66,6 +78,9 @@ COMMANDS = [
         "Blocks share nothing, so several machines can share the work: see docs/USAGE.md.",
         shortening.many,
         takes=("jobs", "o"),
+        examples=(
+            "./placardpan many -o shorter examples/release",
+        ),
     ),
     Command(
         "text",
@@ -76,6 +91,10 @@ COMMANDS = [
         texts.text,
         flags=("short",),
         takes=("o",),
+        examples=(
+            "./placardpan text examples/load_chart.block",
+            "./placardpan text --short examples/release/chart_00.block",
+        ),
     ),
     Command(
         "block",
@@ -86,6 +105,23 @@ COMMANDS = [
         "names to the file NAME.names beside it. Nothing is shortened.",
         texts.block,
         takes=("o",),
+        examples=(
+            "./placardpan block -o chart.block examples/load_chart.txt",
+        ),
+    ),
+    Command(
+        "why",
+        "[--lines] [FILE [NAME ..]]",
+        "tells why each line of a chart whose lines have to hold together is kept, narrowed, merged or gone",
+        "The root of the block is an AND of atoms, or an atom. First the verdict, how many lines the chart has and how many are kept; then each line with what became\n"
+        "of it, and by which lines: these suffice under the rules, and with any one left out they no longer do. The names are those of the variables, as of text. With\n"
+        "--lines the proved program's own lines are printed.",
+        explaining.why,
+        flags=("lines",),
+        examples=(
+            "./placardpan why examples/limits.block",
+            "./placardpan why --lines examples/limits.block",
+        ),
     ),
     Command(
         "evaluate",
@@ -94,6 +130,10 @@ COMMANDS = [
         "With readings as words the block is on standard input. With a FILE each line on standard input has the readings of one lift, and gets a line of answer\n"
         "as it comes; a line that is not n whole numbers of 32 bits is REFUSED 16, and the stream goes on.",
         running.evaluate,
+        examples=(
+            "./placardpan evaluate examples/load_chart.block <examples/shift.readings",
+            "./placardpan evaluate 8000 90 40000 30 60 <examples/load_chart.block",
+        ),
     ),
     Command(
         "convert",
@@ -102,6 +142,10 @@ COMMANDS = [
         "The block's bytes go to standard output, or with -o to a file; its sizes are told on standard error. The formula is the same.",
         running.convert,
         takes=("o",),
+        examples=(
+            "./placardpan convert -o two.block examples/load_chart.block",
+            "./placardpan convert 1 -o one.block two.block",
+        ),
     ),
     Command(
         "smt",
@@ -111,6 +155,9 @@ COMMANDS = [
         "of hex pairs, or with -o to a file; or REFUSED 25 and the position, from 0, of the first byte at which no script goes on.",
         running.smt,
         takes=("o",),
+        examples=(
+            "./placardpan smt -o chart.smt2 examples/load_chart.block",
+        ),
     ),
     Command(
         "pool",
@@ -120,6 +167,10 @@ COMMANDS = [
         "as a text with the variables' names, and what the release saves; a script likewise with --text.",
         pooling.pool,
         flags=("text",),
+        examples=(
+            "./placardpan pool examples/release",
+            "./placardpan pool examples/release/release.calls",
+        ),
     ),
     Command(
         "load",
@@ -128,6 +179,10 @@ COMMANDS = [
         "AREA stands for the controller's memory. Prints LOADED and the length, or REFUSED and the number. With --sync each write is waited for.",
         running.load,
         flags=("sync",),
+        examples=(
+            "head -c 1024 /dev/zero | tr '\\0' '\\377' >area",
+            "./placardpan load area examples/load_chart.block",
+        ),
     ),
     Command(
         "start",
@@ -135,6 +190,9 @@ COMMANDS = [
         "the check at the start: STARTS and the length of the block in AREA, or REFUSED and the number",
         "This is the loader's check: it reads to the last bit, and what it refuses must not be started.",
         running.start,
+        examples=(
+            "./placardpan start area",
+        ),
     ),
     Command(
         "page",
@@ -144,8 +202,18 @@ COMMANDS = [
         "and meaning, and make the status 1.",
         page.page,
         takes=("out",),
+        examples=(
+            "./placardpan page --out page.html examples/release examples/limits.block",
+        ),
     ),
-    Command("completion", "", "prints a script for bash that completes these words", "Use it as: source <(./placardpan completion)", completion),
+    Command(
+        "completion",
+        "",
+        "prints a script for bash that completes these words",
+        "To be read by the shell, as in the example.",
+        completion,
+        examples=("source <(./placardpan completion)",),
+    ),
 ]
 
 STATUS = (
@@ -159,7 +227,8 @@ def find(name):
 
 
 def help_of(command):
-    return "usage: placardpan %s %s\n\n%s\n\n%s\n" % (command.name, command.words, sentence(command.does), command.more)
+    shown = "".join("  %s\n" % example for example in command.examples)
+    return "usage: placardpan %s %s\n\n%s\n\n%s\n\nFor example:\n\n%s" % (command.name, command.words, sentence(command.does), command.more, shown)
 
 
 def sentence(text):
@@ -183,7 +252,9 @@ def markdown():
     parts.append("\nOutput that programs read goes to standard output alone. `-o FILE` writes to a new file first and then moves it, so that a cut leaves the old file or\n")
     parts.append("the new one. Names of variables stand in a file `NAME.names` beside `NAME.block`, and are used wherever a person reads.\n")
     for command in COMMANDS:
-        parts.append("\n## %s\n\n    ./placardpan %s %s\n\n%s %s\n" % (command.name, command.name, command.words, sentence(command.does), command.more.replace("\n", " ")))
+        parts.append("\n## %s\n\n    ./placardpan %s\n" % (command.name, (command.name + " " + command.words).strip()))
+        parts.append("\n%s %s For example:\n\n" % (sentence(command.does), command.more.replace("\n", " ")))
+        parts.append("".join("    $ %s\n" % example for example in command.examples))
     parts.append(PARALLEL)
     return "".join(parts)
 
@@ -191,10 +262,10 @@ def markdown():
 PARALLEL = """
 ## Several machines
 
-Blocks share nothing, so a release can be shared out with GNU parallel (Debian's package `parallel`); `-S` names the machines, `:` is this one, and each has
-the project at the same place with the programs built:
+Blocks share nothing, so a release can be shared out with GNU parallel (Debian's package `parallel`). `-S` names the machines, which it reaches by ssh (`:` is
+this one); each has the project at the same place, with the programs built. Here they are called crane and yard, and take sixteen blocks at a time:
 
-    ls release/*.block | parallel -S :,other -N 16 --workdir . ./placardpan many {}
+    $ ls examples/release/*.block | parallel -S crane,yard -N 16 --workdir . ./placardpan many {}
 
-The status of `parallel` is the number of batches that ended with another status than 0.
+The status of `parallel` is the number of batches that ended with another status than 0. With `-k` behind `parallel` the lines stay in the order of the blocks.
 """
