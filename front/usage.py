@@ -157,6 +157,7 @@ COMMANDS = [
         takes=("o",),
         examples=(
             "./placardpan smt -o chart.smt2 examples/load_chart.block",
+            "./placardpan smt back -o again.block chart.smt2",
         ),
     ),
     Command(

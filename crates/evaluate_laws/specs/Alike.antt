@@ -20,7 +20,8 @@ use Rattle.rules.specs.Answer.{formulaOf, simplified, newBlock}
 use Rattle.rules.specs.Meaning.{holdsAt, wholeNumbers, holdsOver}
 use Rattle.rules.specs.Evaluate.{steps, allFit, partsFit, someIf, evaluateBy, within, fits64}
 use Rattle.sign_laws.specs.Booleans.{and-intro, and-first, and-second}
-use Rattle.normal_laws.specs.Shape.{normalForm, normalForm-twice}
+use Rattle.normal_laws.specs.Shape.{normalForm-twice}
+use Rattle.rules.specs.Polynomial.{normalForm}
 use Rattle.level_laws.specs.Written.{newBlock-keeps, new-formula}
 use Rattle.length_laws.specs.Alternation.{Join, AND, OR, Alternates, no-parts, an-atom, an-and, an-or, TreeAlternates, one-atom, one-and, one-or, tree-each, tree-alone}
 use Rattle.length_laws.specs.Formed.{Given, Formed, FormedAt}

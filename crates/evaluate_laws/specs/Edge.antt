@@ -19,7 +19,7 @@ use Rattle.rules.specs.Limits.{BlockWithin}
 use Rattle.rules.specs.Answer.{formulaOf, newBlock}
 use Rattle.rules.specs.Evaluate.{steps, allFit, within, fits64, evaluateBy}
 use Rattle.sign_laws.specs.Booleans.{and-intro, and-first, and-second}
-use Rattle.normal_laws.specs.Shape.{normalForm}
+use Rattle.rules.specs.Polynomial.{normalForm}
 use Rattle.evaluate_laws.specs.Scaled.{divided-fits, negated-within, normalForm-fits}
 use Rattle.evaluate_laws.specs.Alike.{polynomialsOf, short-answers, fits-each}
 

@@ -17,7 +17,7 @@ use Rattle.rules.specs.Evaluate.{powerSteps, termSteps, sumSteps, steps, allFit
 use Rattle.sign_laws.specs.Booleans.{and-intro, and-first, and-second}
 use Rattle.ending_laws.specs.Gcd.{DividesEach, no-terms, terms, content-divides, content-above-zero}
 use Rattle.normal_laws.specs.Keeps.{quotient-back}
-use Rattle.normal_laws.specs.Shape.{normalForm}
+use Rattle.rules.specs.Polynomial.{normalForm}
 
 -- A change that goes through sums and through products.
 record Factor (h : ℤ → ℤ) : Type 0 where

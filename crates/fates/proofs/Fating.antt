@@ -30,7 +30,7 @@ use Rattle.rounds.specs.Views.{ending}
 use Rattle.settled.specs.Remaining.{CarriedFrom}
 use Rattle.steps.specs.declared.carrying.Carrying.{Carrying}
 use Rattle.steps.specs.Carried.{Carries, LeftBy, Remains}
-use Rattle.reason_laws.specs.Reasons.{placesOf, joinAll, notFull, hasContradiction, fails, failing, leaveOut, toldFrom, carriedClauses, eachReason, eachFalse, reasonsAfter}
+use Rattle.rules.specs.Reasons.{placesOf, joinAll, notFull, hasContradiction, fails, failing, leaveOut, toldFrom, carriedClauses, eachReason, eachFalse, reasonsAfter}
 use Rattle.reason_laws.specs.SaysLess.{fails-by-more}
 use Rattle.reason_laws.specs.LeaveOut.{leaveOut-map}
 use Rattle.reason_laws.specs.Places.{Among, all-among}

@@ -10,7 +10,7 @@ use Rattle.tape.specs.declared.rows.Row.{Row}
 use Rattle.tape.specs.Row.{Lists}
 use Rattle.tape.specs.Token.{atomsIn}
 use Rattle.settled.specs.Remaining.{CarriedFrom}
-use Rattle.reason_laws.specs.Reasons.{placesOf, joinAll, toldFrom, eachReason, eachFalse}
+use Rattle.rules.specs.Reasons.{placesOf, joinAll, toldFrom, eachReason, eachFalse}
 use Rattle.reason_laws.specs.Places.{Among}
 use Rattle.reason_laws.specs.Sooner.{reasonsOf}
 use Rattle.fates.specs.declared.Fates.{Fates}

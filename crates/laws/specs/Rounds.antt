@@ -25,7 +25,7 @@ use Rattle.sign_laws.specs.Lists.{Every, every-none, every, every-append, every
 use Rattle.level_laws.specs.Same.{same-itself}
 use Rattle.ending_laws.specs.Counts.{run-at-most}
 use Rattle.removal_laws.specs.Apart.{Other, Apart, none-apart, apart, tidy-apart}
-use Rattle.normal_laws.specs.Shape.{normalForm}
+use Rattle.rules.specs.Polynomial.{normalForm}
 use Rattle.length_laws.specs.Pigeonhole.{Distinct, none-distinct, distinct, total, pigeonhole}
 use Rattle.length_laws.specs.Alternation.{AND, OR, Alternates, no-parts, an-atom, alternates-dual, Child, child, direct-atoms, or-children}
 use Rattle.length_laws.specs.Alternation.{TreeAlternates, one-atom, one-and, one-or}

@@ -13,7 +13,7 @@ use Rattle.table.specs.Table.{Table}
 use Rattle.tape.specs.declared.rows.Row.{Row}
 use Rattle.tape.specs.Row.{Lists}
 use Rattle.tape.specs.Listing.{rest-next, rest-none}
-use Rattle.reason_laws.specs.Reasons.{leaveOutFrom, leaveOut}
+use Rattle.rules.specs.Reasons.{leaveOutFrom, leaveOut}
 use Rattle.reason_laws.specs.LeaveOut.{all-later-go, next-stays, proper-later, leaveOut-short}
 use Rattle.leaving.specs.declared.Question.{Question}
 use Rattle.leaving.specs.Enough.{enoughFor, Proper, Asks, AsksEnough, AsksAll, LastEnough, LeavesOut}

@@ -16,7 +16,7 @@ use Rattle.round.specs.Views.{stateOf}
 use Rattle.rounds.specs.declared.Ran.{Ran}
 use Rattle.rounds.specs.Afresh.{AfreshFrom}
 use Rattle.rounds.specs.Views.{ending, outcomeOf}
-use Rattle.reason_laws.specs.Reasons.{hasContradiction}
+use Rattle.rules.specs.Reasons.{hasContradiction}
 use Rattle.reason_laws.specs.SaysLess.{fewer-apart, implied-by-more, contradiction-by-more}
 use Rattle.reason_laws.specs.LeaveOut.{Without, this-one, a-later-one, FewerAreLess}
 use Rattle.leaving.specs.declared.Question.{Question}

@@ -14,7 +14,7 @@ use Rattle.tape.specs.Row.{Lists}
 use Rattle.tape.specs.Token.{atomOf, atomsIn}
 use Rattle.round.specs.declared.State.{State}
 use Rattle.rounds.specs.Afresh.{AfreshFrom}
-use Rattle.reason_laws.specs.Reasons.{hasContradiction, leaveOut}
+use Rattle.rules.specs.Reasons.{hasContradiction, leaveOut}
 use Rattle.leaving.specs.declared.Question.{Question}
 
 -- A contradiction of their rounds, or that what they say of an atom lies inside its set.

@@ -10,7 +10,7 @@ ghost use Rattle.table.specs.Table.{Forms};
 ghost use Rattle.round.specs.Views.{lentTable};
 ghost use Rattle.tape.specs.Row.{Lists};
 ghost use Rattle.tape.specs.Token.{atomOf, atomsIn};
-ghost use Rattle.reason_laws.specs.Reasons.{hasContradiction};
+ghost use Rattle.rules.specs.Reasons.{hasContradiction};
 ghost use Rattle.leaving.specs.Enough.{enoughFor, Holding, Carrying, Asks, AsksEnough, AsksAll, LastEnough, LeavesOut};
 use ahead::no_order;
 use round::State;

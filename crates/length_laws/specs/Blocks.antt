@@ -14,7 +14,7 @@ use Rattle.rules.specs.Block.{NumberedAtom}
 use Rattle.rules.specs.Limits.{PartsWithin}
 use Rattle.rules.specs.Answer.{lookedUp, numbered}
 use Rattle.sign_laws.specs.Lists.{loaded-member}
-use Rattle.normal_laws.specs.Shape.{normalForm}
+use Rattle.rules.specs.Polynomial.{normalForm}
 use Rattle.length_laws.specs.Alternation.{Join, AND, OR, other, Alternates, no-parts, an-atom, an-and, an-or, TreeAlternates, one-atom, one-and, one-or}
 use Rattle.length_laws.specs.Formed.{Given, Formed}
 use Rattle.length_laws.specs.Table.{Listed, number-within}

@@ -10,7 +10,8 @@ use Rattle.rules.specs.Signs.{SignSet, full, complement, intersect}
 use Rattle.rules.specs.Polynomial.{Polynomial, Atom, normal, constant}
 use Rattle.rules.specs.Level.{Placed, plain, withSet, complemented, normalPlaced}
 use Rattle.sign_laws.specs.Sets.{intersect-below, complement-below}
-use Rattle.normal_laws.specs.Shape.{normalForm, normal-small, normal-alike}
+use Rattle.normal_laws.specs.Shape.{normal-small, normal-alike}
+use Rattle.rules.specs.Polynomial.{normalForm}
 
 -- A set of three bits.
 pub record Small (s : SignSet) : Type 0 where

@@ -12,7 +12,8 @@ use Rattle.rules.specs.Formula.{Parts, Node, alone, eachAtom, eachAtomOf, open-
 use Rattle.rules.specs.Answer.{knows, addedUnless, used, unlessConstant, withoutConstants, formsUsed}
 use Rattle.sign_laws.specs.Lists.{Every, every-none, every}
 use Rattle.ending_laws.specs.Nestings.{alone-each}
-use Rattle.normal_laws.specs.Shape.{normalForm, normalForm-twice, normal-alike}
+use Rattle.normal_laws.specs.Shape.{normalForm-twice, normal-alike}
+use Rattle.rules.specs.Polynomial.{normalForm}
 use Rattle.level_laws.specs.Same.{same-equal}
 use Rattle.length_laws.specs.Alternation.{Join, AND, Alternates, no-parts, an-atom, an-and, an-or, alternates-each, alternates-beside}
 use Rattle.length_laws.specs.Alternation.{TreeAlternates, one-atom, one-and, one-or, tree-alone}

@@ -18,7 +18,7 @@ use Rattle.rules.specs.Level.{carry, unlessDropped, prunedIf, prune, addPruned,
 use Rattle.rules.specs.Level.{afterRounds, afterTidy, settle}
 use Rattle.rules.specs.Level.{innerAll, settled-down, afterGather, andRule, nodeIf, asNode, simplify, open-level}
 use Rattle.sign_laws.specs.Lists.{Every, every-none, every, every-append, every-wider}
-use Rattle.normal_laws.specs.Shape.{normalForm}
+use Rattle.rules.specs.Polynomial.{normalForm}
 use Rattle.length_laws.specs.Alternation.{AND, OR, Alternates, no-parts, an-atom, an-and, an-or, deeper, alternates-dual, Child, child}
 use Rattle.length_laws.specs.Alternation.{child-deeper, direct-atoms, or-children, alternates-parts, TreeAlternates, one-atom, one-and, one-or}
 use Rattle.length_laws.specs.Alternation.{tree-dual}

@@ -19,7 +19,7 @@ use Rattle.rules.specs.Answer.{lookedUp, formulaOf, used, numbered, blockOf, fo
 use Rattle.sign_laws.specs.Lists.{Every, every-none}
 use Rattle.level_laws.specs.Written.{placedTree-plain}
 use Rattle.block_laws.specs.Sizes.{polynomialBits, same-bits, no-longer}
-use Rattle.normal_laws.specs.Shape.{normalForm}
+use Rattle.rules.specs.Polynomial.{normalForm}
 use Rattle.length_laws.specs.Weight.{weight, one, weight-nodes, weight-atoms, weight-each-of}
 use Rattle.length_laws.specs.Shorter.{simplify-lighter}
 use Rattle.length_laws.specs.Alternation.{TreeAlternates, tree-each, tree-alone}

@@ -11,7 +11,7 @@ use Rattle.rules.specs.Limits.{BlockWithin}
 use Rattle.rules.specs.Answer.{formulaOf, used, blockOf, withoutConstants, formsUsed, simplified, newBlock}
 use Rattle.sign_laws.specs.Lists.{Every, every-wider}
 use Rattle.ending_laws.specs.Nestings.{alone-each}
-use Rattle.normal_laws.specs.Shape.{normalForm}
+use Rattle.rules.specs.Polynomial.{normalForm}
 use Rattle.level_laws.specs.Written.{new-formula}
 use Rattle.length_laws.specs.Alternation.{tree-alone}
 use Rattle.length_laws.specs.Pigeonhole.{every-member, Distinct}

@@ -20,7 +20,8 @@ use Rattle.rules.specs.Limits.{BlockWithin}
 use Rattle.rules.specs.Answer.{formulaOf, simplified, newBlock, newPlaces}
 use Rattle.rules.specs.Demands.{atomsOf, noAtom, formAtPlace, PlacesName}
 use Rattle.sign_laws.specs.Lists.{Every, every-none, every, every-append}
-use Rattle.normal_laws.specs.Shape.{normalForm, normal-alike, normalForm-twice}
+use Rattle.normal_laws.specs.Shape.{normal-alike, normalForm-twice}
+use Rattle.rules.specs.Polynomial.{normalForm}
 use Rattle.ending_laws.specs.Nestings.{alone-each}
 use Rattle.level_laws.specs.Written.{new-formula}
 use Rattle.length_laws.specs.Pigeonhole.{total, total-append}

@@ -14,7 +14,7 @@ use Rattle.rules.specs.Polynomial.{onlyIf, constant}
 use Rattle.rules.specs.Level.{Placed}
 use Rattle.table.specs.Table.{Table, formAt, Forms}
 use Rattle.table.specs.Constants.{many-terms, no-terms, one-term}
-use Rattle.reason_laws.specs.Reasons.{joinConstant, joinNormal}
+use Rattle.rules.specs.Reasons.{joinConstant, joinNormal}
 use Rattle.merging.specs.declared.Truth.the-variants.{Open}
 use Rattle.tape.specs.Token.{slot, atomOf}
 use Rattle.merging.specs.Merged.{truthIf, afterTruth, TruthIs}

@@ -19,7 +19,7 @@ use Rattle.tape.specs.Row.{Lists}
 use Rattle.tape.specs.Token.{slot, place, atomOf, atomsIn}
 use Rattle.tape.specs.Listing.{held-at, rest-next, rest-none}
 use Rattle.tape.specs.Entering.{map-append, same-place}
-use Rattle.reason_laws.specs.Reasons.{joinNormal, joinAll, unlessFull, notFull}
+use Rattle.rules.specs.Reasons.{joinNormal, joinAll, unlessFull, notFull}
 use Rattle.merging.specs.declared.Truth.{Truth}
 use Rattle.merging.specs.declared.Truth.the-variants.{Open, True, False}
 use Rattle.merging.specs.Merged.{afterTruth, TruthIs, Sparse, MergesInto, Joins, JoinsAll, NotFull}

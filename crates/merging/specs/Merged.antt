@@ -11,7 +11,7 @@ use Rattle.table.specs.Table.{Table}
 use Rattle.tape.specs.declared.rows.Row.{Row}
 use Rattle.tape.specs.Row.{Lists}
 use Rattle.tape.specs.Token.{slot, atomOf, atomsIn}
-use Rattle.reason_laws.specs.Reasons.{joinNormal, joinAll, notFull}
+use Rattle.rules.specs.Reasons.{joinNormal, joinAll, notFull}
 use Rattle.merging.specs.declared.Truth.{Truth}
 use Rattle.merging.specs.declared.Truth.the-variants.{Open, True, False}
 

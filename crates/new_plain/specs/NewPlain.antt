@@ -11,9 +11,9 @@ use Rattle.ending_laws.specs.Shapes.{children-each}
 use Rattle.length_laws.specs.Alternation.{Join, TreeAlternates}
 use Rattle.length_laws.specs.NeverLonger.{formula-given}
 use Rattle.length_laws.specs.Blocks.{tree-placed}
-use Rattle.script_laws.specs.Text.{scriptOf, PlainParts, PlainTree, plain-true, plain-false, plain-tree, Plain}
-use Rattle.script_laws.specs.Reader.{held}
-use Rattle.script_laws.specs.Reading.{readText}
+use Rattle.rules.specs.Text.{scriptOf, PlainParts, PlainTree, plain-true, plain-false, plain-tree, Plain}
+use Rattle.rules.specs.Reader.{held}
+use Rattle.rules.specs.Reading.{readText}
 use Rattle.script_laws.specs.NewBlock.{new-plain-if}
 use Rattle.script_laws.specs.Laws.{text-reads-back}
 use Rattle.new_plain.specs.Solid.{Low, Solid, solid-end, solid-atom, solid-and, solid-or, SolidTree, solid-true, solid-false, solid-leaf, solid-all, solid-any, simplify-solid}

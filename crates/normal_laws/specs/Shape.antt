@@ -10,7 +10,7 @@ use lib.IntN.{pos, negℤ, natAbs}
 use lib.ListN.{length}
 use lib.Signed.{quotZ}
 use Rattle.rules.specs.Signs.{SignSet, full}
-use Rattle.rules.specs.Polynomial.{Term, Polynomial, Atom, eachCoefficient, divided, firstIsNegative, turned, normal}
+use Rattle.rules.specs.Polynomial.{normalForm, Term, Polynomial, Atom, eachCoefficient, divided, firstIsNegative, turned, normal}
 use Rattle.rules.specs.Limits.{TermWithin, TermsWithin, no-terms, terms, PolynomialWithin}
 use Rattle.sign_laws.specs.Sets.{mirror-below}
 use Rattle.ending_laws.specs.Gcd.{DividesEach, content-divides}
@@ -126,10 +126,6 @@ turned-small false p s h = h
 pub normal-small : (a : Atom) → a .set < 8 → normal a .set < 8
 unfolding normal
 normal-small a h = turned-small (firstIsNegative (divided (a .polynomial))) (divided (a .polynomial)) (a .set) h
-
--- The normal form of a polynomial, which needs no set.
-unfoldable pub normalForm : Polynomial → Polynomial
-normalForm p = normal (record { polynomial = p; set = full }) .polynomial
 
 turned-alike : (b : Bool) (p : Polynomial) (s t : SignSet) → turned b p s .polynomial ≡ turned b p t .polynomial
 unfolding turned

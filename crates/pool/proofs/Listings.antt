@@ -13,7 +13,7 @@ use lib.ListN.{length, getD, set}
 use lib.Seq.{getD-set-same, getD-set-other}
 use borrow.Author.Tests.{eq-eqb, ne-eqb, lt-ltb, le-ltb}
 use Rattle.rules.specs.Polynomial.{Polynomial}
-use Rattle.pool_laws.specs.Pool.{either, Slot, stores, formsInUse}
+use Rattle.rules.specs.Pool.{either, Slot, stores, formsInUse}
 use Rattle.pool_laws.specs.Places.{firstPlace, newForms}
 use Rattle.terms.specs.View.{numbersFrom, termsFrom, numbers-cons, numbers-nil}
 use Rattle.forms.specs.Slots.{slotOf}

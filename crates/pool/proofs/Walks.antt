@@ -13,7 +13,7 @@ use lib.ListN.{length, getD, set}
 use Rattle.rules.specs.Polynomial.{Polynomial, sameNumber, same}
 use Rattle.rules.specs.Answer.{knows}
 use Rattle.sign_laws.specs.Booleans.{and-false, both-ways}
-use Rattle.pool_laws.specs.Pool.{either, Slot, isFree, stores, formsInUse}
+use Rattle.rules.specs.Pool.{either, Slot, isFree, stores, formsInUse}
 use Rattle.pool_laws.specs.Places.{firstPlace, usedSlots, someStores, known-stores, placeFor}
 use Rattle.terms.specs.View.{termsFrom}
 use Rattle.pool.specs.Coefficients.{coefficientOf, coefficientWord}

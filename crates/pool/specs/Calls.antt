@@ -11,7 +11,7 @@ use lib.Seq.{sets, length-sets, getD-set-same, getD-set-other, set-out}
 use borrow.Author.Tests.{ltb-true, ltb-false, eqb-true, eqb-false}
 use Rattle.rules.specs.Polynomial.{Polynomial}
 use Rattle.sign_laws.specs.Lists.{Every, every-none, every}
-use Rattle.pool_laws.specs.Pool.{either, count, Slot, Pool, cleared, slotOf, marked, listForm, listForms, unlessUnused, unmarked, unlessNone}
+use Rattle.rules.specs.Pool.{either, count, Slot, Pool, cleared, slotOf, marked, listForm, listForms, unlessUnused, unmarked, unlessNone}
 use Rattle.pool_laws.specs.Places.{placeFor, list-at}
 use Rattle.terms.specs.View.{few}
 use Rattle.pool.specs.Marks.{marks, rowWord, marks-length, marks-of-word}

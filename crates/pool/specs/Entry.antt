@@ -13,8 +13,8 @@ use Rattle.rules.specs.Polynomial.{Polynomial}
 use Rattle.rules.specs.Block.{Block, Stream, Reading, refused, read, readBlock}
 use Rattle.sign_laws.specs.Booleans.{and-first}
 use Rattle.sign_laws.specs.Lists.{Every}
-use Rattle.pool_laws.specs.Pool.{together, formsListed, Outcome, unlessRefused, either, count, Pool, formsInUse, listForms, addBlock, addReading, add}
-use Rattle.pool_laws.specs.Pool.{unmarked, unlessNone, withdraw, listedOf}
+use Rattle.rules.specs.Pool.{together, formsListed, Outcome, unlessRefused, either, count, Pool, formsInUse, listForms, addBlock, addReading, add}
+use Rattle.rules.specs.Pool.{unmarked, unlessNone, withdraw, listedOf}
 use Rattle.pool_laws.specs.Holds.{listed-once}
 use Rattle.pool_laws.specs.Places.{usedSlots, used-length, newForms, together-length}
 use Rattle.pool.specs.Marks.{marks, rowWord, none-left}

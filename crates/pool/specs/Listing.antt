@@ -14,8 +14,8 @@ use Rattle.rules.specs.Polynomial.{Polynomial, same, onlyIf, constant}
 use Rattle.rules.specs.Block.{Block}
 use Rattle.rules.specs.Answer.{knows, addedUnless, unlessConstant, withoutConstants}
 use Rattle.sign_laws.specs.Lists.{Every, every-none, every, every-append}
-use Rattle.normal_laws.specs.Shape.{normalForm}
-use Rattle.pool_laws.specs.Pool.{together, formsListed}
+use Rattle.rules.specs.Polynomial.{normalForm}
+use Rattle.rules.specs.Pool.{together, formsListed}
 use Rattle.pool_laws.specs.Listed.{constant-form}
 use Rattle.terms.specs.View.{numbersFrom, termsFrom}
 

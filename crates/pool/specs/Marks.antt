@@ -11,7 +11,7 @@ use lib.Pow.{pow-pos, pow-lt}
 use lib.ListN.{length, getD, set}
 use borrow.Author.Tests.{eq-eqb, ne-eqb, eqb-true, eqb-false}
 use Rattle.sign_laws.specs.Booleans.{both-ways}
-use Rattle.pool_laws.specs.Pool.{count, unlessNone}
+use Rattle.rules.specs.Pool.{count, unlessNone}
 use Rattle.pool_laws.specs.Rows.{set-same}
 
 -- The first k marks of a word.

@@ -13,8 +13,8 @@ use Rattle.rules.specs.Polynomial.{Polynomial, Atom, same, constant}
 use Rattle.rules.specs.Formula.{leaf}
 use Rattle.rules.specs.Block.{Block}
 use Rattle.sign_laws.specs.Lists.{Every, every-none, every}
-use Rattle.normal_laws.specs.Shape.{normalForm}
-use Rattle.pool_laws.specs.Pool.{formsListed}
+use Rattle.rules.specs.Polynomial.{normalForm}
+use Rattle.rules.specs.Pool.{formsListed}
 use Rattle.terms.specs.View.{numbersFrom, termsFrom}
 use Rattle.table.specs.Table.{formAt}
 use Rattle.forms.specs.declared.WorkingTable.{WorkingTable}

@@ -8,8 +8,8 @@ use native.Mathlib.Omega.{arith}
 use borrow.Author.Tests.{le-leb}
 use lib.ListN.{length, getD, set, replicate, length-replicate, length-set}
 use Rattle.rules.specs.Block.{Block, Reading, refused, read, readBlock}
-use Rattle.pool_laws.specs.Pool.{count, Slot, slotOf, Pool, cleared, emptyPool, Outcome, unlessRefused, unlessNone, formsListed, add, withdraw, emptyRelease}
-use Rattle.pool_laws.specs.Pool.{Call, addition, withdrawal, called, releaseCalled, afterAll, refusals}
+use Rattle.rules.specs.Pool.{count, Slot, slotOf, Pool, cleared, emptyPool, Outcome, unlessRefused, unlessNone, formsListed, add, withdraw, emptyRelease}
+use Rattle.rules.specs.Pool.{Call, addition, withdrawal, called, releaseCalled, afterAll, refusals}
 use Rattle.pool_laws.specs.Holds.{Holds}
 use Rattle.pool_laws.specs.Calls.{holds-empty, sequence-follows}
 use Rattle.pool.specs.Marks.{marks, rowWord}

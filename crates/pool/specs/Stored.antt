@@ -11,7 +11,7 @@ use lib.IntN.{ℤ}
 use lib.ListN.{length, getD, set, replicate, length-set, getD-replicate, length-replicate}
 use lib.Seq.{sets, length-sets, getD-set-same, getD-set-other}
 use Rattle.rules.specs.Polynomial.{Term, Polynomial}
-use Rattle.pool_laws.specs.Pool.{either, count, Slot, cleared, slotOf, unlessUnused, unmarked}
+use Rattle.rules.specs.Pool.{either, count, Slot, cleared, slotOf, unlessUnused, unmarked}
 use Rattle.terms.specs.View.{few}
 use Rattle.pool.specs.Marks.{marks, rowWord, marks-length, marks-of-word}
 use Rattle.pool.specs.Coefficients.{coefficientOf, coefficientWord, word-back}

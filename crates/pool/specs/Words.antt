@@ -7,7 +7,7 @@ use lib.Dec.{eqb, ltb}
 use lib.IntN.{ℤ}
 use lib.ListN.{length, getD, set}
 use Rattle.rules.specs.Polynomial.{Term, Polynomial}
-use Rattle.pool_laws.specs.Pool.{either, count, Slot, Pool, slotOf, unlessNone}
+use Rattle.rules.specs.Pool.{either, count, Slot, Pool, slotOf, unlessNone}
 use Rattle.pool_laws.specs.Places.{placeFor}
 use Rattle.terms.specs.View.{few}
 use Rattle.pool.specs.Marks.{marks, rowWord}

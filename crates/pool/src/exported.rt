@@ -1,7 +1,7 @@
 // The entries for C, declared in `include/placardpan.h`: to C the pool is a pointer to words and how many there are, and each outcome is one number.
 // 0 is done, any other is the number of the refusal.
 ghost use Rattle.rules.specs.Block.{readBlock};
-ghost use Rattle.pool_laws.specs.Pool.{add as addBook, withdraw as withdrawBook};
+ghost use Rattle.rules.specs.Pool.{add as addBook, withdraw as withdrawBook};
 ghost use Rattle.pool.specs.Words.{poolOf, withdrawnWords};
 ghost use Rattle.pool.specs.Entry.{Gives, entered, addedRead};
 use crate::add;

@@ -6,7 +6,7 @@ ghost use Prim.Native.Nat.{_≤_, _<_};
 ghost use lib.Dec.{eqb, ltb};
 ghost use lib.ListN.{length, getD};
 ghost use Rattle.rules.specs.Block.{readBlock};
-ghost use Rattle.pool_laws.specs.Pool.{count as marked, formsListed, formsInUse, addBlock, add as addBook, unlessNone, withdraw as withdrawBook};
+ghost use Rattle.rules.specs.Pool.{count as marked, formsListed, formsInUse, addBlock, add as addBook, unlessNone, withdraw as withdrawBook};
 ghost use Rattle.pool_laws.specs.Places.{newForms};
 ghost use Rattle.terms.specs.View.{numbersFrom};
 ghost use Rattle.forms.specs.Working.{TableRead};

@@ -6,7 +6,7 @@ ghost use Prim.Native.Nat.{_+_, _*_, _≤_, _<_};
 ghost use lib.Dec.{eqb};
 ghost use lib.ListN.{length, getD};
 ghost use Rattle.rules.specs.Polynomial.{sameNumber, same};
-ghost use Rattle.pool_laws.specs.Pool.{isFree, stores as storesIn};
+ghost use Rattle.rules.specs.Pool.{isFree, stores as storesIn};
 ghost use Rattle.pool_laws.specs.Places.{firstPlace, placeFor, usedSlots};
 ghost use Rattle.terms.specs.View.{few, termsFrom};
 ghost use Rattle.pool.specs.Coefficients.{coefficientOf};

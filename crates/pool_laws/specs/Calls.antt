@@ -13,10 +13,10 @@ use borrow.Author.Tests.{ltb-true, leb-true, not-true}
 use Rattle.rules.specs.Polynomial.{Polynomial}
 use Rattle.rules.specs.Block.{Block, Reading, refused, read, readBlock}
 use Rattle.rules.specs.Answer.{knows}
-use Rattle.pool_laws.specs.Pool.{together, formsListed, Outcome, unlessRefused, either, count, Slot, Pool, cleared, emptyPool, isFree, formsInUse}
-use Rattle.pool_laws.specs.Pool.{listForms, addBlock, addReading, add}
-use Rattle.pool_laws.specs.Pool.{unmarked, unlessNone, withdraw, Release, emptyRelease, isPresent, allowsAll, listedOf, releaseForms, lists, listings}
-use Rattle.pool_laws.specs.Pool.{releaseBlock, releaseReading, withdrawn, Call, addition, withdrawal, called, releaseCalled, afterAll, refusals}
+use Rattle.rules.specs.Pool.{together, formsListed, Outcome, unlessRefused, either, count, Slot, Pool, cleared, emptyPool, isFree, formsInUse}
+use Rattle.rules.specs.Pool.{listForms, addBlock, addReading, add}
+use Rattle.rules.specs.Pool.{unmarked, unlessNone, withdraw, Release, emptyRelease, isPresent, allowsAll, listedOf, releaseForms, lists, listings}
+use Rattle.rules.specs.Pool.{releaseBlock, releaseReading, withdrawn, Call, addition, withdrawal, called, releaseCalled, afterAll, refusals}
 use Rattle.sign_laws.specs.Booleans.{and-first, and-second}
 use Rattle.sign_laws.specs.Lists.{Every, every-none, every, every-set, every-replicate}
 use Rattle.length_laws.specs.Pigeonhole.{Distinct, none-distinct}

@@ -15,9 +15,9 @@ use borrow.Author.Tests.{ltb-true, lt-ltb, leb-true, leb-false, le-leb, eq-eqb}
 use Rattle.rules.specs.Polynomial.{Polynomial}
 use Rattle.rules.specs.Block.{Block}
 use Rattle.rules.specs.Answer.{knows}
-use Rattle.pool_laws.specs.Pool.{together, formsListed, Outcome, unlessRefused, either, count, Slot, Pool, cleared, emptyPool, isFree, formsInUse, slotOf}
-use Rattle.pool_laws.specs.Pool.{addBlock, withdraw}
-use Rattle.pool_laws.specs.Pool.{Release, isPresent, allowsAll, listedOf, releaseForms, lists, listings, releaseBlock, withdrawn}
+use Rattle.rules.specs.Pool.{together, formsListed, Outcome, unlessRefused, either, count, Slot, Pool, cleared, emptyPool, isFree, formsInUse, slotOf}
+use Rattle.rules.specs.Pool.{addBlock, withdraw}
+use Rattle.rules.specs.Pool.{Release, isPresent, allowsAll, listedOf, releaseForms, lists, listings, releaseBlock, withdrawn}
 use Rattle.sign_laws.specs.Booleans.{or-second}
 use Rattle.sign_laws.specs.Lists.{Every, every-none, every, every-set, every-getD}
 use Rattle.length_laws.specs.Pigeonhole.{Distinct, every-member}

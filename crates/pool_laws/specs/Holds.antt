@@ -14,8 +14,8 @@ use borrow.Author.Tests.{eqb-true}
 use Rattle.rules.specs.Polynomial.{Polynomial}
 use Rattle.rules.specs.Block.{Block}
 use Rattle.rules.specs.Answer.{knows}
-use Rattle.pool_laws.specs.Pool.{together, formsListed, count, Slot, Pool, cleared, isFree, formsInUse, slotOf}
-use Rattle.pool_laws.specs.Pool.{Release, isPresent, allows, allowsAll, listedOf, releaseForms, lists, listings}
+use Rattle.rules.specs.Pool.{together, formsListed, count, Slot, Pool, cleared, isFree, formsInUse, slotOf}
+use Rattle.rules.specs.Pool.{Release, isPresent, allows, allowsAll, listedOf, releaseForms, lists, listings}
 use Rattle.sign_laws.specs.Booleans.{and-true, and-first, and-second, or-true, never-both}
 use Rattle.sign_laws.specs.Lists.{Every, every-none, every}
 use Rattle.length_laws.specs.Pigeonhole.{Distinct, none-distinct}

@@ -1,5 +1,3 @@
-pub mod Pool
-pub mod PoolCases
 pub mod Known
 pub mod Together
 pub mod Rows

@@ -14,10 +14,11 @@ use Rattle.rules.specs.Signs.{full}
 use Rattle.rules.specs.Block.{Block}
 use Rattle.rules.specs.Limits.{PolynomialWithin, TableWithin, no-polynomials, polynomials}
 use Rattle.rules.specs.Answer.{knows, addedUnless, unlessConstant, withoutConstants}
-use Rattle.pool_laws.specs.Pool.{together, formsListed}
+use Rattle.rules.specs.Pool.{together, formsListed}
 use Rattle.sign_laws.specs.Booleans.{both-ways}
 use Rattle.sign_laws.specs.Lists.{Every, every-none, every, every-wider}
-use Rattle.normal_laws.specs.Shape.{normalForm, Shape, shape-end, shape, normal-shape, normalForm-twice, normalForm-within}
+use Rattle.normal_laws.specs.Shape.{Shape, shape-end, shape, normal-shape, normalForm-twice, normalForm-within}
+use Rattle.rules.specs.Polynomial.{normalForm}
 use Rattle.length_laws.specs.Pigeonhole.{every-member}
 use Rattle.pool_laws.specs.Known.{member-knows}
 use Rattle.length_laws.specs.FormsUsed.{without-every, without-keeps}

@@ -9,7 +9,7 @@ use native.Mathlib.Omega.{arith}
 use lib.ListN.{length, getD, set, length-append}
 use Rattle.rules.specs.Polynomial.{Polynomial, same}
 use Rattle.rules.specs.Answer.{knows, addedUnless}
-use Rattle.pool_laws.specs.Pool.{together, either, Slot, cleared, isFree, stores, formsInUse, changeFirst, marked, listForm}
+use Rattle.rules.specs.Pool.{together, either, Slot, cleared, isFree, stores, formsInUse, changeFirst, marked, listForm}
 use Rattle.sign_laws.specs.Booleans.{never-true}
 use Rattle.level_laws.specs.Same.{same-equal}
 use Rattle.length_laws.specs.Pigeonhole.{Distinct, none-distinct, distinct}

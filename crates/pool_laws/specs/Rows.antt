@@ -5,7 +5,7 @@ use mathlib.Core.List.{List, [], _∷_, map}
 use Prim.Native.Nat.{ℕ, zero, suc, _<_, _≤_}
 use native.Mathlib.Omega.{arith}
 use lib.ListN.{length, getD, set, replicate}
-use Rattle.pool_laws.specs.Pool.{count}
+use Rattle.rules.specs.Pool.{count}
 
 -- A mark that is set is one.
 pub count-marked : (row : List Bool) (i : ℕ) → i < length row → 0 < count (set row i true)

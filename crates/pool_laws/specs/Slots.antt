@@ -13,8 +13,8 @@ use lib.Seq.{set-set}
 use borrow.Author.Tests.{eqb-true, eq-eqb, ne-eqb}
 use Rattle.rules.specs.Polynomial.{Polynomial, same}
 use Rattle.rules.specs.Answer.{knows}
-use Rattle.pool_laws.specs.Pool.{together, either, count, Slot, cleared, isFree, stores, formsInUse, slotOf, changeFirst, marked, listForm, listForms}
-use Rattle.pool_laws.specs.Pool.{unlessUnused, unmarked}
+use Rattle.rules.specs.Pool.{together, either, count, Slot, cleared, isFree, stores, formsInUse, slotOf, changeFirst, marked, listForm, listForms}
+use Rattle.rules.specs.Pool.{unlessUnused, unmarked}
 use Rattle.sign_laws.specs.Booleans.{never-both, never-true}
 use Rattle.sign_laws.specs.Lists.{Every, every-none, every, every-wider}
 use Rattle.level_laws.specs.Same.{same-equal, same-itself}

@@ -11,7 +11,7 @@ use native.Mathlib.Omega.{arith}
 use lib.ListN.{length, length-append}
 use Rattle.rules.specs.Polynomial.{Polynomial}
 use Rattle.rules.specs.Answer.{knows, addedUnless}
-use Rattle.pool_laws.specs.Pool.{together}
+use Rattle.rules.specs.Pool.{together}
 use Rattle.sign_laws.specs.Lists.{Every, every-none, every}
 use Rattle.length_laws.specs.Pigeonhole.{Distinct, total, pigeonhole}
 use Rattle.pool_laws.specs.Known.{member-knows, addedUnless-distinct}

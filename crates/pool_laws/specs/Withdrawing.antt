@@ -7,7 +7,7 @@ use Prim.Native.Nat.{ℕ, zero, suc, _<_}
 use native.Mathlib.Omega.{arith}
 use lib.ListN.{length, set, replicate, length-set, length-map}
 use Rattle.rules.specs.Polynomial.{Polynomial}
-use Rattle.pool_laws.specs.Pool.{count, Slot, cleared, isFree, formsInUse, slotOf, unlessUnused, unmarked}
+use Rattle.rules.specs.Pool.{count, Slot, cleared, isFree, formsInUse, slotOf, unlessUnused, unmarked}
 use Rattle.sign_laws.specs.Booleans.{never-both}
 use Rattle.sign_laws.specs.Lists.{Every, every-none, every}
 use Rattle.length_laws.specs.Pigeonhole.{Distinct, none-distinct, distinct}

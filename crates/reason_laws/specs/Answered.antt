@@ -18,8 +18,8 @@ use Rattle.sign_laws.specs.Lists.{Every, every}
 use Rattle.ending_laws.specs.Rounds.{run-idle}
 use Rattle.level_laws.specs.Same.{same-equal}
 use Rattle.removal_laws.specs.Rounds.{LowAtoms}
-use Rattle.reason_laws.specs.Reasons.{placesOf, clausesFrom, joined, mergedList, hasContradiction, fails, failing, Fate, stays, goes, Told, toldFrom, carriedClauses}
-use Rattle.reason_laws.specs.Reasons.{Reason, keptWith, narrowedTo, mergedInto, removedBy, keptOrNarrowed, reasonOf, orPlace, placeOf, eachFalse, reasons}
+use Rattle.rules.specs.Reasons.{placesOf, clausesFrom, joined, mergedList, hasContradiction, fails, failing, Fate, stays, goes, Told, toldFrom, carriedClauses}
+use Rattle.rules.specs.Reasons.{Reason, keptWith, narrowedTo, mergedInto, removedBy, keptOrNarrowed, reasonOf, orPlace, placeOf, eachFalse, reasons}
 use Rattle.reason_laws.specs.Named.{JustImplies, JustFails, TrueFate, TrulyTold, staying}
 use Rattle.reason_laws.specs.Explained.{andOf, answerTo, whole-false, explained}
 use Rattle.reason_laws.specs.Places.{carriedClauses-among}

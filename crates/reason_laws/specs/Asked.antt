@@ -19,8 +19,8 @@ use Rattle.sign_laws.specs.Lists.{Every, every-none, every}
 use Rattle.block_laws.specs.Blocks.{accepted-within}
 use Rattle.level_laws.specs.Holding.{atomsHold}
 use Rattle.removal_laws.specs.Rounds.{LowAtoms}
-use Rattle.reason_laws.specs.Reasons.{placesOf, clausesFrom, joined, mergedList, fails, failing, carriedClauses, Reason, eachFalse, reasons}
-use Rattle.reason_laws.specs.Reasons.{withFirst, onlyAtoms, atomsOfAnd}
+use Rattle.rules.specs.Reasons.{placesOf, clausesFrom, joined, mergedList, fails, failing, carriedClauses, Reason, eachFalse, reasons}
+use Rattle.rules.specs.Reasons.{withFirst, onlyAtoms, atomsOfAnd}
 use Rattle.reason_laws.specs.Named.{JustFails}
 use Rattle.reason_laws.specs.Merged.{asRead}
 use Rattle.reason_laws.specs.Explained.{andOf, answerTo, root-atom, root-and, whole-false, explained}

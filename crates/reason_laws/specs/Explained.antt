@@ -15,8 +15,8 @@ use Rattle.level_laws.specs.Carried.{carried-plain}
 use Rattle.removal_laws.specs.Rounds.{LowAtoms}
 use Rattle.removal_laws.specs.Starts.{run-carries}
 use Rattle.removal_laws.specs.Apart.{Apart, carries-apart, tidy-apart}
-use Rattle.reason_laws.specs.Reasons.{placesOf, clausesFrom, joined, mergedList, hasContradiction, fails, failing, toldFrom, carriedClauses}
-use Rattle.reason_laws.specs.Reasons.{eachReason, eachFalse, reasonsAfter, reasons}
+use Rattle.rules.specs.Reasons.{placesOf, clausesFrom, joined, mergedList, hasContradiction, fails, failing, toldFrom, carriedClauses}
+use Rattle.rules.specs.Reasons.{eachReason, eachFalse, reasonsAfter, reasons}
 use Rattle.reason_laws.specs.Named.{JustFails, just-fails, TrulyTold, truly-told, staying, staying-is-kept}
 use Rattle.reason_laws.specs.Merged.{asRead, Tidy, AgreesInAll, merged-agrees, merged-low}
 

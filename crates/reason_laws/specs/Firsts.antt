@@ -14,7 +14,7 @@ use Rattle.rules.specs.Level.{Placed, plains, placedAt, normalPlaced, mergedIf,
 use Rattle.sign_laws.specs.Booleans.{never-true, never-both}
 use Rattle.sign_laws.specs.Lists.{Every, every-none, every, every-wider, every-append}
 use Rattle.level_laws.specs.Same.{same-equal, same-itself}
-use Rattle.reason_laws.specs.Reasons.{clausesFrom, joinConstant, joinNormal, joinAll, joined, mergedList, orPlace, placeOf}
+use Rattle.rules.specs.Reasons.{clausesFrom, joinConstant, joinNormal, joinAll, joined, mergedList, orPlace, placeOf}
 use Rattle.reason_laws.specs.Merged.{Empty, false-stands, joinAll-empty, notFull-empty}
 
 -- ---- The first clause of a polynomial.

@@ -18,7 +18,7 @@ use Rattle.level_laws.specs.Holding.{every, atomsHold, in-atom, empty-fails}
 use Rattle.level_laws.specs.Respects.{Respects}
 use Rattle.level_laws.specs.Rounds.{contradiction-false, says-right}
 use Rattle.laws.specs.Fractions.{respected-over}
-use Rattle.reason_laws.specs.Reasons.{hasContradiction, fails}
+use Rattle.rules.specs.Reasons.{hasContradiction, fails}
 use Rattle.reason_laws.specs.Named.{JustImplies, JustFails}
 
 module _ {sign : Polynomial → Sign} {n : ℕ} (ok : Respects sign n) where

@@ -7,7 +7,7 @@ use native.Mathlib.Omega.{arith}
 use lib.ListN.{length, length-append}
 use Rattle.rules.specs.Level.{keptUnless}
 use Rattle.sign_laws.specs.Booleans.{never-true, never-both}
-use Rattle.reason_laws.specs.Reasons.{leaveOutFrom, leaveOut}
+use Rattle.rules.specs.Reasons.{leaveOutFrom, leaveOut}
 
 -- A list, and the list with any one of it left out.
 pub data Without {A : Type 0} : List A → List A → Type 0 where

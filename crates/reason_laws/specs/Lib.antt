@@ -1,7 +1,5 @@
-pub mod Reasons
 pub mod SaysLess
 pub mod LeaveOut
-pub mod Examples
 pub mod Named
 pub mod Merged
 pub mod Holding

@@ -17,7 +17,7 @@ use Rattle.sign_laws.specs.Lists.{every-none, every, every-append}
 use Rattle.sign_laws.specs.Sets.{intersect-first, intersect-below, mirror-below}
 use Rattle.removal_laws.specs.Fewer.{part-empty}
 use Rattle.removal_laws.specs.Rounds.{LowAtoms}
-use Rattle.reason_laws.specs.Reasons.{clausesFrom, joinConstant, joinNormal, joinAll, unlessFull, notFull, joined, mergedList}
+use Rattle.rules.specs.Reasons.{clausesFrom, joinConstant, joinNormal, joinAll, unlessFull, notFull, joined, mergedList}
 
 -- ---- Lists with an empty set keep one.
 

@@ -9,7 +9,7 @@ use Rattle.sign_laws.specs.Lists.{Every, every-none, every}
 use Rattle.removal_laws.specs.Fewer.{Fewer, left-out, kept as also, itself, all-kept}
 use Rattle.removal_laws.specs.Rounds.{LowAtoms}
 use Rattle.removal_laws.specs.Apart.{Apart}
-use Rattle.reason_laws.specs.Reasons.{fails, failing, implying, Fate, stays, goes, Told, fateIf, toldFrom}
+use Rattle.rules.specs.Reasons.{fails, failing, implying, Fate, stays, goes, Told, fateIf, toldFrom}
 use Rattle.reason_laws.specs.SaysLess.{fewer-apart, implied-by-more, fails-by-more}
 use Rattle.reason_laws.specs.LeaveOut.{Without, this-one, a-later-one, without-after, FewerAreLess, leaveOut-suffices, leaveOut-needed}
 

@@ -8,7 +8,7 @@ use native.Mathlib.Omega.{arith}
 use Rattle.rules.specs.Polynomial.{Atom}
 use Rattle.rules.specs.Level.{Placed, plain, plains, normalPlaced, keptUnless, implied}
 use Rattle.sign_laws.specs.Lists.{Every, every-none, every, every-append, every-wider}
-use Rattle.reason_laws.specs.Reasons.{clausesFrom, leaveOutFrom, leaveOut, implying, Fate, stays, goes, Told, fateIf, toldFrom}
+use Rattle.rules.specs.Reasons.{clausesFrom, leaveOutFrom, leaveOut, implying, Fate, stays, goes, Told, fateIf, toldFrom}
 use Rattle.reason_laws.specs.Named.{unlessGone, staying}
 use Rattle.reason_laws.specs.Places.{Among, none-among, not-among, is-among}
 use Rattle.reason_laws.specs.Records.{From, given-from}

@@ -21,7 +21,7 @@ use Rattle.level_laws.specs.Same.{which-below}
 use Rattle.level_laws.specs.Narrower.{BoardWithin, placedAll-within, AtomsWithin, no-atoms, one-more, Narrower, Narrows, run-narrows}
 use Rattle.level_laws.specs.Carried.{carried-plain}
 use Rattle.removal_laws.specs.Rounds.{LowAtoms}
-use Rattle.reason_laws.specs.Reasons.{unlessFull, notFull, joined, mergedList, carriedClauses}
+use Rattle.rules.specs.Reasons.{unlessFull, notFull, joined, mergedList, carriedClauses}
 use Rattle.reason_laws.specs.Merged.{merged-low}
 
 -- What a full set lies inside of is full.

@@ -10,8 +10,8 @@ use Rattle.rules.specs.Signs.{full, signOf, has}
 use Rattle.rules.specs.Polynomial.{Atom, same, constant}
 use Rattle.rules.specs.Rounds.{State, carried}
 use Rattle.rules.specs.Level.{Placed, plains, mergedIf, mergeInto, carry}
-use Rattle.reason_laws.specs.Reasons.{clausesFrom, joinConstant, joinNormal, joinAll, unlessFull, notFull, joined, mergedList}
-use Rattle.reason_laws.specs.Reasons.{carriedClauses}
+use Rattle.rules.specs.Reasons.{clausesFrom, joinConstant, joinNormal, joinAll, unlessFull, notFull, joined, mergedList}
+use Rattle.rules.specs.Reasons.{carriedClauses}
 
 -- ---- Some of the given clauses, in order, with their places and polynomials; the sets may be others.
 

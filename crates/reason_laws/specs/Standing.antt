@@ -15,7 +15,7 @@ use Rattle.sign_laws.specs.Booleans.{never-both}
 use Rattle.sign_laws.specs.Lists.{Every, every-none, every}
 use Rattle.level_laws.specs.Same.{same-itself}
 use Rattle.removal_laws.specs.Apart.{Other, Apart, none-apart, apart, other-back}
-use Rattle.reason_laws.specs.Reasons.{unlessFull, notFull, joined, mergedList, toldFrom, carriedClauses, orPlace, placeOf}
+use Rattle.rules.specs.Reasons.{unlessFull, notFull, joined, mergedList, toldFrom, carriedClauses, orPlace, placeOf}
 use Rattle.reason_laws.specs.Merged.{asRead, Agrees, joined-agrees, notFull-empty}
 use Rattle.reason_laws.specs.Records.{Stands, ToldStands}
 

@@ -15,7 +15,7 @@ use Rattle.rules.specs.Level.{Placed, plains, carry}
 use Rattle.sign_laws.specs.Booleans.{never-both}
 use Rattle.sign_laws.specs.Lists.{Every, every-none, every, every-wider}
 use Rattle.level_laws.specs.Same.{same-equal}
-use Rattle.reason_laws.specs.Reasons.{clausesFrom, unlessFull, notFull, joined, mergedList, Told, toldFrom, carriedClauses, placeOf}
+use Rattle.rules.specs.Reasons.{clausesFrom, unlessFull, notFull, joined, mergedList, Told, toldFrom, carriedClauses, placeOf}
 use Rattle.reason_laws.specs.Records.{From, ToldAt}
 use Rattle.reason_laws.specs.Firsts.{FirstAt, first-here, first-later, first-found, TrueConstant, Stood, is-true, stands-first, all-stood}
 

@@ -14,7 +14,7 @@ use Rattle.tape.specs.Listing.{row-long}
 use Rattle.tape.specs.Token.{slot, place, atomOf, atomsIn}
 use Rattle.fates.specs.declared.Fates.{Fates}
 use Rattle.fates.specs.Fated.{FatesOf, all-false, each-told}
-use Rattle.reason_laws.specs.Reasons.{mergedInto, toldFrom, reasonAt, placeOf, unlessMerged, reasonFor}
+use Rattle.rules.specs.Reasons.{mergedInto, toldFrom, reasonAt, placeOf, unlessMerged, reasonFor}
 use Rattle.reason_laws.specs.Names.{Rising, among-rises}
 use Rattle.reasons.specs.declared.Reason.{Reason}
 use Rattle.reasons.specs.Records.{noPlaces, wordsOf, made}

@@ -21,9 +21,9 @@ use Rattle.tape.specs.Listing.{held-at}
 use Rattle.tape.specs.Token.{atomOf, atomsIn}
 use Rattle.fates.specs.declared.Fates.{Fates}
 use Rattle.fates.specs.Fated.{FatesOf, all-false, each-told}
-use Rattle.reason_laws.specs.Reasons.{Reason as Why, allFalseBy, stays, goes, Fate, Told, clausesFrom, joined, mergedList, placesOf, toldFrom}
-use Rattle.reason_laws.specs.Reasons.{keptOrNarrowed, reasonOf, orReason}
-use Rattle.reason_laws.specs.Reasons.{reasonAt, placeOf, unlessMerged, reasonFor, eachReason, eachFalse, reasonsAfter, reasons}
+use Rattle.rules.specs.Reasons.{Reason as Why, allFalseBy, stays, goes, Fate, Told, clausesFrom, joined, mergedList, placesOf, toldFrom}
+use Rattle.rules.specs.Reasons.{keptOrNarrowed, reasonOf, orReason}
+use Rattle.rules.specs.Reasons.{reasonAt, placeOf, unlessMerged, reasonFor, eachReason, eachFalse, reasonsAfter, reasons}
 use Rattle.reason_laws.specs.Firsts.{NoLater, no-later}
 use Rattle.reason_laws.specs.Names.{Rising, given-rises}
 use Rattle.reason_laws.specs.Sooner.{reasonsOf, reasons-of}

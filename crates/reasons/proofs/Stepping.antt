@@ -23,8 +23,8 @@ use Rattle.tape.specs.Token.{place, atomOf, atomsIn}
 use Rattle.settled.specs.Remaining.{CarriedFrom}
 use Rattle.leaving.specs.Enough.{enoughIf, enoughFor, AsksAll}
 use Rattle.round.specs.declared.State.{State}
-use Rattle.reason_laws.specs.Reasons.{Reason as Why, removedBy, placesOf, implying, stays, goes, Told, fateIf, toldFrom, keptOrNarrowed, reasonOf}
-use Rattle.reason_laws.specs.Reasons.{orReason, reasonAt}
+use Rattle.rules.specs.Reasons.{Reason as Why, removedBy, placesOf, implying, stays, goes, Told, fateIf, toldFrom, keptOrNarrowed, reasonOf}
+use Rattle.rules.specs.Reasons.{orReason, reasonAt}
 use Rattle.reason_laws.specs.Named.{unlessGone, staying, staying-is-kept}
 use Rattle.reason_laws.specs.SaysLess.{fewer-apart}
 use Rattle.reason_laws.specs.Names.{Rising, rising}

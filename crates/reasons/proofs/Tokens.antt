@@ -17,7 +17,7 @@ use Rattle.tape.specs.Listing.{rest-next, rest-none}
 use Rattle.tape.specs.Token.{slot, place, atomOf, atomsIn}
 use Rattle.round.specs.declared.State.{State}
 use Rattle.leaving.specs.Enough.{enoughIf, enoughFor}
-use Rattle.reason_laws.specs.Reasons.{leaveOut, implying, placesOf, orPlace, placeOf}
+use Rattle.rules.specs.Reasons.{leaveOut, implying, placesOf, orPlace, placeOf}
 use Rattle.reason_laws.specs.LeaveOut.{leaveOut-map}
 use Rattle.reason_laws.specs.Sooner.{firstIs}
 use Rattle.reasons.specs.Records.{withPlace, wordsFrom}

@@ -9,7 +9,7 @@ use Rattle.table.specs.Table.{Table}
 use Rattle.tape.specs.declared.rows.Row.{Row}
 use Rattle.tape.specs.Row.{Lists}
 use Rattle.tape.specs.Token.{atomsIn}
-use Rattle.reason_laws.specs.Reasons.{Reason as Why, keptWith, narrowedTo, mergedInto, removedBy, allFalseBy, clausesFrom}
+use Rattle.rules.specs.Reasons.{Reason as Why, keptWith, narrowedTo, mergedInto, removedBy, allFalseBy, clausesFrom}
 use Rattle.reasons.specs.declared.Reason.{Reason}
 use Rattle.reasons.specs.declared.Found.{Found}
 

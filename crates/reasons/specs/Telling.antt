@@ -15,7 +15,7 @@ use Rattle.settled.specs.Remaining.{CarriedFrom}
 use Rattle.leaving.specs.declared.Question.{Question}
 use Rattle.fates.specs.declared.Fates.{Fates}
 use Rattle.fates.specs.Fated.{FatesOf, all-false, each-told}
-use Rattle.reason_laws.specs.Reasons.{Reason as Why, keptWith, narrowedTo, mergedInto, removedBy, allFalseBy, placesOf, toldFrom, orPlace, reasonFor}
+use Rattle.rules.specs.Reasons.{Reason as Why, keptWith, narrowedTo, mergedInto, removedBy, allFalseBy, placesOf, toldFrom, orPlace, reasonFor}
 use Rattle.reason_laws.specs.Names.{Rising}
 
 -- Whether what some atoms say of the token's atom lies inside its set.

@@ -11,7 +11,7 @@ use Rattle.rules.specs.Polynomial.{Atom}
 use Rattle.rules.specs.Deduce.{anyEmpty}
 use Rattle.rules.specs.Rounds.{setsOf, Outcome, contradiction, settled, run}
 use Rattle.rules.specs.Level.{Placed, plains}
-use Rattle.reason_laws.specs.Reasons.{Reason as Why, Told, clausesFrom, joined, mergedList, eachReason, eachFalse, reasonsAfter, reasons}
+use Rattle.rules.specs.Reasons.{Reason as Why, Told, clausesFrom, joined, mergedList, eachReason, eachFalse, reasonsAfter, reasons}
 use Rattle.reasons.specs.declared.Reason.{Reason}
 use Rattle.reasons.specs.declared.Found.{Found}
 use Rattle.reasons.specs.Records.{made, blank, Tells}

@@ -13,7 +13,7 @@ ghost use Rattle.tape.specs.Row.{Lists};
 ghost use Rattle.tape.specs.Token.{slot, place, atomOf, atomsIn};
 ghost use Rattle.leaving.specs.Enough.{AsksAll};
 ghost use Rattle.fates.specs.Fated.{FatesOf};
-ghost use Rattle.reason_laws.specs.Reasons.{removedBy, placesOf, clausesFrom, implying, toldFrom, keptOrNarrowed, reasonAt, reasons};
+ghost use Rattle.rules.specs.Reasons.{removedBy, placesOf, clausesFrom, implying, toldFrom, keptOrNarrowed, reasonAt, reasons};
 ghost use Rattle.reasons.specs.Records.{noPlaces, wordsOf, made, blank, Clauses, Tells};
 ghost use Rattle.reasons.specs.Telling.{asking, firstPlace, isFirst, Sifted, Explains, told, LowPlace};
 use fates::Fates;

@@ -21,3 +21,12 @@ pub mod Evaluate
 pub mod Editions
 pub mod Edges
 pub mod ByHand
+pub mod Reasons
+pub mod Reader
+pub mod Combine
+pub mod Text
+pub mod Reading
+pub mod Scripts
+pub mod Pool
+pub mod ReasonCases
+pub mod PoolCases

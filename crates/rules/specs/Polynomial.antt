@@ -8,7 +8,7 @@ use lib.Dec.{eqb}
 use lib.IntN.{ℤ, pos, negsuc, negℤ, natAbs}
 use lib.ListN.{length}
 use lib.Signed.{quotZ, nonNeg}
-use Rattle.rules.specs.Signs.{SignSet, signOf, only, product, sum, square, mirror}
+use Rattle.rules.specs.Signs.{full, SignSet, signOf, only, product, sum, square, mirror}
 
 pub record Term : Type 0 where
   pub coefficient : ℤ
@@ -105,6 +105,10 @@ constant [] = some (pos 0)
 constant (t ∷ []) = onlyIf (eqb (t .monomial) 0) (t .coefficient)
 constant (t ∷ u ∷ us) = none
 
+-- The normal form of a polynomial, which needs no set.
+unfoldable pub normalForm : Polynomial → Polynomial
+normalForm p = normal (record { polynomial = p; set = full }) .polynomial
+
 -- "Polynomials are the same when their normal forms are equal": equality, term by term.
 unfoldable pub sameNumber : ℤ → ℤ → Bool
 sameNumber (pos a) (pos b) = eqb a b
@@ -136,5 +140,5 @@ which n p = whichOf n n p
 
 -- To unfold this is to unfold every definition of this file.
 unfoldable pub open-polynomial : Unit {0}
-unfolding exponent odd multiplied monomialSignFrom monomialSign byTermsFrom byTerms gcdWithin gcd contentFrom orOne content eachCoefficient divided firstIsNegative turned normal onlyIf constant sameNumber same variable firstOf whichOf which
+unfolding exponent odd multiplied monomialSignFrom monomialSign byTermsFrom byTerms gcdWithin gcd contentFrom orOne content eachCoefficient divided firstIsNegative turned normal normalForm onlyIf constant sameNumber same variable firstOf whichOf which
 open-polynomial = tt

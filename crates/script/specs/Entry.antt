@@ -34,9 +34,9 @@ use Rattle.answer.specs.declared.Answer.the-variants.{Refused as NoAnswer, Answ
 use Rattle.answer.specs.Answered.{answerOf, lengthIn, answer-accepted}
 use Rattle.answer.specs.Entry.{Answers}
 use Rattle.lines.specs.Written.{Wrote, front-whole, front-end}
-use Rattle.script_laws.specs.Text.{scriptOf}
+use Rattle.rules.specs.Text.{scriptOf}
 use Rattle.script_laws.specs.Length.{script-length}
-use Rattle.script_laws.specs.Scripts.{Scripted, refusedBy, scripted, unlessLonger, scriptWithin, scriptRead, simplifiedRead, scriptAnswer, scriptWritten, scriptNumber}
+use Rattle.rules.specs.Scripts.{Scripted, refusedBy, scripted, unlessLonger, scriptWithin, scriptRead, simplifiedRead, scriptAnswer, scriptWritten, scriptNumber}
 use Rattle.script_text.specs.Tree.{Table, Stands, SomeStands}
 use Rattle.script.specs.declared.Outcome.{Outcome}
 use Rattle.script.specs.declared.Outcome.the-variants.{Refused, Written}

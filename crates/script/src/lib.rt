@@ -4,7 +4,7 @@ ghost use mathlib.Core.Path.{_≡_};
 ghost use Prim.Native.Nat.{_≤_};
 ghost use lib.ListN.{length};
 ghost use Rattle.rules.specs.Block.{Block, readBlock};
-ghost use Rattle.script_laws.specs.Scripts.{scriptWithin, scriptRead, simplifiedRead, scriptAnswer};
+ghost use Rattle.rules.specs.Scripts.{scriptWithin, scriptRead, simplifiedRead, scriptAnswer};
 ghost use Rattle.script_text.specs.Tree.{Stands, SomeStands};
 ghost use Rattle.script.specs.Entry.{Tells, SomeRead, sizeIn, numberIn, Exports};
 use answer::Answer;

@@ -9,10 +9,10 @@ use lib.Dec.{eqb, ltb}
 use lib.ListN.{length, drop, getD, length-append}
 use lib.Seq.{getD-drop}
 use Rattle.rules.specs.Block.{Block}
-use Rattle.script_laws.specs.Reader.{Reader, give, stuck, ask}
-use Rattle.script_laws.specs.Combine.{given, say, _union_, oneOf, open-combine}
-use Rattle.script_laws.specs.Text.{bytes, letter, declaration}
-use Rattle.script_laws.specs.Reading.{choice, root, declarationsFrom}
+use Rattle.rules.specs.Reader.{Reader, give, stuck, ask}
+use Rattle.rules.specs.Combine.{given, say, _union_, oneOf, open-combine}
+use Rattle.rules.specs.Text.{bytes, letter, declaration}
+use Rattle.rules.specs.Reading.{choice, root, declarationsFrom}
 use Rattle.script_laws.specs.Steps.{Part, got, stop, readPart, andThen}
 use Rattle.script_polynomial.specs.At.{readAt}
 use Rattle.script_back.specs.Runs.{just, Stand, SaidBy, Said}

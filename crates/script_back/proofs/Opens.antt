@@ -9,9 +9,9 @@ use lib.Dec.{eqb}
 use lib.ListN.{length, drop, getD}
 use Rattle.rules.specs.Polynomial.{Atom}
 use Rattle.rules.specs.Formula.{Node}
-use Rattle.script_laws.specs.Reader.{Reader, give, stuck, ask}
-use Rattle.script_laws.specs.Combine.{say, given, _union_, open-combine}
-use Rattle.script_laws.specs.Text.{bytes, opening}
+use Rattle.rules.specs.Reader.{Reader, give, stuck, ask}
+use Rattle.rules.specs.Combine.{say, given, _union_, open-combine}
+use Rattle.rules.specs.Text.{bytes, opening}
 use Rattle.script_laws.specs.Steps.{Part, stop, readPart, andThen}
 use Rattle.script_polynomial.specs.At.{readAt}
 use Rattle.script_back.specs.Runs.{SaidBy, Said}

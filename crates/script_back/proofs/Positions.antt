@@ -9,8 +9,8 @@ use borrow.Author.Tests.{ltb-true, ltb-false}
 use lib.Dec.{eqb, ltb}
 use lib.ListN.{length, drop, getD, drop-of-length-le, List·getD-eq-default}
 use lib.Seq.{drop-cons, getD-drop, drop-drop}
-use Rattle.script_laws.specs.Reader.{Reader, give, stuck, ask}
-use Rattle.script_laws.specs.Combine.{given, say}
+use Rattle.rules.specs.Reader.{Reader, give, stuck, ask}
+use Rattle.rules.specs.Combine.{given, say}
 use Rattle.script_laws.specs.Steps.{Part, got, stop, readPart, andThen, part-said, part-unsaid}
 use Rattle.script_polynomial.specs.At.{readAt}
 use Rattle.script_back.specs.Runs.{just, SaidBy, Said}

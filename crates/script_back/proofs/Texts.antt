@@ -15,10 +15,10 @@ use Rattle.rules.specs.Block.{Block}
 use Rattle.rules.specs.Limits.{no-polynomials}
 use Rattle.rules.specs.Answer.{used, numbered, blockOf}
 use Rattle.block.specs.Held.{slots, tokens, kindOf, heldBy, heldOver}
-use Rattle.script_laws.specs.Reader.{Reader, give, stuck, ask, Outcome, held, stopped}
-use Rattle.script_laws.specs.Combine.{say, _then_, _union_, oneOf, open-combine}
-use Rattle.script_laws.specs.Text.{bytes, opening}
-use Rattle.script_laws.specs.Reading.{choice, atomWith, nodeBy, node, root, declarationsFrom, script, readText}
+use Rattle.rules.specs.Reader.{Reader, give, stuck, ask, Outcome, held, stopped}
+use Rattle.rules.specs.Combine.{say, _then_, _union_, oneOf, open-combine}
+use Rattle.rules.specs.Text.{bytes, opening}
+use Rattle.rules.specs.Reading.{choice, atomWith, nodeBy, node, root, declarationsFrom, script, readText}
 use Rattle.script_laws.specs.Steps.{Part, got, stop, readPart, andThen, wholeText, part-then, part-whole}
 use Rattle.script_polynomial.specs.At.{readAt}
 use Rattle.script_polynomial.specs.Tabled.{Tabled, SomeTabled}

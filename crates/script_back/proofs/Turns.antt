@@ -10,10 +10,10 @@ use lib.ListN.{length, drop, getD}
 use Rattle.rules.specs.Polynomial.{Polynomial, Atom}
 use Rattle.rules.specs.Formula.{Parts, end, Node, before, alone}
 use Rattle.rules.specs.Answer.{used}
-use Rattle.script_laws.specs.Reader.{Reader, give, stuck, ask}
-use Rattle.script_laws.specs.Combine.{given, say, _then_, _union_, oneOf, open-combine}
-use Rattle.script_laws.specs.Text.{bytes}
-use Rattle.script_laws.specs.Reading.{choice, roomBehind, laterKids, kidsBy}
+use Rattle.rules.specs.Reader.{Reader, give, stuck, ask}
+use Rattle.rules.specs.Combine.{given, say, _then_, _union_, oneOf, open-combine}
+use Rattle.rules.specs.Text.{bytes}
+use Rattle.rules.specs.Reading.{choice, roomBehind, laterKids, kidsBy}
 use Rattle.script_laws.specs.Steps.{Part, got, stop, readPart, andThen, part-then}
 use Rattle.script_polynomial.specs.At.{readAt}
 use Rattle.script_back.specs.Tree.{One, kidsAfter, putBefore, oneMore, Ends, GoesOn, TurnOf, TurnFound}

@@ -15,11 +15,11 @@ use Rattle.rules.specs.Formula.{Parts, end, Node, leaf, allOf, anyOf, before, a
 use Rattle.rules.specs.Answer.{used, numberIn, numbered}
 use Rattle.bits.proofs.Stores.{sets-append}
 use Rattle.block.specs.Held.{tokens, kindOf}
-use Rattle.script_laws.specs.Reader.{Reader, give, stuck, ask}
-use Rattle.script_laws.specs.Combine.{say, _then_, open-combine}
-use Rattle.script_laws.specs.Text.{closing, opening}
+use Rattle.rules.specs.Reader.{Reader, give, stuck, ask}
+use Rattle.rules.specs.Combine.{say, _then_, open-combine}
+use Rattle.rules.specs.Text.{closing, opening}
 use Rattle.script_laws.specs.Known.{with}
-use Rattle.script_laws.specs.Reading.{knownPolynomial, atomWith, nodeBy, roomBehind, kidsBy, node}
+use Rattle.rules.specs.Reading.{knownPolynomial, atomWith, nodeBy, roomBehind, kidsBy, node}
 use Rattle.script_laws.specs.Steps.{Part, got, stop, readPart, andThen, part-then}
 use Rattle.script_polynomial.specs.At.{readAt, Stops, Reaches}
 use Rattle.script_polynomial.specs.Tabled.{Tabled, SomeTabled, Listed, PieceOf, PieceFound}

@@ -19,9 +19,9 @@ use Rattle.array_laws.specs.Writing.{writable}
 use Rattle.convert.specs.declared.Converted.{Converted}
 use Rattle.convert.specs.Converted.{outcomeOf, Finishes, Converts}
 use Rattle.convert.specs.Exported.{exported, numberOf, Short}
-use Rattle.script_laws.specs.Reader.{Outcome as Held, held, stopped}
-use Rattle.script_laws.specs.Text.{scriptOf, Plain}
-use Rattle.script_laws.specs.Reading.{readText}
+use Rattle.rules.specs.Reader.{Outcome as Held, held, stopped}
+use Rattle.rules.specs.Text.{scriptOf, Plain}
+use Rattle.rules.specs.Reading.{readText}
 use Rattle.script_laws.specs.Laws.{text-reads-back, text-accepted}
 use Rattle.script_back.specs.Whole.{BlockStored, ScriptBy, Scripts, ScriptFound}
 use Rattle.script_back.specs.declared.Outcome.{Outcome}

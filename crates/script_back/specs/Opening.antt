@@ -6,10 +6,10 @@ use Prim.Native.Nat.{ℕ, _+_, _<_, _≤_}
 use lib.ListN.{length}
 use Rattle.rules.specs.Polynomial.{Atom}
 use Rattle.rules.specs.Formula.{Node}
-use Rattle.script_laws.specs.Reader.{Reader}
-use Rattle.script_laws.specs.Combine.{given, say, _union_, Choice, oneOf}
-use Rattle.script_laws.specs.Text.{bytes, opening}
-use Rattle.script_laws.specs.Reading.{choice}
+use Rattle.rules.specs.Reader.{Reader}
+use Rattle.rules.specs.Combine.{given, say, _union_, Choice, oneOf}
+use Rattle.rules.specs.Text.{bytes, opening}
+use Rattle.rules.specs.Reading.{choice}
 use Rattle.script_laws.specs.Steps.{stop}
 use Rattle.script_polynomial.specs.At.{readAt}
 use Rattle.script_back.specs.declared.opening.Opening.{Opening}

@@ -12,10 +12,10 @@ use Rattle.rules.specs.Polynomial.{Polynomial, Atom}
 use Rattle.rules.specs.Formula.{Parts, end, Node, leaf, allOf, anyOf, before, alone, eachAtom, eachAtomOf, children, nodes}
 use Rattle.rules.specs.Answer.{used, numbered}
 use Rattle.block.specs.Held.{tokens, kindOf}
-use Rattle.script_laws.specs.Reader.{Reader, give, stuck}
-use Rattle.script_laws.specs.Combine.{say, _then_}
-use Rattle.script_laws.specs.Text.{bytes, closing}
-use Rattle.script_laws.specs.Reading.{knownPolynomial, roomBehind, laterKids, kidsBy, node}
+use Rattle.rules.specs.Reader.{Reader, give, stuck}
+use Rattle.rules.specs.Combine.{say, _then_}
+use Rattle.rules.specs.Text.{bytes, closing}
+use Rattle.rules.specs.Reading.{knownPolynomial, roomBehind, laterKids, kidsBy, node}
 use Rattle.script_laws.specs.Steps.{Part, got, stop, readPart, andThen}
 use Rattle.script_polynomial.specs.At.{readAt}
 use Rattle.script_polynomial.specs.Tabled.{Tabled}

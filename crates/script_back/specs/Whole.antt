@@ -11,10 +11,10 @@ use Rattle.rules.specs.Formula.{end, Node, allOf, anyOf}
 use Rattle.rules.specs.Block.{Block}
 use Rattle.block.specs.declared.Held.{Held}
 use Rattle.block.specs.Held.{heldBy, heldOver}
-use Rattle.script_laws.specs.Reader.{Reader, give, Outcome, held, stopped}
-use Rattle.script_laws.specs.Combine.{say, _union_, oneOf}
-use Rattle.script_laws.specs.Text.{bytes}
-use Rattle.script_laws.specs.Reading.{choice, node, root, declarationsFrom, readText}
+use Rattle.rules.specs.Reader.{Reader, give, Outcome, held, stopped}
+use Rattle.rules.specs.Combine.{say, _union_, oneOf}
+use Rattle.rules.specs.Text.{bytes}
+use Rattle.rules.specs.Reading.{choice, node, root, declarationsFrom, readText}
 use Rattle.script_laws.specs.Steps.{Part, got, stop, wholeText}
 use Rattle.script_polynomial.specs.At.{readAt}
 use Rattle.script_back.specs.Runs.{just}

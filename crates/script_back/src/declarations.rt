@@ -4,7 +4,7 @@ ghost use mathlib.Core.List.{_∷_};
 ghost use mathlib.Core.Path.{_≡_};
 ghost use Prim.Native.Nat.{_<_, _≤_};
 ghost use lib.ListN.{length};
-ghost use Rattle.script_laws.specs.Text.{bytes, letter, declaration};
+ghost use Rattle.rules.specs.Text.{bytes, letter, declaration};
 ghost use Rattle.script_back.specs.Runs.{Said};
 ghost use Rattle.script_back.specs.Whole.{allDeclared, DeclaredFound};
 use crate::runs::Step;

@@ -6,7 +6,7 @@ ghost use Rattle.rules.specs.Block.{Block, edition1, writeBlock};
 ghost use Rattle.block.specs.Held.{heldBy, BlockRoom, nothing};
 ghost use Rattle.writer.specs.Written.{Writable, SomeWritable};
 ghost use Rattle.convert.specs.Converted.{Finishes};
-ghost use Rattle.script_laws.specs.Reading.{readText};
+ghost use Rattle.rules.specs.Reading.{readText};
 ghost use Rattle.script_back.specs.Back.{GivesBack, readingOf};
 use block::Held;
 use convert::Converted;

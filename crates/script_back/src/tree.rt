@@ -3,7 +3,7 @@
 ghost use mathlib.Core.Path.{_≡_};
 ghost use Prim.Native.Nat.{_+_, _-_, _*_, _<_, _≤_};
 ghost use lib.ListN.{length};
-ghost use Rattle.script_laws.specs.Text.{closing as closingText};
+ghost use Rattle.rules.specs.Text.{closing as closingText};
 ghost use Rattle.script_polynomial.specs.Tabled.{SomeTabled};
 ghost use Rattle.script_back.specs.Runs.{Said};
 ghost use Rattle.script_back.specs.Tree.{Ready, Kids, mayJoin, TurnFound, Closes, AtomFound, NodeFound, KidsFound};

@@ -8,9 +8,9 @@ use Prim.Native.Nat.{ℕ}
 use lib.Dec.{eqb}
 use borrow.Author.Tests.{eqb-true, eq-eqb}
 use Rattle.sign_laws.specs.Booleans.{and-first, and-second}
-use Rattle.script_laws.specs.Reader.{Reader, give, stuck, ask}
+use Rattle.rules.specs.Reader.{Reader, give, stuck, ask}
 use Rattle.script_laws.specs.Leading.{Leads, arrived, onward, GoesOn, by-result, by-byte, Open, whole, closed, each-byte, stuck-none}
-use Rattle.script_laws.specs.Combine.{given, say, _then_, _union_, Choice, oneOf, dropIf, after, isSome, only}
+use Rattle.rules.specs.Combine.{given, say, _then_, _union_, Choice, oneOf, dropIf, after, isSome, only}
 
 pub record Fine {A : Type 0} (r : Reader A) : Type 0 where
   pub everywhere : Open r

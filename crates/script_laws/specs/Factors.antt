@@ -10,12 +10,12 @@ use lib.ListN.{drop}
 use borrow.Author.Tests.{lt-ltb, ltb-true, ltb-false, le-leb, leb-true, ne-eqb}
 use Rattle.rules.specs.Polynomial.{exponent}
 use Rattle.sign_laws.specs.Booleans.{and-first, and-second, and-intro}
-use Rattle.script_laws.specs.Reader.{Reader, give}
+use Rattle.rules.specs.Reader.{Reader, give}
 use Rattle.script_laws.specs.Leading.{Leads, arrived, GoesOn, Open}
-use Rattle.script_laws.specs.Combine.{given, say, _union_}
+use Rattle.rules.specs.Combine.{given, say, _union_}
 use Rattle.script_laws.specs.CombineLaws.{Reads, Fine, given-leads, leads-given, open-given, goes-given, said, say-leads, fine-give, said-giving, Just, just, say-just, fine-say, goes-say, open-say, Apart, both-given, said-apart, apart-or, differ, leads-left, leads-right, Either, by-left, by-right, or-leads, goes-right, open-or, tellable, differsFromAll, Chosen, this, other, leads-chosen, chosen-leads, no-choice, choices, fine-choices}
-use Rattle.script_laws.specs.Text.{bytes, letter, power, factors}
-use Rattle.script_laws.specs.Reading.{choice, factorMay, anyMay, letters, afterFactor}
+use Rattle.rules.specs.Text.{bytes, letter, power, factors}
+use Rattle.rules.specs.Reading.{choice, factorMay, anyMay, letters, afterFactor}
 
 -- ---- The number of the exponents, down to one variable.
 

@@ -15,10 +15,10 @@ use Rattle.sign_laws.specs.Booleans.{or-first, or-second, or-cases}
 use Rattle.sign_laws.specs.Lists.{Every, every-none, every, every-append}
 use Rattle.level_laws.specs.Same.{same-equal, same-itself}
 use Rattle.script_laws.specs.Leading.{Leads, leads-one}
-use Rattle.script_laws.specs.Combine.{only, isSome}
+use Rattle.rules.specs.Combine.{only, isSome}
 use Rattle.script_laws.specs.CombineLaws.{Reads, Led, led-none, led, leads-only, only-leads, fine-only}
-use Rattle.script_laws.specs.Text.{bytes, polynomialText}
-use Rattle.script_laws.specs.Reading.{polynomial, ofKnown, knownPolynomial}
+use Rattle.rules.specs.Text.{bytes, polynomialText}
+use Rattle.rules.specs.Reading.{polynomial, ofKnown, knownPolynomial}
 
 -- A table so far: polynomials within the limits, at most 64.
 pub record Table (n : ℕ) (known : List Polynomial) : Type 0 where

@@ -6,10 +6,10 @@ use Prim.Native.Nat.{ℕ, suc, _<_, _≤_}
 use native.Mathlib.Omega.{arith}
 use lib.ListN.{length, take}
 use Rattle.rules.specs.Block.{Block}
-use Rattle.script_laws.specs.Reader.{held, stopped}
+use Rattle.rules.specs.Reader.{held, stopped}
 use Rattle.script_laws.specs.Leading.{Leads, leads-held, held-leads, Begun, StopsAt, stops-exactly}
-use Rattle.script_laws.specs.Text.{scriptOf, Plain}
-use Rattle.script_laws.specs.Reading.{script, readText}
+use Rattle.rules.specs.Text.{scriptOf, Plain}
+use Rattle.rules.specs.Reading.{script, readText}
 use Rattle.script_laws.specs.Script.{script-reads}
 use Rattle.script_laws.specs.PlainBlocks.{plain-declared, declared-plain}
 

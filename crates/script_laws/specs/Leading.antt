@@ -5,7 +5,7 @@ use mathlib.Core.Path.{_≡_, refl, sym, subst, _∙_}
 use Prim.Native.Nat.{ℕ, suc, _+_, _-_, _<_, _≤_}
 use native.Mathlib.Omega.{arith}
 use lib.ListN.{length, take}
-use Rattle.script_laws.specs.Reader.{Reader, give, stuck, ask, Outcome, held, stopped, readFrom}
+use Rattle.rules.specs.Reader.{Reader, give, stuck, ask, Outcome, held, stopped, readFrom}
 
 -- A text leads to a result.
 pub data Leads {A : Type 0} : Reader A → List ℕ → A → Type 0 where

@@ -20,8 +20,8 @@ use Rattle.ending_laws.specs.Nestings.{alone-each}
 use Rattle.ending_laws.specs.Shapes.{nodes-each}
 use Rattle.script_laws.specs.PlainBlocks.{every-loaded, table-every}
 use Rattle.script_laws.specs.Products.{beyond-sixteen}
-use Rattle.script_laws.specs.Text.{bytes, ifSo, digitsWithin, digits, numberText, power, factors, termText, summands, polynomialText, opening, closing}
-use Rattle.script_laws.specs.Text.{partsText, nodeText, rootText, declaration, declarations, formulaText, scriptOf, open-text}
+use Rattle.rules.specs.Text.{bytes, ifSo, digitsWithin, digits, numberText, power, factors, termText, summands, polynomialText, opening, closing}
+use Rattle.rules.specs.Text.{partsText, nodeText, rootText, declaration, declarations, formulaText, scriptOf, open-text}
 
 -- ---- Numbers and products.
 

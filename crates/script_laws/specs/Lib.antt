@@ -1,8 +1,3 @@
-pub mod Reader
-pub mod Combine
-pub mod Text
-pub mod Reading
-pub mod Scripts
 pub mod Vectors
 pub mod Leading
 pub mod CombineLaws

@@ -8,7 +8,7 @@ use Rattle.rules.specs.Limits.{BlockWithin}
 use Rattle.rules.specs.Answer.{formulaOf, blockOf, simplified, newBlock}
 use Rattle.level_laws.specs.Written.{looked-up, new-formula}
 use Rattle.length_laws.specs.NewWithin.{new-within}
-use Rattle.script_laws.specs.Text.{PlainTree, Plain}
+use Rattle.rules.specs.Text.{PlainTree, Plain}
 
 new-listed : (given : Block) → blockOf (newBlock given .variables) (formulaOf (newBlock given)) ≡ newBlock given
 unfolding newBlock blockOf

@@ -9,12 +9,12 @@ use lib.Dec.{eqb, leb, ltb}
 use borrow.Author.Tests.{eqb-true, eq-eqb, ne-eqb, le-leb, leb-true, lt-ltb, ltb-true, le-ltb, ltb-false}
 use Rattle.rules.specs.Report.{digit}
 use Rattle.sign_laws.specs.Booleans.{and-first, and-second, and-intro}
-use Rattle.script_laws.specs.Reader.{Reader, give, ask}
+use Rattle.rules.specs.Reader.{Reader, give, ask}
 use Rattle.script_laws.specs.Leading.{Leads, arrived, onward, GoesOn, by-result, by-byte, Open, whole, each-byte}
-use Rattle.script_laws.specs.Combine.{given}
+use Rattle.rules.specs.Combine.{given}
 use Rattle.script_laws.specs.CombineLaws.{Reads, Fine, fine-give, given-leads, leads-given, open-given, said-giving, say-gives, fine-say}
-use Rattle.script_laws.specs.Text.{ifSo, digitsWithin, digits}
-use Rattle.script_laws.specs.Reading.{digitMay, endOr, digitsAfter, magnitude}
+use Rattle.rules.specs.Text.{ifSo, digitsWithin, digits}
+use Rattle.rules.specs.Reading.{digitMay, endOr, digitsAfter, magnitude}
 
 -- "1 to 2,147,483,647"
 pub record Sized (x : ℕ) : Type 0 where

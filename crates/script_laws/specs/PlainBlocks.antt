@@ -14,7 +14,7 @@ use Rattle.sign_laws.specs.Lists.{Every, every-none, every}
 use Rattle.ending_laws.specs.Nestings.{alone-each}
 use Rattle.ending_laws.specs.Shapes.{nodes-each}
 use Rattle.level_laws.specs.Written.{added-knows, used-keeps}
-use Rattle.script_laws.specs.Text.{PlainParts, PlainTree, plain-true, plain-false, plain-tree, Plain}
+use Rattle.rules.specs.Text.{PlainParts, PlainTree, plain-true, plain-false, plain-tree, Plain}
 use Rattle.script_laws.specs.Shaped.{Shaped, NodeFits, used-each}
 use Rattle.script_laws.specs.Root.{RootFits, root-true, root-false, root-node}
 use Rattle.script_laws.specs.Script.{Declared}

@@ -10,12 +10,12 @@ use lib.ListN.{length}
 use borrow.Author.Tests.{lt-ltb, ltb-true}
 use Rattle.rules.specs.Polynomial.{Term, Polynomial}
 use Rattle.rules.specs.Limits.{TermWithin, TermsWithin, no-terms, terms, PolynomialWithin}
-use Rattle.script_laws.specs.Reader.{Reader, give}
+use Rattle.rules.specs.Reader.{Reader, give}
 use Rattle.script_laws.specs.Leading.{Leads, arrived}
-use Rattle.script_laws.specs.Combine.{say, _then_, Choice}
+use Rattle.rules.specs.Combine.{say, _then_, Choice}
 use Rattle.script_laws.specs.CombineLaws.{Reads, Passed, passed, read-then, then-read, fine-read, Fine, fine-give, said-giving, Just, just, say-just, fine-say, say-leads, said, Behind, tellable, differsFromAll, differ, Chosen, this, other, leads-chosen, chosen-leads, no-choice, choices, fine-choices}
-use Rattle.script_laws.specs.Text.{bytes, ifSo, numberText, factors, termText, summands, polynomialText}
-use Rattle.script_laws.specs.Reading.{choice, product, constantOf, nextTerm, otherTerms, beyond, polynomial}
+use Rattle.rules.specs.Text.{bytes, ifSo, numberText, factors, termText, summands, polynomialText}
+use Rattle.rules.specs.Reading.{choice, product, constantOf, nextTerm, otherTerms, beyond, polynomial}
 use Rattle.script_laws.specs.Signed.{Valued, parentheses, isParenthesis, NumberOr, is-number, is-other, number-back, number-there, other-there, number-fine}
 
 -- A term that is no constant, of at most this monomial.

@@ -6,12 +6,12 @@ use native.Mathlib.Nat.{pow-suc}
 use native.Mathlib.Omega.{arith}
 use lib.IntN.{ℤ}
 use Rattle.rules.specs.Polynomial.{Term}
-use Rattle.script_laws.specs.Reader.{give}
+use Rattle.rules.specs.Reader.{give}
 use Rattle.script_laws.specs.Leading.{Leads, arrived}
-use Rattle.script_laws.specs.Combine.{_then_}
+use Rattle.rules.specs.Combine.{_then_}
 use Rattle.script_laws.specs.CombineLaws.{Reads, Passed, passed, read-then, then-read, fine-read, fine-give, tellable, differsFromAll, differ, no-choice}
-use Rattle.script_laws.specs.Text.{numberText}
-use Rattle.script_laws.specs.Reading.{numberOr, product, letters, afterFactor, beyond}
+use Rattle.rules.specs.Text.{numberText}
+use Rattle.rules.specs.Reading.{numberOr, product, letters, afterFactor, beyond}
 use Rattle.script_laws.specs.Signed.{Valued, parentheses, isParenthesis, NumberOr, is-number, is-other, number-back, number-there, number-fine}
 use Rattle.script_laws.specs.Factors.{Between, lettersText, letters-read, letters-text}
 use Rattle.script_laws.specs.Polynomials.{ProductWithin, productText}

@@ -11,12 +11,12 @@ use Rattle.rules.specs.Block.{Block}
 use Rattle.rules.specs.Answer.{formulaOf, blockOf}
 use Rattle.sign_laws.specs.Lists.{every-none}
 use Rattle.level_laws.specs.Written.{looked-up}
-use Rattle.script_laws.specs.Reader.{give}
+use Rattle.rules.specs.Reader.{give}
 use Rattle.script_laws.specs.Leading.{Leads, arrived}
-use Rattle.script_laws.specs.Combine.{given, say, _union_, Choice, oneOf}
+use Rattle.rules.specs.Combine.{given, say, _union_, Choice, oneOf}
 use Rattle.script_laws.specs.CombineLaws.{Reads, Passed, passed, read-then, then-read, fine-read, Fine, fine-give, said-giving, Just, just, say-just, fine-say, Apart, left-stuck, or-apart, choices-apart, leads-left, leads-right, Either, by-left, by-right, or-leads, open-or, goes-left, tellable, differsFromAll, differ, Chosen, this, other, leads-chosen, chosen-leads, no-choice, choices, fine-choices}
-use Rattle.script_laws.specs.Text.{bytes, ifSo, opening, nodeText, rootText}
-use Rattle.script_laws.specs.Reading.{choice, beginnings, kidsBy, atomWith, nodeBy, node, root, beyond}
+use Rattle.rules.specs.Text.{bytes, ifSo, opening, nodeText, rootText}
+use Rattle.rules.specs.Reading.{choice, beginnings, kidsBy, atomWith, nodeBy, node, root, beyond}
 use Rattle.script_laws.specs.Polynomials.{polynomial-reads}
 use Rattle.script_laws.specs.Products.{product-reads, beyond-sixteen}
 use Rattle.script_laws.specs.Known.{known-reads}

@@ -8,10 +8,10 @@ use lib.Dec.{ltb}
 use borrow.Author.Tests.{lt-ltb, ltb-true, ltb-false}
 use Rattle.rules.specs.Block.{Block}
 use Rattle.script_laws.specs.Leading.{Leads}
-use Rattle.script_laws.specs.Combine.{say, Choice}
+use Rattle.rules.specs.Combine.{say, Choice}
 use Rattle.script_laws.specs.CombineLaws.{Reads, fine-say, say-leads, said, Behind, tellable, differsFromAll, differ, Chosen, this, other, leads-chosen, chosen-leads, no-choice, choices, fine-choices}
-use Rattle.script_laws.specs.Text.{bytes, declaration, declarations, formulaText, scriptOf}
-use Rattle.script_laws.specs.Reading.{choice, root, declarationsFrom, script}
+use Rattle.rules.specs.Text.{bytes, declaration, declarations, formulaText, scriptOf}
+use Rattle.rules.specs.Reading.{choice, root, declarationsFrom, script}
 use Rattle.script_laws.specs.Root.{RootBlock, rootEnd, root-reads}
 
 -- A block with a variable at least, and i to i + k of them.

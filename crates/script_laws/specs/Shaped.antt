@@ -9,7 +9,7 @@ use Rattle.rules.specs.Polynomial.{Polynomial, Atom}
 use Rattle.rules.specs.Formula.{Parts, end, atom, and, or, Node, leaf, allOf, anyOf, before, alone, children, nodes}
 use Rattle.rules.specs.Limits.{PolynomialWithin}
 use Rattle.rules.specs.Answer.{knows, addedUnless, used}
-use Rattle.script_laws.specs.Text.{bytes, partsText, nodeText, opening, closing, polynomialText}
+use Rattle.rules.specs.Text.{bytes, partsText, nodeText, opening, closing, polynomialText}
 use Rattle.script_laws.specs.Known.{Table, with-each}
 use Rattle.sign_laws.specs.Lists.{Every}
 

@@ -8,12 +8,12 @@ use lib.Dec.{eqb, leb}
 use lib.IntN.{ℤ, pos, negsuc, negℤ, natAbs}
 use borrow.Author.Tests.{eqb-true, leb-true}
 use Rattle.sign_laws.specs.Booleans.{and-first, and-second}
-use Rattle.script_laws.specs.Reader.{Reader, give}
+use Rattle.rules.specs.Reader.{Reader, give}
 use Rattle.script_laws.specs.Leading.{Leads, arrived}
-use Rattle.script_laws.specs.Combine.{given, say, _then_, Choice, oneOf}
+use Rattle.rules.specs.Combine.{given, say, _then_, Choice, oneOf}
 use Rattle.script_laws.specs.CombineLaws.{Reads, Passed, passed, read-then, then-read, fine-read, Fine, fine-give, said-giving, Just, just, say-just, fine-say, Apart, left-stuck, right-stuck, bytes-apart, leads-left, leads-right, Either, by-left, by-right, or-leads, goes-left, open-or, apart-or, tellable, Chosen, this, other, leads-chosen, chosen-leads, AllFine, choices, open-choices}
-use Rattle.script_laws.specs.Text.{bytes, digits, numberText}
-use Rattle.script_laws.specs.Reading.{magnitude, numberOr}
+use Rattle.rules.specs.Text.{bytes, digits, numberText}
+use Rattle.rules.specs.Reading.{magnitude, numberOr}
 use Rattle.script_laws.specs.Numbers.{Sized, magnitude-reads}
 
 -- ---- A text that begins with a digit begins with no parenthesis.

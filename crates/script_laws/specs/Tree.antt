@@ -12,12 +12,12 @@ use Rattle.rules.specs.Polynomial.{Polynomial, Atom}
 use Rattle.rules.specs.Formula.{Parts, end, atom, and, or, Node, leaf, allOf, anyOf, before, alone, children, nodes}
 use Rattle.rules.specs.Answer.{used}
 use Rattle.sign_laws.specs.Booleans.{and-first, and-second, and-intro}
-use Rattle.script_laws.specs.Reader.{Reader, give, stuck}
+use Rattle.rules.specs.Reader.{Reader, give, stuck}
 use Rattle.script_laws.specs.Leading.{Leads, arrived}
-use Rattle.script_laws.specs.Combine.{say, _then_, Choice}
+use Rattle.rules.specs.Combine.{say, _then_, Choice}
 use Rattle.script_laws.specs.CombineLaws.{Reads, Passed, passed, read-then, then-read, fine-read, Fine, fine-give, said-giving, Just, just, say-just, fine-say, say-leads, said, Behind, tellable, differsFromAll, differ, Chosen, this, other, leads-chosen, chosen-leads, no-choice, choices, fine-choices}
-use Rattle.script_laws.specs.Text.{bytes, polynomialText, opening, closing, partsText, nodeText}
-use Rattle.script_laws.specs.Reading.{choice, knownPolynomial, atomWith, Inside, nodeBy, roomBehind, laterKids, kidsBy, node}
+use Rattle.rules.specs.Text.{bytes, polynomialText, opening, closing, partsText, nodeText}
+use Rattle.rules.specs.Reading.{choice, knownPolynomial, atomWith, Inside, nodeBy, roomBehind, laterKids, kidsBy, node}
 use Rattle.script_laws.specs.Known.{Table, MayCome}
 use Rattle.script_laws.specs.Shaped.{Shaped, NodeFits, PartsFit, before-shaped, shaped-first, shaped-rest, before-used, before-nodes, some-node, before-children, children-at-most, before-text, used-longer, used-table}
 

@@ -10,10 +10,10 @@ use Rattle.rules.specs.Formula.{leaf, open-formula}
 use Rattle.rules.specs.Block.{Block}
 use Rattle.rules.specs.Answer.{open-answer}
 use Rattle.rules.specs.Report.{open-report}
-use Rattle.script_laws.specs.Reader.{held, stopped, readFrom}
-use Rattle.script_laws.specs.Combine.{open-combine}
-use Rattle.script_laws.specs.Text.{bytes, scriptOf, open-text}
-use Rattle.script_laws.specs.Reading.{readText, open-reading}
+use Rattle.rules.specs.Reader.{held, stopped, readFrom}
+use Rattle.rules.specs.Combine.{open-combine}
+use Rattle.rules.specs.Text.{bytes, scriptOf, open-text}
+use Rattle.rules.specs.Reading.{readText, open-reading}
 
 abbrev answerA : Block
 answerA = record {

@@ -12,9 +12,9 @@ use lib.Seq.{sets}
 use borrow.Author.Tests.{ltb-true, not-true, not-false}
 use Rattle.sign_laws.specs.Booleans.{and-first, and-second, never-both}
 use Rattle.rules.specs.Polynomial.{Term, Polynomial}
-use Rattle.script_laws.specs.Reader.{Reader, give}
-use Rattle.script_laws.specs.Combine.{say, _then_}
-use Rattle.script_laws.specs.Reading.{numberOr, constantOf, nextTerm, otherTerms}
+use Rattle.rules.specs.Reader.{Reader, give}
+use Rattle.rules.specs.Combine.{say, _then_}
+use Rattle.rules.specs.Reading.{numberOr, constantOf, nextTerm, otherTerms}
 use Rattle.script_laws.specs.Steps.{got, stop, readPart}
 use Rattle.script_polynomial.specs.At.{readAt, Stops, Reaches, byte-inside, then-stops, then-on, stops-as, reaches-as}
 use Rattle.script_polynomial.specs.Joined.{then-as, then-then}

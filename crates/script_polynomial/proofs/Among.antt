@@ -13,12 +13,12 @@ use Rattle.rules.specs.Polynomial.{Polynomial}
 use Rattle.rules.specs.Limits.{PolynomialWithin}
 use Rattle.rules.specs.Answer.{knows, addedUnless}
 use Rattle.sign_laws.specs.Booleans.{never-both}
-use Rattle.script_laws.specs.Reader.{Reader, give, stuck, ask}
-use Rattle.script_laws.specs.Combine.{given, dropIf, after, isSome, only}
+use Rattle.rules.specs.Reader.{Reader, give, stuck, ask}
+use Rattle.rules.specs.Combine.{given, dropIf, after, isSome, only}
 use Rattle.script_laws.specs.Leading.{Leads, arrived, onward}
 use Rattle.script_laws.specs.CombineLaws.{Reads}
-use Rattle.script_laws.specs.Text.{bytes, polynomialText}
-use Rattle.script_laws.specs.Reading.{beyond, polynomial, ofKnown, knownPolynomial}
+use Rattle.rules.specs.Text.{bytes, polynomialText}
+use Rattle.rules.specs.Reading.{beyond, polynomial, ofKnown, knownPolynomial}
 use Rattle.script_laws.specs.Polynomials.{polynomial-reads}
 use Rattle.script_laws.specs.Products.{product-reads}
 use Rattle.script_laws.specs.Known.{Table, with, MayCome, known-reads}

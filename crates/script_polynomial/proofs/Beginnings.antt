@@ -12,10 +12,10 @@ use lib.Seq.{getD-drop}
 use borrow.Author.Tests.{eq-eqb, ne-eqb, eqb-true, eqb-false}
 use Rattle.sign_laws.specs.Booleans.{and-first, and-second, and-intro, never-both}
 use Rattle.rules.specs.Polynomial.{Term, Polynomial}
-use Rattle.script_laws.specs.Reader.{Reader, give, stuck, ask}
-use Rattle.script_laws.specs.Combine.{given, say, _then_, _union_, oneOf}
-use Rattle.script_laws.specs.Text.{bytes}
-use Rattle.script_laws.specs.Reading.{digitsAfter, magnitude, numberOr, constantOf, product, nextTerm, otherTerms, polynomial, beyond}
+use Rattle.rules.specs.Reader.{Reader, give, stuck, ask}
+use Rattle.rules.specs.Combine.{given, say, _then_, _union_, oneOf}
+use Rattle.rules.specs.Text.{bytes}
+use Rattle.rules.specs.Reading.{digitsAfter, magnitude, numberOr, constantOf, product, nextTerm, otherTerms, polynomial, beyond}
 use Rattle.script_laws.specs.Steps.{readPart}
 use Rattle.script_polynomial.specs.At.{readAt}
 use Rattle.script_polynomial.specs.Joined.{say-then, then-as, then-then}

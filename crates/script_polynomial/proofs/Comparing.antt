@@ -15,7 +15,7 @@ use Rattle.sign_laws.specs.Booleans.{and-false}
 use Rattle.forms.specs.Slots.{slotOf}
 use Rattle.forms.specs.Working.{TableRead}
 use Rattle.lines.specs.Written.{Wrote, wrote-long, front-again}
-use Rattle.script_laws.specs.Text.{polynomialText}
+use Rattle.rules.specs.Text.{polynomialText}
 use Rattle.script_laws.specs.Length.{length-polynomial}
 use Rattle.script_polynomial.specs.Agreement.{common}
 use Rattle.script_polynomial.specs.Terms.{Room}

@@ -8,10 +8,10 @@ use lib.Dec.{eqb, leb}
 use lib.ListN.{length, drop, getD}
 use borrow.Author.Tests.{eq-eqb, ne-eqb, le-leb, lt-leb, leb-true, not-true, not-false}
 use Rattle.sign_laws.specs.Booleans.{and-first, and-second, and-false}
-use Rattle.script_laws.specs.Reader.{Reader, give, stuck, ask}
-use Rattle.script_laws.specs.Combine.{given, say}
+use Rattle.rules.specs.Reader.{Reader, give, stuck, ask}
+use Rattle.rules.specs.Combine.{given, say}
 use Rattle.script_laws.specs.Numbers.{Sized}
-use Rattle.script_laws.specs.Reading.{digitMay, endOr, digitsAfter, magnitude}
+use Rattle.rules.specs.Reading.{digitMay, endOr, digitsAfter, magnitude}
 use Rattle.script_laws.specs.Steps.{got, stop, readPart}
 use Rattle.script_polynomial.specs.At.{readAt, Stops, Reaches, byte-inside, byte-on, byte-stops, stops-as, reaches-as}
 use Rattle.script_polynomial.specs.Found.{NumberOf, NumberFound}

@@ -13,11 +13,11 @@ use borrow.Author.Tests.{eq-eqb, eqb-true, lt-ltb, le-ltb, le-leb, lt-leb, ltb-t
 use Rattle.rules.specs.Polynomial.{exponent}
 use Rattle.terms.specs.Exponents.{exponent-shifted}
 use Rattle.sign_laws.specs.Booleans.{and-first, and-second, and-intro, and-false, never-both, never-true}
-use Rattle.script_laws.specs.Reader.{Reader, give}
-use Rattle.script_laws.specs.Combine.{say}
+use Rattle.rules.specs.Reader.{Reader, give}
+use Rattle.rules.specs.Combine.{say}
 use Rattle.script_laws.specs.Products.{beyond-sixteen}
-use Rattle.script_laws.specs.Text.{letter}
-use Rattle.script_laws.specs.Reading.{factorMay, anyMay, letters, afterFactor}
+use Rattle.rules.specs.Text.{letter}
+use Rattle.rules.specs.Reading.{factorMay, anyMay, letters, afterFactor}
 use Rattle.script_laws.specs.Steps.{got, stop, readPart}
 use Rattle.script_polynomial.specs.At.{readAt, Stops, Reaches, byte-inside, stops-as, reaches-as}
 use Rattle.script_polynomial.specs.Closing.{byte-said, byte-unsaid, ends, ends-not, goes-on}

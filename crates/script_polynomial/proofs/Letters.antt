@@ -10,10 +10,10 @@ use lib.Dec.{eqb, leb, ltb}
 use lib.ListN.{length, drop, getD}
 use borrow.Author.Tests.{eq-eqb, ne-eqb, eqb-true, lt-ltb, le-leb}
 use Rattle.sign_laws.specs.Booleans.{and-intro}
-use Rattle.script_laws.specs.Reader.{Reader, give, stuck, ask}
-use Rattle.script_laws.specs.Combine.{given, say, _union_}
-use Rattle.script_laws.specs.Text.{letter}
-use Rattle.script_laws.specs.Reading.{factorMay, anyMay, letters}
+use Rattle.rules.specs.Reader.{Reader, give, stuck, ask}
+use Rattle.rules.specs.Combine.{given, say, _union_}
+use Rattle.rules.specs.Text.{letter}
+use Rattle.rules.specs.Reading.{factorMay, anyMay, letters}
 use Rattle.script_laws.specs.Steps.{stop}
 use Rattle.script_polynomial.specs.At.{readAt, byte-on, byte-stops}
 use Rattle.script_polynomial.specs.Ways.{or-stuck}

@@ -5,9 +5,9 @@ use Prim.Native.Nat.{ℕ, _+_, _-_, _≤_, _<_}
 use lib.IntN.{ℤ}
 use lib.ListN.{length, drop, set}
 use Rattle.rules.specs.Polynomial.{Term}
-use Rattle.script_laws.specs.Reader.{Reader, give}
-use Rattle.script_laws.specs.Combine.{_then_}
-use Rattle.script_laws.specs.Reading.{numberOr, letters, afterFactor, product}
+use Rattle.rules.specs.Reader.{Reader, give}
+use Rattle.rules.specs.Combine.{_then_}
+use Rattle.rules.specs.Reading.{numberOr, letters, afterFactor, product}
 use Rattle.script_laws.specs.Steps.{got, stop, readPart}
 use Rattle.script_polynomial.specs.At.{readAt, Stops, Reaches, then-stops, then-on, stops-as, reaches-as}
 use Rattle.script_polynomial.specs.Agreement.{common, run-stops, run-on}

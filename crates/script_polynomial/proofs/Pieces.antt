@@ -13,7 +13,7 @@ use Rattle.rules.specs.Answer.{knows, numberIn}
 use Rattle.terms.specs.View.{termsFrom}
 use Rattle.forms.specs.Slots.{slotOf, firstFrom}
 use Rattle.forms.specs.Working.{TableRead}
-use Rattle.script_laws.specs.Reading.{polynomial, knownPolynomial}
+use Rattle.rules.specs.Reading.{polynomial, knownPolynomial}
 use Rattle.script_laws.specs.Known.{with}
 use Rattle.script_polynomial.specs.At.{Stops, Reaches}
 use Rattle.script_polynomial.specs.Terms.{Room, SumRead, SumOf, SumFound}

@@ -10,10 +10,10 @@ use lib.ListN.{length, drop, getD, set, length-set}
 use lib.Pow.{pow-lt}
 use lib.Seq.{sets}
 use Rattle.rules.specs.Polynomial.{Term, Polynomial}
-use Rattle.script_laws.specs.Reader.{Reader, give}
-use Rattle.script_laws.specs.Combine.{say, _then_}
-use Rattle.script_laws.specs.Text.{bytes}
-use Rattle.script_laws.specs.Reading.{beyond, nextTerm, otherTerms, polynomial}
+use Rattle.rules.specs.Reader.{Reader, give}
+use Rattle.rules.specs.Combine.{say, _then_}
+use Rattle.rules.specs.Text.{bytes}
+use Rattle.rules.specs.Reading.{beyond, nextTerm, otherTerms, polynomial}
 use Rattle.script_laws.specs.Steps.{got, stop, readPart}
 use Rattle.script_polynomial.specs.At.{readAt, Stops, Reaches, byte-inside, then-stops, then-on, stops-as, reaches-as}
 use Rattle.script_polynomial.specs.Agreement.{common, run-stops, run-on}

@@ -13,11 +13,11 @@ use mir.Syntax.{w32}
 use mir.Val.{SFits, toZ, ofZ}
 use mir.ValLaws.{toZ-ofZ}
 use borrow.Author.Tests.{eq-eqb, ne-eqb}
-use Rattle.script_laws.specs.Reader.{Reader, give, stuck, ask}
-use Rattle.script_laws.specs.Combine.{given, say, _then_, _union_, oneOf}
+use Rattle.rules.specs.Reader.{Reader, give, stuck, ask}
+use Rattle.rules.specs.Combine.{given, say, _then_, _union_, oneOf}
 use Rattle.script_laws.specs.Numbers.{Sized}
-use Rattle.script_laws.specs.Text.{bytes}
-use Rattle.script_laws.specs.Reading.{magnitude, numberOr}
+use Rattle.rules.specs.Text.{bytes}
+use Rattle.rules.specs.Reading.{magnitude, numberOr}
 use Rattle.script_laws.specs.Steps.{got, stop, readPart}
 use Rattle.script_polynomial.specs.At.{readAt, Stops, Reaches, byte-inside, byte-on, byte-stops, then-stops, then-on, stops-as, reaches-as}
 use Rattle.script_polynomial.specs.Agreement.{common, run-stops, run-on}

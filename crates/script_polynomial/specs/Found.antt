@@ -2,10 +2,10 @@
 use mathlib.Core.List.{List, [], _∷_}
 use Prim.Native.Nat.{ℕ}
 use lib.IntN.{ℤ, pos, negℤ}
-use Rattle.script_laws.specs.Reader.{Reader, give}
-use Rattle.script_laws.specs.Combine.{say, _then_}
-use Rattle.script_laws.specs.Text.{bytes}
-use Rattle.script_laws.specs.Reading.{magnitude}
+use Rattle.rules.specs.Reader.{Reader, give}
+use Rattle.rules.specs.Combine.{say, _then_}
+use Rattle.rules.specs.Text.{bytes}
+use Rattle.rules.specs.Reading.{magnitude}
 use Rattle.script_polynomial.specs.At.{Stops, Reaches}
 use Rattle.script_polynomial.specs.declared.numbers.Number.{Number}
 use Rattle.script_polynomial.specs.declared.numbers.Number.the-variants.{Stopped as NoNumber, Read as ReadNumber}

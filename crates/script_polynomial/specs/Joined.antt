@@ -5,8 +5,8 @@ use mathlib.Core.Path.{_≡_, refl, ap, _∙_, fun-ext}
 use Prim.Native.Nat.{ℕ}
 use lib.Dec.{eqb}
 use lib.ListN.{drop}
-use Rattle.script_laws.specs.Reader.{Reader, give, stuck, ask}
-use Rattle.script_laws.specs.Combine.{given, say, _then_}
+use Rattle.rules.specs.Reader.{Reader, give, stuck, ask}
+use Rattle.rules.specs.Combine.{given, say, _then_}
 use Rattle.script_laws.specs.Steps.{Part, got, stop, readPart, andThen, part-then}
 use Rattle.script_polynomial.specs.At.{readAt}
 

@@ -5,9 +5,9 @@ use mathlib.Core.List.{List}
 use mathlib.Core.Path.{_≡_}
 use Prim.Native.Nat.{ℕ, suc, _+_, _-_, _*_, _/_, _%_, _^_, _≤_, _<_}
 use lib.ListN.{length}
-use Rattle.script_laws.specs.Reader.{Reader}
-use Rattle.script_laws.specs.Text.{letter}
-use Rattle.script_laws.specs.Reading.{factorMay, letters, afterFactor}
+use Rattle.rules.specs.Reader.{Reader}
+use Rattle.rules.specs.Text.{letter}
+use Rattle.rules.specs.Reading.{factorMay, letters, afterFactor}
 use Rattle.script_polynomial.specs.At.{readAt, Stops, Reaches}
 use Rattle.script_polynomial.specs.declared.products.Letter.{Letter}
 use Rattle.script_polynomial.specs.declared.products.Letter.the-variants.{None, Followed}

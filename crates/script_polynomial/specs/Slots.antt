@@ -8,7 +8,7 @@ use lib.ListN.{length, getD}
 use Rattle.rules.specs.Polynomial.{Polynomial, sameNumber}
 use Rattle.rules.specs.Limits.{PolynomialWithin}
 use Rattle.forms.specs.Slots.{slotOf}
-use Rattle.script_laws.specs.Text.{bytes, polynomialText}
+use Rattle.rules.specs.Text.{bytes, polynomialText}
 use Rattle.script_polynomial.specs.Agreement.{common}
 use Rattle.script_polynomial.specs.Terms.{Room}
 

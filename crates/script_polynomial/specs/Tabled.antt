@@ -11,7 +11,7 @@ use Rattle.rules.specs.Limits.{TableWithin}
 use Rattle.rules.specs.Answer.{numberIn}
 use Rattle.block.specs.Held.{slots}
 use Rattle.script_laws.specs.Known.{with}
-use Rattle.script_laws.specs.Reading.{knownPolynomial}
+use Rattle.rules.specs.Reading.{knownPolynomial}
 use Rattle.script_polynomial.specs.At.{Stops, Reaches}
 use Rattle.script_polynomial.specs.Slots.{spacedText, agreement}
 use Rattle.script_polynomial.specs.declared.Piece.{Piece}

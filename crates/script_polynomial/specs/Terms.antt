@@ -8,10 +8,10 @@ use lib.IntN.{ℤ, pos}
 use lib.ListN.{length, getD, set}
 use lib.Seq.{sets}
 use Rattle.rules.specs.Polynomial.{Term, Polynomial}
-use Rattle.script_laws.specs.Reader.{Reader, give}
-use Rattle.script_laws.specs.Combine.{say, _then_}
-use Rattle.script_laws.specs.Text.{bytes}
-use Rattle.script_laws.specs.Reading.{numberOr, letters, afterFactor, product, constantOf, nextTerm, otherTerms, beyond}
+use Rattle.rules.specs.Reader.{Reader, give}
+use Rattle.rules.specs.Combine.{say, _then_}
+use Rattle.rules.specs.Text.{bytes}
+use Rattle.rules.specs.Reading.{numberOr, letters, afterFactor, product, constantOf, nextTerm, otherTerms, beyond}
 use Rattle.script_polynomial.specs.At.{readAt, Stops, Reaches}
 use Rattle.script_polynomial.specs.declared.numbers.Number.{Number}
 use Rattle.script_polynomial.specs.declared.numbers.Number.the-variants.{Stopped as NoNumber, Read as ReadNumber}

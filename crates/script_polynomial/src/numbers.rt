@@ -3,7 +3,7 @@ ghost use mathlib.Core.Path.{_≡_};
 ghost use mathlib.Core.List.{[]};
 ghost use Prim.Native.Nat.{_≤_, _<_};
 ghost use lib.ListN.{length};
-ghost use Rattle.script_laws.specs.Reading.{digitMay, digitsAfter, magnitude, numberOr};
+ghost use Rattle.rules.specs.Reading.{digitMay, digitsAfter, magnitude, numberOr};
 ghost use Rattle.script_laws.specs.Numbers.{Sized};
 ghost use Rattle.script_polynomial.specs.Found.{NumberFound, plainNumber, minusNumber, ValueFound};
 use crate::bytes::agreed;

@@ -5,7 +5,7 @@ ghost use mathlib.Core.Path.{_≡_};
 ghost use Prim.Native.Nat.{_-_, _^_, _*_, _≤_, _<_};
 ghost use lib.Dec.{eqb};
 ghost use lib.ListN.{length};
-ghost use Rattle.script_laws.specs.Reading.{anyMay, letters, afterFactor, product};
+ghost use Rattle.rules.specs.Reading.{anyMay, letters, afterFactor, product};
 ghost use Rattle.script_polynomial.specs.Found.{NumberFound};
 ghost use Rattle.script_polynomial.specs.Terms.{factorsOf, ProductFound};
 ghost use Rattle.script_polynomial.specs.Letters.{LetterFound, Packed, FactorFound};

@@ -4,7 +4,7 @@ ghost use mathlib.Core.Path.{_≡_};
 ghost use Prim.Native.Nat.{ℕ, _+_, _-_, _≤_, _<_};
 ghost use lib.Dec.{eqb, ltb};
 ghost use lib.ListN.{length, getD};
-ghost use Rattle.script_laws.specs.Reading.{beyond, nextTerm, otherTerms, polynomial};
+ghost use Rattle.rules.specs.Reading.{beyond, nextTerm, otherTerms, polynomial};
 ghost use Rattle.script_polynomial.specs.Terms.{Room, opensWith, productTerm, TermFound, ConstantFound, aloneTerm, sumOfTerms, aloneOf};
 ghost use Rattle.script_polynomial.specs.Terms.{SumFound, AfterFound, StepFound, OthersFound, Counted, oneMoreOf, SpaceFound};
 use crate::bytes::agreed;

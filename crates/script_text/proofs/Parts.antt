@@ -15,7 +15,7 @@ use Rattle.rules.specs.Answer.{lookedUp}
 use Rattle.terms.specs.View.{termsFrom}
 use Rattle.writer.specs.Written.{PartsHeld}
 use Rattle.lines.specs.Written.{Wrote, wrote-nothing}
-use Rattle.script_laws.specs.Text.{bytes, ifSo, opening, closing, polynomialText, partsText, nodeText}
+use Rattle.rules.specs.Text.{bytes, ifSo, opening, closing, polynomialText, partsText, nodeText}
 use Rattle.script_laws.specs.PlainBlocks.{every-loaded, table-every}
 use Rattle.script_text.specs.Runs.{Fits, Split, two-runs, fits-first, fits-second, wrote-split}
 use Rattle.script_text.specs.Tree.{storedAt, Terms, Table, Named, joinText, Ahead, SomeAhead, textOf, PartsPut}

@@ -14,7 +14,7 @@ use Rattle.rules.specs.Answer.{lookedUp, formulaOf}
 use Rattle.ending_laws.specs.Shapes.{is-end-each}
 use Rattle.writer.specs.Written.{PartsHeld}
 use Rattle.lines.specs.Written.{Wrote, wrote-as}
-use Rattle.script_laws.specs.Text.{bytes, ifSo, partsText, nodeText, rootText, declarations, formulaText, scriptOf}
+use Rattle.rules.specs.Text.{bytes, ifSo, partsText, nodeText, rootText, declarations, formulaText, scriptOf}
 use Rattle.script_laws.specs.Length.{script-length}
 use Rattle.script_text.specs.Runs.{Fits, Split, two-runs, fits-as, fits-first, fits-second, wrote-split}
 use Rattle.script_text.specs.Tree.{storedAt, Terms, Table, Named, joinText, noneText, Ahead, SomeAhead, textOf, Stands, SomeRoot}

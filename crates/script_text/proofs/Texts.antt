@@ -16,8 +16,8 @@ use Rattle.rules.specs.Report.{digit}
 use Rattle.terms.specs.View.{termAt, termsFrom}
 use Rattle.terms.specs.Exponents.{exponent-shifted}
 use Rattle.lines.specs.Written.{Wrote, wrote-nothing}
-use Rattle.script_laws.specs.Text.{bytes, ifSo, digitsWithin, digits, numberText, letter, power, factors, termText, summands, polynomialText}
-use Rattle.script_laws.specs.Text.{opening, closing, nodeText, declaration, declarations}
+use Rattle.rules.specs.Text.{bytes, ifSo, digitsWithin, digits, numberText, letter, power, factors, termText, summands, polynomialText}
+use Rattle.rules.specs.Text.{opening, closing, nodeText, declaration, declarations}
 use Rattle.script_text.specs.Runs.{Split}
 use Rattle.script_text.specs.Tree.{joinText, noneText}
 

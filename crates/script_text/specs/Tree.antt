@@ -14,7 +14,7 @@ use Rattle.terms.specs.View.{termsFrom}
 use Rattle.writer.specs.Written.{PartsHeld}
 use Rattle.forms.specs.Holding.{Holds}
 use Rattle.lines.specs.Written.{Wrote}
-use Rattle.script_laws.specs.Text.{bytes, ifSo, partsText, rootText}
+use Rattle.rules.specs.Text.{bytes, ifSo, partsText, rootText}
 use Rattle.script_text.specs.Runs.{Fits}
 use Rattle.script_text.specs.declared.Spot.{Spot}
 

@@ -8,7 +8,7 @@ ghost use Rattle.rules.specs.Formula.{Parts, leaf};
 ghost use Rattle.rules.specs.Block.{NumberedAtom, Block};
 ghost use Rattle.rules.specs.Answer.{formulaOf};
 ghost use Rattle.lines.specs.Written.{Wrote};
-ghost use Rattle.script_laws.specs.Text.{opening, closing, nodeText, rootText, declarations, scriptOf};
+ghost use Rattle.rules.specs.Text.{opening, closing, nodeText, rootText, declarations, scriptOf};
 ghost use Rattle.script_text.specs.Runs.{Fits};
 ghost use Rattle.script_text.specs.Tree.{storedAt, Terms, joinText, noneText, Ahead, SomeAhead, PartsPut, Stands, SomeStands, SomeRoot};
 

@@ -2,7 +2,7 @@
 // A polynomial is so many terms from a place of the arrays on.
 ghost use Prim.Native.Nat.{_+_, _≤_};
 ghost use Rattle.terms.specs.View.{termsFrom};
-ghost use Rattle.script_laws.specs.Text.{factors, termText, summands, polynomialText};
+ghost use Rattle.rules.specs.Text.{factors, termText, summands, polynomialText};
 ghost use Rattle.lines.specs.Written.{Wrote};
 ghost use Rattle.script_text.specs.Runs.{Fits};
 ghost use Rattle.script_text.specs.Tree.{Terms};

@@ -2,7 +2,7 @@
 // Each function returns the place behind the run, also where the run does not fit: so a text of no length measures.
 ghost use mathlib.Core.List.{[], _∷_};
 ghost use Prim.Native.Nat.{_<_};
-ghost use Rattle.script_laws.specs.Text.{numberText, digitsWithin, power};
+ghost use Rattle.rules.specs.Text.{numberText, digitsWithin, power};
 ghost use Rattle.rules.specs.Report.{digit};
 ghost use Rattle.lines.specs.Written.{Wrote};
 ghost use Rattle.script_text.specs.Runs.{Fits};

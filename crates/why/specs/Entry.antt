@@ -11,7 +11,7 @@ use Rattle.block.specs.declared.Contents.{Contents}
 use Rattle.block.specs.declared.Contents.the-variants.{Refused as NoBlock, Numbers}
 use Rattle.block.specs.Held.{heldBy, heldOf}
 use Rattle.block.specs.Steps.{ContentsOf, ContentsFound}
-use Rattle.reason_laws.specs.Reasons.{Reason as BookReason, Why, refusal, explained, whyOf, why, recordsWritten}
+use Rattle.rules.specs.Reasons.{Reason as BookReason, Why, refusal, explained, whyOf, why, recordsWritten}
 use Rattle.reasons.specs.declared.Reason.{Reason}
 use Rattle.reasons.specs.declared.Found.{Found}
 use Rattle.reasons.specs.Records.{made}

@@ -3,7 +3,7 @@ use mathlib.Core.Path.{_≡_, refl, sym, ap, _∙_, subst}
 use mathlib.Core.List.{List}
 use Prim.Native.Nat.{ℕ, _+_, _≤_}
 use lib.ListN.{length}
-use Rattle.reason_laws.specs.Reasons.{Why, refusal, explained, recordsWritten}
+use Rattle.rules.specs.Reasons.{Why, refusal, explained, recordsWritten}
 use Rattle.reasons.specs.declared.Reason.{Reason}
 use Rattle.reasons.specs.Records.{made}
 use Rattle.why.specs.declared.Outcome.{Outcome}

@@ -14,7 +14,7 @@ use Rattle.rules.specs.Formula.{anyOf, eachAtom, eachAtomOf, inOrder, alone, be
 use Rattle.rules.specs.Level.{Placed, placedAt, placedFrom, placedTree, normalPlaced}
 use Rattle.rules.specs.Block.{NumberedAtom}
 use Rattle.rules.specs.Limits.{PartsWithin}
-use Rattle.reason_laws.specs.Reasons.{clausesFrom, withFirst, onlyAtoms, atomsOfAnd}
+use Rattle.rules.specs.Reasons.{clausesFrom, withFirst, onlyAtoms, atomsOfAnd}
 use Rattle.block.specs.Held as held
 use Rattle.places.specs.Places.{isAtom}
 use Rattle.level.specs.Tree.{tokens, kindOf}

@@ -13,8 +13,8 @@ use Rattle.rules.specs.Polynomial.{Atom}
 use Rattle.rules.specs.Level.{plains}
 use Rattle.rules.specs.Block.{Block, Stream, Reading, refused, read, readBlock}
 use Rattle.rules.specs.Answer.{formulaOf, simplified, newPlaces, verdictOf}
-use Rattle.reason_laws.specs.Reasons.{Reason, placesOf, clausesFrom, mergedList, fails, reasons, atomsOfAnd}
-use Rattle.reason_laws.specs.Reasons.{Why, refusal, explained, unlessFewer, whyAtoms, whyOf, why}
+use Rattle.rules.specs.Reasons.{Reason, placesOf, clausesFrom, mergedList, fails, reasons, atomsOfAnd}
+use Rattle.rules.specs.Reasons.{Why, refusal, explained, unlessFewer, whyAtoms, whyOf, why}
 use Rattle.reason_laws.specs.Records.{keptByRecords}
 use Rattle.reason_laws.specs.Asked.{Asked, toldVerdict, records-true, kept-places, verdict-told}
 

@@ -20,7 +20,7 @@ use Rattle.rules.specs.Limits.{PartsWithin, BlockWithin}
 use Rattle.rules.specs.Answer.{lookedUp, formulaOf}
 use Rattle.block_laws.specs.Blocks.{accepted-within}
 use Rattle.ending_laws.specs.Nestings.{alone-each}
-use Rattle.reason_laws.specs.Reasons.{clausesFrom, reasons, atomsOfAnd, Why, refusal, explained, unlessFewer, whyAtoms, whyOf, why}
+use Rattle.rules.specs.Reasons.{clausesFrom, reasons, atomsOfAnd, Why, refusal, explained, unlessFewer, whyAtoms, whyOf, why}
 use Rattle.block.specs.declared.Held.{Held}
 use Rattle.block.specs.Held as reader
 use Rattle.block.specs.Held.{heldOf}

@@ -2,7 +2,7 @@
 // number.
 ghost use mathlib.Core.Path.{_≡_};
 ghost use lib.ListN.{length};
-ghost use Rattle.reason_laws.specs.Reasons.{why as whyBook};
+ghost use Rattle.rules.specs.Reasons.{why as whyBook};
 ghost use Rattle.why.specs.Exported.{numberIn, Few, Exports};
 use crate::Outcome;
 use crate::why;

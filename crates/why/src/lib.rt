@@ -4,7 +4,7 @@ ghost use mathlib.Core.Path.{_≡_};
 ghost use mathlib.Core.List.{_++_};
 ghost use Prim.Native.Nat.{_<_};
 ghost use lib.ListN.{length, take, drop, getD};
-ghost use Rattle.reason_laws.specs.Reasons.{why as whyBook};
+ghost use Rattle.rules.specs.Reasons.{why as whyBook};
 ghost use Rattle.reasons.specs.Records.{blank};
 ghost use Rattle.why.specs.Entry.{Tells, Fits, Answers};
 use crate::reading::explained;

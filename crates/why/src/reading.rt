@@ -4,7 +4,7 @@ ghost use mathlib.Core.List.{List};
 ghost use Prim.Native.Nat.{ℕ, _≤_};
 ghost use lib.ListN.{length, take, drop};
 ghost use Rattle.block.specs.Held.{heldBy};
-ghost use Rattle.reason_laws.specs.Reasons.{reasons, why as whyBook};
+ghost use Rattle.rules.specs.Reasons.{reasons, why as whyBook};
 ghost use Rattle.reasons.specs.Records.{Tells as TellsReasons};
 ghost use Rattle.why.specs.Flat.{allAtoms, behindRoot, andOfAtoms};
 ghost use Rattle.why.specs.declared.Outcome.the-variants.{Refused};

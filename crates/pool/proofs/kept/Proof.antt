@@ -1,7 +1,7 @@
 -- `kept` meets its contract.
 use mathlib.Core.Path.{_≡_, refl}
 use Prim.Native.Nat.{ℕ, zero, suc}
-use Rattle.pool_laws.specs.Pool.{unlessNone}
+use Rattle.rules.specs.Pool.{unlessNone}
 use Rattle.pool.proofs.kept.Statement.{statement}
 use Rattle.pool.proofs.kept.Tie as tie
 

@@ -6,7 +6,7 @@ use native.Mathlib.Nat.{sub-zero}
 use native.Mathlib.Omega.{arith}
 use lib.ListN.{getD}
 use Rattle.rules.specs.Polynomial.{Polynomial}
-use Rattle.pool_laws.specs.Pool.{stores, formsInUse}
+use Rattle.rules.specs.Pool.{stores, formsInUse}
 use Rattle.pool_laws.specs.Places.{firstPlace, newForms}
 use Rattle.terms.specs.View.{numbersFrom}
 use Rattle.forms.specs.Slots.{slotOf}

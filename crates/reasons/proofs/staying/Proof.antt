@@ -1,7 +1,7 @@
 -- `staying` meets its contract: the same set, or another.
 use borrow.Author.Needs.{needs}
 use borrow.Author.Tests.{eq-eqb, ne-eqb}
-use Rattle.reason_laws.specs.Reasons.{keptOrNarrowed}
+use Rattle.rules.specs.Reasons.{keptOrNarrowed}
 use Rattle.reasons.specs.Records.{made}
 use Rattle.reasons.proofs.staying.Statement.{statement}
 use Rattle.reasons.proofs.staying.Tie as tie

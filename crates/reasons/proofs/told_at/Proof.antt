@@ -5,7 +5,7 @@ use native.Mathlib.Omega.{arith}
 use lib.Dec.{eqb}
 use Rattle.round.specs.Views.{tableOf}
 use Rattle.tape.specs.Listing.{row-long}
-use Rattle.reason_laws.specs.Reasons.{keptOrNarrowed}
+use Rattle.rules.specs.Reasons.{keptOrNarrowed}
 use Rattle.reasons.specs.Records.{wordsFrom, wordsOf, made}
 use Rattle.reasons.proofs.Stepping.{Way, way-first, tells-staying, others-here, tells-going, one-stays, one-goes, tells-none}
 use Rattle.reasons.proofs.told_at.Statement.{statement}

@@ -1,7 +1,7 @@
 -- `script` meets its contract: what the reader refuses, or what the answer to an accepted block is told as.
 use native.Mathlib.Omega.{arith}
 use borrow.Author.Needs.{needs}
-use Rattle.script_laws.specs.Scripts.{scriptAnswer}
+use Rattle.rules.specs.Scripts.{scriptAnswer}
 use Rattle.script.specs.Entry.{found-refused, found-read, simplified-refused, tells-refused}
 use Rattle.script.proofs.script.Statement.{statement}
 use Rattle.script.proofs.script.Tie as tie

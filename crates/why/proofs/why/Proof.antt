@@ -50,7 +50,7 @@ use Rattle.why.proofs.Outcome.Laws as O′
 use Rattle.why.specs.declared.Told.{Told}
 use Rattle.why.proofs.Told as F
 use Rattle.why.proofs.Told.Laws as F′
-use Rattle.reason_laws.specs.Reasons.{why as whyBook}
+use Rattle.rules.specs.Reasons.{why as whyBook}
 use Rattle.why.specs.Entry.{Tells, Fits, Answers, fits, answers}
 use Rattle.round.proofs.Locals.{gets, held, passing, sets, takes, free}
 use Rattle.why.proofs.Walking.{asks-nothing}

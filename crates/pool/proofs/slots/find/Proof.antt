@@ -4,7 +4,7 @@ use mathlib.Core.Path.{_≡_, sym, ap, _∙_}
 use Prim.Native.Nat.{ℕ, _+_, _-_, _≤_}
 use native.Mathlib.Nat.{zero-add}
 use native.Mathlib.Omega.{arith}
-use Rattle.pool_laws.specs.Pool.{stores}
+use Rattle.rules.specs.Pool.{stores}
 use Rattle.pool_laws.specs.Places.{firstPlace}
 use Rattle.terms.specs.View.{termsFrom}
 use Rattle.pool.specs.Words.{slotsOf}

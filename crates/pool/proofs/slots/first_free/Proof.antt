@@ -3,7 +3,7 @@ use mathlib.Core.Path.{_≡_, sym, ap, _∙_}
 use Prim.Native.Nat.{ℕ, _+_, _-_, _≤_}
 use native.Mathlib.Nat.{zero-add}
 use native.Mathlib.Omega.{arith}
-use Rattle.pool_laws.specs.Pool.{isFree}
+use Rattle.rules.specs.Pool.{isFree}
 use Rattle.pool_laws.specs.Places.{firstPlace}
 use Rattle.pool.specs.Words.{slotsOf}
 use Rattle.pool.proofs.Walks.{firstFrom, first-step, first-found, first-none}

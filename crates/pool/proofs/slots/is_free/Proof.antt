@@ -4,7 +4,7 @@ use mathlib.Core.Path.{ap, _∙_}
 use Prim.Native.Nat.{ℕ, _%_}
 use lib.Dec.{eqb}
 use lib.ListN.{getD}
-use Rattle.pool_laws.specs.Pool.{isFree, slotOf}
+use Rattle.rules.specs.Pool.{isFree, slotOf}
 use Rattle.pool.specs.Marks.{no-mark}
 use Rattle.pool.specs.Words.{slotPlace, slotAt}
 use Rattle.pool.proofs.slots.is_free.Statement.{statement}

@@ -6,7 +6,7 @@ use Prim.Native.Nat.{ℕ, _+_, _*_}
 use native.Mathlib.Omega.{arith}
 use lib.ListN.{getD}
 use Rattle.rules.specs.Polynomial.{same}
-use Rattle.pool_laws.specs.Pool.{isFree, stores, slotOf}
+use Rattle.rules.specs.Pool.{isFree, stores, slotOf}
 use Rattle.terms.specs.View.{few, termsFrom}
 use Rattle.pool.specs.Words.{slotPlace, slotAt, termsIn}
 use Rattle.pool.proofs.Walks.{other-count}

@@ -8,7 +8,7 @@ use native.Mathlib.Omega.{arith}
 use lib.Dec.{eqb}
 use lib.ListN.{getD, set, length-set}
 use borrow.Author.Tests.{eq-eqb, ne-eqb}
-use Rattle.pool_laws.specs.Pool.{either, count}
+use Rattle.rules.specs.Pool.{either, count}
 use Rattle.pool.specs.Marks.{marks, rowWord, count-word}
 use Rattle.pool.specs.Words.{zeros, unlisted}
 use Rattle.pool.proofs.slots.unlist.Statement.{statement}

@@ -3,7 +3,7 @@ use borrow.Author.Tests.{not-true, not-false}
 use mathlib.Core.Path.{_≡_, sym, ap, _∙_}
 use Prim.Native.Nat.{ℕ, _+_, _-_, _≤_}
 use native.Mathlib.Omega.{arith}
-use Rattle.pool_laws.specs.Pool.{isFree}
+use Rattle.rules.specs.Pool.{isFree}
 use Rattle.pool_laws.specs.Places.{usedSlots}
 use Rattle.pool.specs.Words.{slotsOf}
 use Rattle.pool.proofs.Walks.{usedFrom, used-step, free-step, used-none}

@@ -1,6 +1,6 @@
 -- `declared_one` meets its contract: two runs.
 use borrow.Author.Needs.{needs}
-use Rattle.script_laws.specs.Text.{declaration}
+use Rattle.rules.specs.Text.{declaration}
 use Rattle.script_back.proofs.Forks.{said-stops, said-both, said-inside}
 use Rattle.script_back.proofs.declarations.declared_one.Statement.{statement}
 use Rattle.script_back.proofs.declarations.declared_one.Tie as tie

@@ -3,7 +3,7 @@ use mathlib.Core.Path.{sym, _∙_}
 use Prim.Native.Nat.{_+_}
 use native.Mathlib.Omega.{arith}
 use borrow.Author.Needs.{needs}
-use Rattle.script_laws.specs.Text.{letter}
+use Rattle.rules.specs.Text.{letter}
 use Rattle.script_back.proofs.Positions.{stands-inside}
 use Rattle.script_back.proofs.Forks.{byte-stops, byte-said}
 use Rattle.script_back.proofs.declarations.named.Statement.{statement}

@@ -2,7 +2,7 @@
 use native.Mathlib.Omega.{arith}
 use borrow.Author.Needs.{needs}
 use borrow.Author.Tests.{le-leb, lt-leb}
-use Rattle.script_laws.specs.Reading.{digitMay}
+use Rattle.rules.specs.Reading.{digitMay}
 use Rattle.script_polynomial.proofs.numbers.digit_may.Statement.{statement}
 use Rattle.script_polynomial.proofs.numbers.digit_may.Tie as tie
 

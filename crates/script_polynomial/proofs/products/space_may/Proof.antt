@@ -2,7 +2,7 @@
 use Prim.Native.Nat.{_%_}
 use native.Mathlib.Omega.{arith}
 use borrow.Author.Tests.{eq-eqb, ne-eqb, lt-ltb, le-ltb}
-use Rattle.script_laws.specs.Reading.{anyMay}
+use Rattle.rules.specs.Reading.{anyMay}
 use Rattle.script_polynomial.proofs.products.space_may.Statement.{statement}
 use Rattle.script_polynomial.proofs.products.space_may.Tie as tie
 

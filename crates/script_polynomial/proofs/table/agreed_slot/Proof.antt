@@ -8,7 +8,7 @@ use lib.Seq.{length-take-le}
 use borrow.Author.Needs.{needs}
 use Rattle.lines.specs.Written.{wrote-long}
 use Rattle.terms.specs.View.{termsFrom}
-use Rattle.script_laws.specs.Text.{polynomialText}
+use Rattle.rules.specs.Text.{polynomialText}
 use Rattle.script_polynomial.specs.Agreement.{common}
 use Rattle.script_text.specs.Tree.{Terms}
 use Rattle.script_text.specs.Runs.{Fits}

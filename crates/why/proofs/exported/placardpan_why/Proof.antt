@@ -42,7 +42,7 @@ use denote.Triple.Clauses.{Lasts, ensured, lasts}
 use denote.Exit.{yes}
 use Rattle.reasons.specs.declared.Reason.{Reason}
 use Rattle.reasons.proofs.Reason as T
-use Rattle.reason_laws.specs.Reasons.{Why as Told, why as whyBook}
+use Rattle.rules.specs.Reasons.{Why as Told, why as whyBook}
 use Rattle.why.specs.declared.Outcome.{Outcome}
 use Rattle.why.proofs.Outcome as O
 use Rattle.why.proofs.Outcome.Laws as O′

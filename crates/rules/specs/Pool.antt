@@ -6,10 +6,10 @@ use mathlib.Core.Option.{Option, none, some}
 use Prim.Native.Nat.{ℕ, zero, suc}
 use lib.Dec.{leb, ltb, eqb}
 use lib.ListN.{length, getD, set, replicate}
 use Rattle.rules.specs.Polynomial.{Polynomial, same}
 use Rattle.rules.specs.Block.{Block, Reading, refused, read, readBlock}
 use Rattle.rules.specs.Answer.{knows, addedUnless, withoutConstants}
-use Rattle.normal_laws.specs.Shape.{normalForm}
+use Rattle.rules.specs.Polynomial.{normalForm}
 
 -- ---- The forms that a block lists.
 

@@ -6,16 +6,16 @@ use mathlib.Core.List.{List, [], _∷_, _++_, map}
 use Prim.Native.Nat.{ℕ, zero, suc}
 use lib.IntN.{ℤ, pos, negsuc}
 use lib.ListN.{length, take, replicate}
 use Rattle.rules.specs.Signs.{open-signs}
 use Rattle.rules.specs.Polynomial.{Term, Polynomial, open-polynomial}
 use Rattle.rules.specs.Formula.{leaf, open-formula}
 use Rattle.rules.specs.Bits.{open-bits}
 use Rattle.rules.specs.Pairs.{open-pairs}
 use Rattle.rules.specs.Block.{Block, edition1, edition2, writeBlock, open-block}
 use Rattle.rules.specs.Answer.{open-answer}
-use Rattle.pool_laws.specs.Pool.{formsListed, Slot, slotOf, Pool, cleared, emptyPool, formsInUse, Outcome, addBlock, withdraw, Call, addition}
-use Rattle.pool_laws.specs.Pool.{withdrawal, called}
-use Rattle.pool_laws.specs.Pool.{afterAll, refusals, open-pool}
+use Rattle.rules.specs.Pool.{formsListed, Slot, slotOf, Pool, cleared, emptyPool, formsInUse, Outcome, addBlock, withdraw, Call, addition}
+use Rattle.rules.specs.Pool.{withdrawal, called}
+use Rattle.rules.specs.Pool.{afterAll, refusals, open-pool}
 
 abbrev term : ℤ → ℕ → Term
 term a m = record { coefficient = a; monomial = m }

@@ -5,9 +5,9 @@ use mathlib.Core.List.{List, _++_}
 use Prim.Native.Nat.{ℕ, _+_}
 use lib.Dec.{leb}
 use lib.ListN.{length, drop}
 use Rattle.rules.specs.Block.{Block, Reading, refused, read, readBlock}
 use Rattle.rules.specs.Answer.{newBlock}
-use Rattle.script_laws.specs.Text.{scriptOf}
+use Rattle.rules.specs.Text.{scriptOf}
 
 pub data Scripted : Type 0 where
   refusedBy : ℕ → Scripted

@@ -6,14 +6,14 @@ use Prim.Native.Nat.{ℕ, zero, suc, _+_, _-_, _*_, _%_, _^_}
 use lib.Dec.{eqb, leb, ltb}
 use lib.IntN.{ℤ, pos, negℤ}
 use lib.ListN.{length}
 use Rattle.rules.specs.Signs.{SignSet}
 use Rattle.rules.specs.Polynomial.{Term, Polynomial, Atom}
 use Rattle.rules.specs.Formula.{Parts, end, and, or, Node, leaf, allOf, anyOf, before, alone, nodes}
 use Rattle.rules.specs.Block.{Block}
 use Rattle.rules.specs.Answer.{used, blockOf}
-use Rattle.script_laws.specs.Reader.{Reader, give, stuck, ask, Outcome, readFrom}
-use Rattle.script_laws.specs.Combine.{given, say, _then_, _union_, Choice, oneOf, only}
-use Rattle.script_laws.specs.Text.{bytes, letter, polynomialText, opening, closing, declaration}
+use Rattle.rules.specs.Reader.{Reader, give, stuck, ask, Outcome, readFrom}
+use Rattle.rules.specs.Combine.{given, say, _then_, _union_, Choice, oneOf, only}
+use Rattle.rules.specs.Text.{bytes, letter, polynomialText, opening, closing, declaration}
 
 abbrev pub choice : {A : Type 0} → Bool → List ℕ → Reader A → Choice A
 choice allowed beginning further = record { allowed = allowed; beginning = beginning; further = further }
