@@ -8,7 +8,7 @@
  *   - input, output, text, places, the counts and the number of rounds do not overlap each other;
  *   - the output is at least as long as the input, else the answer is refusal 1.
  * Nothing is kept after the call, and there is no state between calls: they may run in several threads at once.
- * A call takes some 120 KB of stack; give its thread 256 KiB or more.
+ * A call takes some 130 KB of stack; give its thread 256 KiB or more.
  */
 #ifndef PLACARDPAN_H
 #define PLACARDPAN_H
@@ -157,7 +157,8 @@ static inline size_t placardpan_script_length(uint32_t answer)
 /* Reads a script back (the function of libscript_back.a) and writes the block that it is the script of, in edition 1. Below 256 the number of the refusal: 25,
  * then 1 if the output is shorter than the finished block, and the output keeps each byte; else 65,536 plus the length, which placardpan_length takes from it,
  * and the output's first bytes are the finished block and the rest keep their values. The position, through a number of the caller's, is with 25 that of the
- * first byte, from 0, at which no script goes on: an unfinished text stops at its length, a text with more behind it where the extra begins; else it is 0. */
+ * first byte, from 0, at which no script goes on: an unfinished text stops at its length, a text with more behind it where the extra begins; else it is 0.
+ * A call takes some 190 KB of stack; give its thread 256 KiB or more. */
 #define PLACARDPAN_NO_SCRIPT 25 /* no script goes on at the position */
 
 uint32_t placardpan_read_script(const uint8_t *text, size_t text_length, uint8_t *output, size_t output_length, size_t *position);
