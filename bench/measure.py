@@ -86,6 +86,11 @@ def frame(block):
     return len(block).to_bytes(2, "big") + block
 
 
+# The blocks that are made for two atoms at once (request #111); and those that were made to be as slow as we could make one, run where they are named.
+TOGETHER = ["equalities", "sums", "linked"]
+SLOWEST_KNOWN = ["again", "asked", "nested", "pinned"]
+
+
 def blocks():
     """The names, and the blocks that each stands for."""
     cases, rest = [], corpus("cases 0 0")
@@ -97,7 +102,7 @@ def blocks():
     chart = open("examples/load_chart.block", "rb").read()
     yield "load chart", [chart]
     yield "load chart, edition 2", [output([INDEPENDENT, "convert", "2"], chart)]
-    for name in ["chain", "linear", "mixed", "deep", "slowest", "back", "zigzag", "scattered", "removed", "worst"]:
+    for name in ["chain", "linear", "mixed", "deep", "slowest", "back", "zigzag", "scattered", "removed", "worst"] + TOGETHER + SLOWEST_KNOWN:
         yield name, [output([INDEPENDENT, "bench", name])]
     yield "mixed, edition 2", [output([INDEPENDENT, "convert", "2"], output([INDEPENDENT, "bench", "mixed"]))]
 

@@ -5,14 +5,48 @@
 #include <stdio.h>
 #include <string.h>
 
-// Compiled with -DCOUNT it prints for each block the deductions that document 01 makes of it and the rounds that it begins.
+// Compiled with -DCOUNT it prints for each block the deductions that document 01 makes of it, the rounds that it begins, and the tries of two atoms at
+// once whose factors allow a test.
 #ifdef COUNT
-static long deductions, rounds;
+static long deductions, rounds, tries;
 #define COUNTED(what) what++
+#define COUNTING 1
 #define EMPTY(set) false
+#define STAYS 0 // every run is made
+#define FRESH 0
 #else
 #define COUNTED(what)
+#define COUNTING 0
 #define EMPTY(set) (!(set))
+#endif
+
+// Two atoms at once (request #111). What may be left out of the search, each to be switched off by -DNAME=0; -DPAIRS=0 leaves the rule out.
+#ifndef PAIRS
+#define PAIRS 1
+#endif
+#ifndef USEFUL // no test whose finding cannot cut p's set
+#define USEFUL 1
+#endif
+#ifndef MASKS // no pair of which some monomial, by its signs in p, u·q1 and v·q2 alone, lets no factors pass
+#define MASKS 1
+#endif
+#ifndef BITS // the factor pairs as the bits of one word, narrowed monomial by monomial
+#define BITS 1
+#endif
+#ifndef SAYS // no pairs for what a settled list says of a variable or a listed atom
+#define SAYS 1
+#endif
+#ifndef FRESH // in step 5 pairs for the variables above the settled board alone
+#define FRESH 1
+#endif
+#ifndef STAYS // in step 5 no run for an atom that the settled state does not imply
+#define STAYS PAIRS
+#endif
+#ifndef AGAIN // no pair that failed on the same board with the same sets: on the board at hand, and (2) on the one that settled last
+#define AGAIN 2
+#endif
+#ifndef LAST // the monomial that let no factors pass is asked first of the next pair
+#define LAST 1
 #endif
 
 // ---- signs: < is 4, = is 2, > is 1
@@ -202,9 +236,487 @@ typedef struct {
     int atoms; // those of no variable
     uint8_t number[FORMS], set[FORMS];
     bool contradiction;
+    const uint8_t *floor; // the settled board above which the fresh rounds of step 5 stay, or null
 } List;
 
 static inline bool speaks(int set) { return set != 5 && set != 7; }
+
+// ---- two atoms at once: p + u·q1 + v·q2, u and v from -4 to 4. A pair of factors is a bit of a word, 8 times the place of u and that of v,
+// so that the lowest bit is the first try. ABOVE is the test for >=, BELOW the one for <=.
+
+enum { ABOVE, BELOW, SLOTS = FORMS + VARIABLES + 1, ASKED = FORMS + VARIABLES, COLUMNS = 2 * (FORMS * TERMS + VARIABLES), WORDS = (COLUMNS + 63) / 64 };
+
+static const int FACTOR[8] = {-4, -3, -2, -1, 1, 2, 3, 4};
+#define UP 0xf0f0f0f0f0f0f0f0u // v above 0
+#define HIGH 0xffffffff00000000u // u above 0
+static const uint64_t QUARTER[2][2] = {{~HIGH & ~UP, ~HIGH & UP}, {HIGH & ~UP, HIGH & UP}}; // by u and v above 0
+
+// A polynomial as p: that of a form or of a variable.
+typedef struct {
+    int terms;
+    const int32_t *coefficient;
+    const uint64_t *monomial;
+    const uint8_t *sign;
+} Target;
+
+static Target target_form(int f) { return (Target){form[f].terms, form[f].coefficient, form[f].monomial, sign[f]}; }
+
+static Target target_variable(const List *list, int i) {
+    static const int32_t one = 1;
+    return (Target){1, &one, &one_variable[i], &list->board[i]};
+}
+
+// The numbers of the monomials of the forms, made once for a block, the variables' first.
+static bool numbered, masked; // masked: the masks below are those of the list and board at hand
+static int forms, monomials;
+static uint16_t monomial_number[FORMS][TERMS];
+
+static void number_monomials(void) {
+    enum { ROOM = 4096 };
+    static uint64_t key[ROOM];
+    static uint16_t number[ROOM];
+    memset(number, 0, sizeof number);
+    monomials = 0;
+    for (int f = -1; f < forms; f++) {
+        for (int t = 0; t < (f < 0 ? variables : form[f].terms); t++) {
+            uint64_t m = f < 0 ? one_variable[t] : form[f].monomial[t];
+            int at = m * 0x9e3779b97f4a7c15u >> 52;
+            while (number[at] && key[at] != m) at = (at + 1) % ROOM;
+            if (!number[at]) {
+                key[at] = m;
+                number[at] = ++monomials;
+            }
+            if (f >= 0) monomial_number[f][t] = number[at] - 1;
+        }
+    }
+    numbered = true;
+}
+
+// The masks of a list on its board: columns are the monomials with a sign, and each of no sign, which must vanish, twice, once for either direction.
+// A slot is an atom's place in the list, FORMS + i for x_i, or ASKED for the form that is asked about.
+static int words, columns;
+static int16_t column[FORMS * TERMS + VARIABLES]; // of a monomial, or -1; the second one of a monomial of no sign stands behind it
+static uint64_t of_sign[2][SLOTS][WORDS]; // the columns in which the form is negative, and positive
+static uint64_t in_column[2][COLUMNS];    // the places of the atoms that are negative there, and positive
+
+static void mask_slot(int slot, const Target *p, const uint16_t *number) {
+    for (int t = 0; t < p->terms; t++) {
+        int s = p->sign[t], both = (s & 5) == 5 ? 2 : 1;
+        if (s == 2) continue;
+        if (column[number[t]] < 0) {
+            column[number[t]] = columns;
+            for (int k = 0; k < both; k++, columns++) in_column[0][columns] = in_column[1][columns] = 0;
+        }
+        int c = column[number[t]], positive = (p->coefficient[t] > 0) ^ ((s & 5) == 4);
+        for (int k = 0; k < both; k++, c++, positive ^= 1) {
+            of_sign[positive][slot][c >> 6] |= (uint64_t)1 << (c & 63);
+            if (slot < FORMS) in_column[positive][c] |= (uint64_t)1 << slot;
+        }
+    }
+}
+
+static void mask_list(const List *list) {
+    if (masked) return;
+    masked = true;
+    if (!numbered) number_monomials();
+    memset(column, -1, monomials * sizeof column[0]);
+    columns = 0;
+    int most = 0;
+    for (int q = 0; q < list->atoms; q++) most += form[list->number[q]].terms;
+    words = (2 * (most + variables + TERMS) + 63) / 64;
+    if (words > WORDS) words = WORDS;
+    for (int slot = 0; slot < SLOTS; slot++) {
+        if (slot >= list->atoms && slot < FORMS) continue;
+        memset(of_sign[0][slot], 0, 8 * words);
+        memset(of_sign[1][slot], 0, 8 * words);
+    }
+    for (int q = 0; q < list->atoms; q++) {
+        Target p = target_form(list->number[q]);
+        mask_slot(q, &p, monomial_number[list->number[q]]);
+    }
+    for (int i = 0; i < variables; i++) {
+        Target p = target_variable(list, i);
+        uint16_t number = i;
+        mask_slot(FORMS + i, &p, &number);
+    }
+    words = (columns + 63) / 64;
+}
+
+// The v with t + v·b >= 0, as bits.
+static inline unsigned row_at_least(int64_t t, int64_t b) {
+    if (b == 0) return t >= 0 ? 0xff : 0;
+    int64_t d = b < 0 ? -b : b;
+    int n = (t >= -4 * d) + (t >= -3 * d) + (t >= -2 * d) + (t >= -d) + (t >= d) + (t >= 2 * d) + (t >= 3 * d) + (t >= 4 * d);
+    return b > 0 ? 0xff00 >> n & 0xff : 0xff >> (8 - n);
+}
+
+// Of some factor pairs those with a + u·b1 + v·b2 >= 0.
+static inline uint64_t at_least_0(uint64_t live, int64_t a, int64_t b1, int64_t b2) {
+    uint64_t left = 0;
+    for (int k = 0; k < 8; k++)
+        if (live >> 8 * k & 0xff) left |= (uint64_t)row_at_least(a + FACTOR[k] * b1, b2) << 8 * k;
+    return left & live;
+}
+
+// p and q1 merged, and the tries of both tests that are left.
+typedef struct {
+    int rows;
+    uint64_t monomial[2 * TERMS];
+    int32_t a[2 * TERMS], b[2 * TERMS];
+    uint8_t sign[2 * TERMS];
+} Merged;
+
+static void merge(Merged *m, const Target *p, int f) {
+    const Form *q = &form[f];
+    m->rows = 0;
+    for (int i = 0, j = 0; i < p->terms || j < q->terms; m->rows++) {
+        int r = m->rows;
+        bool of_p = j == q->terms || (i < p->terms && p->monomial[i] >= q->monomial[j]);
+        bool of_q = i == p->terms || (j < q->terms && p->monomial[i] <= q->monomial[j]);
+        m->monomial[r] = of_p ? p->monomial[i] : q->monomial[j];
+        m->sign[r] = of_p ? p->sign[i] : sign[f][j];
+        m->a[r] = of_p ? p->coefficient[i++] : 0;
+        m->b[r] = of_q ? q->coefficient[j++] : 0;
+    }
+}
+
+// The tries that pass: each test's, and those whose sum has a strict term.
+typedef struct {
+    uint64_t test[2], strict;
+} Live;
+
+static inline void narrow(Live *live, int s, int64_t a, int64_t b1, int64_t b2, bool ask_strict) {
+    if (s == 2) return;
+    uint64_t some = live->test[ABOVE] | live->test[BELOW];
+    bool turned = (s & 5) == 4, open = (s & 5) == 5, strict = ask_strict && (s == 1 || s == 4);
+    bool ask_least = strict || open || live->test[turned], ask_most = strict || open || live->test[!turned];
+    uint64_t least = ask_least ? at_least_0(some, a, b1, b2) : 0;
+    uint64_t most = ask_most ? at_least_0(some, -a, -b1, -b2) : 0;
+    if (strict) live->strict |= some & ~(least & most);
+    if (open) {
+        live->test[0] &= least & most;
+        live->test[1] &= least & most;
+    } else {
+        live->test[turned] &= least;
+        live->test[!turned] &= most;
+    }
+}
+
+// The monomial that was the last to let no factors pass.
+static uint64_t last_monomial;
+
+static bool last_passes(Live *live, const Merged *m, int f, bool ask_strict) {
+    const Form *q = &form[f];
+    int i = 0, j = 0;
+    while (i < m->rows && m->monomial[i] > last_monomial) i++;
+    while (j < q->terms && q->monomial[j] > last_monomial) j++;
+    bool in_m = i < m->rows && m->monomial[i] == last_monomial, in_q = j < q->terms && q->monomial[j] == last_monomial;
+    if (in_m || in_q) narrow(live, in_m ? m->sign[i] : sign[f][j], in_m ? m->a[i] : 0, in_m ? m->b[i] : 0, in_q ? q->coefficient[j] : 0, ask_strict);
+    return live->test[0] | live->test[1];
+}
+
+static bool narrow_all(Live *live, const Merged *m, int f, bool ask_strict) {
+    const Form *q = &form[f];
+    if (LAST && !last_passes(live, m, f, ask_strict)) return false;
+    for (int i = 0, j = 0; i < m->rows || j < q->terms;) {
+        if (j == q->terms || (i < m->rows && m->monomial[i] > q->monomial[j])) {
+            narrow(live, m->sign[i], m->a[i], m->b[i], 0, ask_strict);
+            i++;
+        } else if (i == m->rows || m->monomial[i] < q->monomial[j]) {
+            narrow(live, sign[f][j], 0, 0, q->coefficient[j], ask_strict);
+            j++;
+        } else {
+            narrow(live, m->sign[i], m->a[i], m->b[i], q->coefficient[j], ask_strict);
+            i++, j++;
+        }
+        if (!(live->test[0] | live->test[1])) {
+            last_monomial = i ? m->monomial[i - 1] : q->monomial[0];
+            if (j && q->monomial[j - 1] < last_monomial) last_monomial = q->monomial[j - 1];
+            return false;
+        }
+    }
+    return true;
+}
+
+// The same, one try after the other: p + u·q1 + v·q2 is added up, and left as soon as neither test can find anything.
+static bool try_all(Live *live, const Merged *m, int f) {
+    const Form *q = &form[f];
+    Live left = {{0, 0}, 0};
+    for (uint64_t some = live->test[0] | live->test[1]; some; some &= some - 1) {
+        int bit = __builtin_ctzll(some);
+        int64_t u = FACTOR[bit >> 3], v = FACTOR[bit & 7];
+        bool test[2] = {live->test[0] >> bit & 1, live->test[1] >> bit & 1}, strict = false;
+        for (int i = 0, j = 0; (test[0] || test[1]) && (i < m->rows || j < q->terms);) {
+            int64_t c;
+            int s;
+            if (j == q->terms || (i < m->rows && m->monomial[i] > q->monomial[j])) {
+                s = m->sign[i];
+                c = m->a[i] + u * m->b[i];
+                i++;
+            } else if (i == m->rows || m->monomial[i] < q->monomial[j]) {
+                s = sign[f][j];
+                c = v * q->coefficient[j++];
+            } else {
+                s = m->sign[i];
+                c = m->a[i] + u * m->b[i] + v * q->coefficient[j++];
+                i++;
+            }
+            if (c == 0) continue;
+            if (c < 0) s = MIRROR[s];
+            if (s & 4) test[ABOVE] = false;
+            if (s & 1) test[BELOW] = false;
+            strict |= s == 1 || s == 4;
+        }
+        for (int t = 0; t < 2; t++) left.test[t] |= (uint64_t)test[t] << bit;
+        left.strict |= (uint64_t)strict << bit;
+    }
+    *live = left;
+    return live->test[0] | live->test[1];
+}
+
+// The atoms by their place whose multiple with a factor below 0, or above, may take part in a test.
+typedef struct {
+    uint64_t allowed[2][2], strict, speaking;
+} Sides;
+
+static Sides sides_of(const List *list) {
+    Sides sides = {{{0, 0}, {0, 0}}, 0, 0};
+    for (int q = 0; q < list->atoms; q++) {
+        int set = list->set[q];
+        uint64_t bit = (uint64_t)1 << q;
+        if (!speaks(set)) continue;
+        sides.speaking |= bit;
+        if (set == 1 || set == 4) sides.strict |= bit;
+        if (!(set & 1)) sides.allowed[ABOVE][1] |= bit, sides.allowed[BELOW][0] |= bit;
+        if (!(set & 4)) sides.allowed[ABOVE][0] |= bit, sides.allowed[BELOW][1] |= bit;
+    }
+    return sides;
+}
+
+#ifdef COUNT
+// The tries for p up to the one that found something, or all of them: those whose factors allow a test.
+static void count_tries(const Sides *sides, uint64_t others, int found_at) {
+    for (uint64_t a = others & sides->speaking; a; a &= a - 1)
+        for (uint64_t b = a & (a - 1); b; b &= b - 1) {
+            int q1 = __builtin_ctzll(a), q2 = __builtin_ctzll(b);
+            uint64_t some = 0;
+            for (int t = 0; t < 2; t++)
+                for (int u = 0; u < 2; u++)
+                    for (int v = 0; v < 2; v++)
+                        if (sides->allowed[t][u] >> q1 & 1 && sides->allowed[t][v] >> q2 & 1) some |= QUARTER[u][v];
+            if (64 * q1 + q2 == found_at >> 6) {
+                tries += __builtin_popcountll(some & (((uint64_t)2 << (found_at & 63)) - 1));
+                return;
+            }
+            tries += __builtin_popcountll(some);
+        }
+}
+#else
+#define count_tries(sides, others, found_at) (void)(found_at)
+#endif
+
+// The places of q2 that the signs alone do not rule out, for p and q1 and for each test and sign of u and v.
+static uint64_t candidates(uint64_t found[2][2][2], const Sides *sides, const bool *useful, int slot, int q1, uint64_t later) {
+    uint64_t all = 0;
+    for (int t = 0; t < 2; t++)
+        for (int u = 0; u < 2; u++) {
+            found[t][u][0] = found[t][u][1] = 0;
+            if (!useful[t] || !(sides->allowed[t][u] >> q1 & 1)) continue;
+            uint64_t left[2] = {later & sides->allowed[t][0], later & sides->allowed[t][1]};
+            if (MASKS) {
+                uint64_t good[WORDS];
+                for (int w = 0; w < words && left[0] | left[1]; w++) {
+                    uint64_t bad = of_sign[t][slot][w] | of_sign[t ^ u ^ 1][q1][w];
+                    good[w] = of_sign[t ^ 1][slot][w] | of_sign[t ^ u][q1][w];
+                    for (uint64_t need = bad & ~good[w]; need && left[0] | left[1]; need &= need - 1) {
+                        int c = 64 * w + __builtin_ctzll(need);
+                        for (int v = 0; v < 2; v++) left[v] &= in_column[t ^ v][c];
+                    }
+                }
+                for (int v = 0; v < 2; v++)
+                    for (uint64_t rest = left[v]; rest; rest &= rest - 1) {
+                        int q2 = __builtin_ctzll(rest);
+                        uint64_t missing = 0;
+                        for (int w = 0; w < words && !missing; w++) missing = of_sign[t ^ v ^ 1][q2][w] & ~good[w];
+                        if (missing) left[v] &= ~((uint64_t)1 << q2);
+                    }
+            }
+            for (int v = 0; v < 2; v++) all |= found[t][u][v] = left[v];
+        }
+    return all;
+}
+
+// What the first try that cuts p's set leaves of it, over the pairs of some places of which one is new; the set itself if none does.
+static int first_cut(const List *list, const Sides *sides, const Target *p, int slot, int set, int asked, uint64_t others, uint64_t new, int *found_at) {
+    // > is not cut by the test for >=, nor < by the other; where only one sign or zero beside it is left, a strict finding alone can cut. (asked: 1 for the
+    // test for >=, 2 for the other.)
+    bool useful[2] = {(!USEFUL || set & 6) && asked & 1, (!USEFUL || set & 3) && asked & 2}, weak[2] = {set & 4, set & 1};
+    others &= sides->speaking;
+    for (uint64_t first = others; first; first &= first - 1) {
+        int q1 = __builtin_ctzll(first);
+        uint64_t later = first & (first - 1), found[2][2][2];
+        if (!(new >> q1 & 1)) later &= new;
+        if (!later) continue;
+        Merged merged;
+        merged.rows = 0;
+        for (uint64_t rest = candidates(found, sides, useful, slot, q1, later); rest; rest &= rest - 1) {
+            int q2 = __builtin_ctzll(rest);
+            Live live = {{0, 0}, 0};
+            for (int t = 0; t < 2; t++)
+                for (int u = 0; u < 2; u++)
+                    for (int v = 0; v < 2; v++)
+                        if (found[t][u][v] >> q2 & 1) live.test[t] |= QUARTER[u][v];
+            bool strict = (sides->strict >> q1 | sides->strict >> q2) & 1;
+            if (merged.rows == 0) merge(&merged, p, list->number[q1]);
+            if (!(BITS ? narrow_all(&live, &merged, list->number[q2], !strict) : try_all(&live, &merged, list->number[q2]))) continue;
+            if (strict) live.strict = ~(uint64_t)0;
+            uint64_t cuts = 0;
+            for (int t = 0; t < 2; t++) cuts |= live.test[t] & (weak[t] ? ~(uint64_t)0 : live.strict) & (set & (t ? 3 : 6) ? ~(uint64_t)0 : 0);
+            if (!cuts) continue;
+            int bit = __builtin_ctzll(cuts);
+            bool is_strict = live.strict >> bit & 1;
+            if (live.test[ABOVE] >> bit & 1) set &= is_strict ? 1 : 3;
+            if (live.test[BELOW] >> bit & 1) set &= is_strict ? 4 : 6;
+            *found_at = 64 * (64 * q1 + q2) + bit;
+            return set;
+        }
+    }
+    return set;
+}
+
+// What was tried in vain: on a board, with these sets of the atoms, by their forms; and for each p (a form, or FORMS + i) with which set of its own,
+// and the forms that were not in the list when it was last tried or have changed since: a pair without them need not be tried again.
+typedef struct {
+    uint8_t board[VARIABLES], set[FORMS], done[FORMS + VARIABLES];
+    uint64_t changed[FORMS + VARIABLES];
+} Vain;
+
+static Vain vains[2], *vain = &vains[0], *last_settled = &vains[0];
+
+static void forget(void) {
+    memset(vains, 0, sizeof vains);
+    numbered = false;
+}
+
+static void remember(const List *list) {
+    vain = AGAIN < 2 || last_settled == &vains[1] ? &vains[0] : &vains[1];
+    if (AGAIN > 1 && !memcmp(last_settled->board, list->board, variables)) vain = last_settled;
+    if (memcmp(vain->board, list->board, variables)) {
+        memcpy(vain->board, list->board, variables);
+        memset(vain->done, 0, sizeof vain->done);
+    }
+    uint64_t changed = 0;
+    for (int q = 0; q < list->atoms; q++) {
+        int f = list->number[q];
+        if (vain->set[f] != list->set[q]) changed |= (uint64_t)1 << f;
+        vain->set[f] = list->set[q];
+    }
+    if (changed)
+        for (int p = 0; p < FORMS + VARIABLES; p++) vain->changed[p] |= changed;
+}
+
+// The places of the atoms of which a pair with p must have one to be worth a try.
+static uint64_t to_be_tried(const List *list, int p, int set, uint64_t present) {
+    if (!AGAIN || !vain->done[p] || set & ~vain->done[p]) return ~(uint64_t)0;
+    uint64_t new = 0;
+    if (vain->changed[p] & present)
+        for (int q = 0; q < list->atoms; q++) new |= (vain->changed[p] >> list->number[q] & 1) << q;
+    return new;
+}
+
+static void tried_in_vain(int p, int set, uint64_t present) {
+    vain->changed[p] = ~present;
+    vain->done[p] = set;
+}
+
+static uint64_t forms_of(const List *list) {
+    uint64_t present = 0;
+    for (int q = 0; q < list->atoms; q++) present |= (uint64_t)1 << list->number[q];
+    return present;
+}
+
+// The search for one p, over all pairs of the list but those with p itself.
+static int search_one(const List *list, const Sides *sides, const Target *target, int slot, int p, int set, uint64_t present, int *found_at) {
+    uint64_t others = slot < FORMS ? ~((uint64_t)1 << slot) : ~(uint64_t)0;
+    int cut = first_cut(list, sides, target, slot, set, 3, others, to_be_tried(list, p, set, present), found_at);
+    count_tries(sides, others, *found_at);
+    if (cut == set) tried_in_vain(p, set, present);
+    return cut;
+}
+
+static void cut_variable(List *list, int i, int set) {
+    list->board[i] = set;
+    list->masks = masks_of(list->board);
+    masked = false;
+    for (int q = 0; q < list->atoms; q++) sign_form(&list->masks, list->number[q], one_variable[i]);
+}
+
+// After a round that changed nothing. Whether another one begins.
+static bool search_changes(List *list) {
+    Sides sides = sides_of(list);
+    if (!PAIRS || !(sides.speaking & (sides.speaking - 1))) return false;
+    if (FRESH && list->floor && !memcmp(list->floor, list->board, variables)) return false;
+    if (MASKS) mask_list(list);
+    remember(list);
+    uint64_t present = forms_of(list);
+    int found_at = -1;
+    for (int i = 0; i < variables; i++) {
+        if (FRESH && list->floor && list->board[i] == list->floor[i]) continue;
+        Target p = target_variable(list, i);
+        int set = search_one(list, &sides, &p, FORMS + i, FORMS + i, list->board[i], present, &found_at);
+        if (set == list->board[i]) continue;
+        if (!set) list->contradiction = true;
+        if (set) cut_variable(list, i, set);
+        return set;
+    }
+    for (int k = 0; k < list->atoms && !(FRESH && list->floor); k++) {
+        Target p = target_form(list->number[k]);
+        int set = search_one(list, &sides, &p, k, list->number[k], list->set[k], present, &found_at);
+        if (set == list->set[k]) continue;
+        list->set[k] = set;
+        if (!set) list->contradiction = true;
+        return set;
+    }
+    if (!list->floor) last_settled = vain;
+    return false;
+}
+
+// What all tries over the pairs of some places leave of the set of a form that is asked about; nothing more is asked where the set lies inside the goal,
+// nor, if that alone is to be known, where it cannot.
+static int cut_by_pairs(const List *list, int f, int place, int set, int goal, bool only_goal, uint64_t others) {
+    Sides sides = sides_of(list);
+    uint64_t some = others & sides.speaking;
+    if (!PAIRS || !(some & (some - 1))) return set;
+    Target p = target_form(f);
+    int slot = place < 0 ? ASKED : place, own = columns;
+    if (MASKS) mask_list(list);
+    if (MASKS && place < 0) {
+        own = columns;
+        memset(of_sign[0][slot], 0, sizeof of_sign[0][slot]);
+        memset(of_sign[1][slot], 0, sizeof of_sign[1][slot]);
+        mask_slot(slot, &p, monomial_number[f]);
+        words = (columns + 63) / 64;
+    }
+    count_tries(&sides, others, -1);
+    uint64_t present = forms_of(list), new = ~(uint64_t)0;
+    if (!only_goal) {
+        remember(list);
+        new = to_be_tried(list, f, set, present);
+    }
+    for (int before = -1, found_at = -1; before != set && (set & ~goal);) {
+        before = set;
+        int asked = !only_goal ? 3 : set & ~goal & 4 ? 1 : set & ~goal & 1 ? 2 : 3;
+        set = first_cut(list, &sides, &p, slot, set, asked, others, new, &found_at);
+        if (set == before && !only_goal) tried_in_vain(f, set, present);
+    }
+    if (MASKS && place < 0) {
+        for (int t = 0; t < p.terms; t++)
+            if (column[monomial_number[f][t]] >= own) column[monomial_number[f][t]] = -1;
+        columns = own;
+        words = (columns + 63) / 64;
+    }
+    return set;
+}
 
 static int deduced_variable(const List *list, int i, int set) {
     static const int32_t one = 1;
@@ -237,13 +749,11 @@ static bool round_changes(List *list) {
         int set = deduced_variable(list, i, list->board[i]);
         if (set == list->board[i]) continue;
         changed = true;
-        list->board[i] = set;
         if (!set) {
             list->contradiction = true;
             return false;
         }
-        list->masks = masks_of(list->board);
-        for (int q = 0; q < list->atoms; q++) sign_form(&list->masks, list->number[q], one_variable[i]);
+        cut_variable(list, i, set);
     }
     uint8_t before[FORMS];
     memcpy(before, list->set, list->atoms);
@@ -262,8 +772,10 @@ static bool round_changes(List *list) {
 }
 
 // The list of some tokens, the one at left_out not among them, after its rounds.
-static void run(List *list, const uint16_t *token, int count, int left_out) {
+static void run(List *list, const uint16_t *token, int count, int left_out, const uint8_t *floor) {
     memset(list->board, 7, sizeof list->board);
+    masked = false;
+    list->floor = floor;
     list->atoms = 0;
     list->contradiction = false;
     for (int k = 0; k < count; k++) {
@@ -278,23 +790,30 @@ static void run(List *list, const uint16_t *token, int count, int left_out) {
     }
     list->masks = masks_of(list->board);
     for (int q = 0; q < list->atoms; q++) sign_form(&list->masks, list->number[q], 0);
-    while (round_changes(list)) {
-    }
+    do {
+        while (round_changes(list)) {
+        }
+    } while (!list->contradiction && search_changes(list));
 }
 
-// What the list says of a form, whose signs are not at hand unless it is listed.
-static int says(const List *list, int f) {
+// What the list says of a form, whose signs are not at hand unless it is listed; or a set inside the goal, if that lies inside it.
+static int says(const List *list, int f, int goal) {
     if (list->contradiction) return 0;
-    int set = 7;
-    if (form[f].variable >= 0) {
-        set = list->board[form[f].variable];
-    } else {
-        int q = 0;
-        while (q < list->atoms && list->number[q] != f) q++;
-        if (q < list->atoms) set = list->set[q];
-    }
+    int set = 7, place = 0;
+    while (place < list->atoms && list->number[place] != f) place++;
+    if (form[f].variable >= 0) set = list->board[form[f].variable];
+    else if (place < list->atoms) set = list->set[place];
     sign_form(&list->masks, f, 0);
-    return deduced_form(list, list->set, f, set & sign_by_terms(f), -1);
+    set = deduced_form(list, list->set, f, set & sign_by_terms(f), -1);
+    if (place < list->atoms) return SAYS && !COUNTING ? set : cut_by_pairs(list, f, place, set, goal, false, ~((uint64_t)1 << place));
+    return SAYS && !COUNTING && form[f].variable >= 0 ? set : cut_by_pairs(list, f, -1, set, goal, false, ~(uint64_t)0);
+}
+
+// Whether the settled list, without the atom at a place, does not imply a set of its.
+static bool stays(const List *list, int place, int goal) {
+    int f = list->number[place];
+    int set = deduced_form(list, list->set, f, sign_by_terms(f), place);
+    return cut_by_pairs(list, f, place, set, goal, USEFUL, ~((uint64_t)1 << place)) & ~goal;
 }
 
 // ---- a level: atoms as tokens, 8 times the form's number and the set; children as a tape, each its head, its atoms and its own children.
@@ -381,11 +900,42 @@ static void sweep(const List *list, const Level *level, Walk *walk) {
         int n = 0;
         bool implied = false;
         for (int k = 0; k < atoms && !implied; k++) {
-            int set = ~atom[k] & 7, said = says(list, atom[k] >> 3);
+            int set = ~atom[k] & 7, said = says(list, atom[k] >> 3, USEFUL ? set : 0);
             implied = (said & ~set) == 0;
             if (said & set) left[n++] = (atom[k] & ~7) | (~(said & set) & 7);
         }
         if (!implied) enter(walk, left, n, atom + atoms, length);
+    }
+}
+
+// Step 5, for a level whose list has settled.
+static void remove_implied(Level *level, List *settled) {
+    bool afresh = false; // the signs at hand are those of a fresh run
+    for (int k = 0, place = 0; k < level->atoms;) {
+        int f = level->atom[k] >> 3, set = level->atom[k] & 7;
+        bool variable = form[f].variable >= 0;
+        if (STAYS && !variable) {
+            if (afresh) {
+                for (int q = 0; q < settled->atoms; q++) sign_form(&settled->masks, settled->number[q], 0);
+                afresh = masked = false;
+            }
+            if (stays(settled, place, set)) {
+                k++, place++;
+                continue;
+            }
+        }
+        List list;
+        run(&list, level->atom, level->atoms, k, settled->board);
+        afresh = true;
+        if (says(&list, f, USEFUL ? set : 0) & ~set) {
+            k++, place += !variable;
+            continue;
+        }
+        memmove(level->atom + k, level->atom + k + 1, 2 * (--level->atoms - k));
+        if (!variable) {
+            memmove(settled->number + place, settled->number + place + 1, --settled->atoms - place);
+            memmove(settled->set + place, settled->set + place + 1, settled->atoms - place);
+        }
     }
 }
 
@@ -395,7 +945,7 @@ static void settle(Level *level) {
     Walk walk;
     do {
         if (!tidy(level)) return is_false(level);
-        run(&list, level->atom, level->atoms, -1);
+        run(&list, level->atom, level->atoms, -1, NULL);
         if (list.contradiction) return is_false(level);
         for (int k = 0, next = 0; k < level->atoms; k++) {
             int v = form[level->atom[k] >> 3].variable;
@@ -409,14 +959,7 @@ static void settle(Level *level) {
         memcpy(level->child, walk.level.child, 2 * walk.level.length);
         level->length = walk.level.length;
     } while (walk.moved);
-    for (int k = 0; k < level->atoms;) {
-        run(&list, level->atom, level->atoms, k);
-        if (says(&list, level->atom[k] >> 3) & ~level->atom[k] & 7) {
-            k++;
-        } else {
-            memmove(level->atom + k, level->atom + k + 1, 2 * (--level->atoms - k));
-        }
-    }
+    remove_implied(level, &list);
 }
 
 static const uint16_t *skip(const uint16_t *token) {
@@ -562,6 +1105,7 @@ static int read_block(Reader *r, const uint8_t *byte, size_t length, int *root) 
     if (edition != 1 && edition != 2) return 3;
     if (told != length) return 4;
     if (variables < 1 || variables > VARIABLES || r->polynomials > FORMS || r->nodes == 0) return 5;
+    forms = r->polynomials;
     for (int k = 0; k < r->polynomials; k++) {
         int refusal = read_polynomial(r, &form[k]);
         if (refusal) return refusal;
@@ -744,6 +1288,7 @@ static __attribute__((noinline)) Answer simplify(const uint8_t *input, size_t le
     answer.refusal = read_block(&r, input, length, &root);
     if (answer.refusal) return answer;
     to_forms(&r);
+    forget();
     uint64_t named = 0; // the forms that atoms name, but for a constant
     for (int k = 0; k < r.nodes; k++) {
         if (r.token[k] & NODE) continue;
@@ -781,8 +1326,8 @@ static uint8_t input[65536], output[65536];
 
 static void tell(const Answer *answer) {
 #ifdef COUNT
-    printf("%ld %ld\n", deductions, rounds);
-    deductions = rounds = 0;
+    printf("%ld %ld %ld\n", deductions, rounds, tries);
+    deductions = rounds = tries = 0;
     return;
 #endif
     if (answer->refusal) {

@@ -10,6 +10,7 @@ use crate::polynomial::{Polynomial, Term};
 use crate::random::Random;
 use crate::search::{candidate, SLOWEST};
 use crate::signs::{sign_of, SignSet};
+use crate::together;
 use crate::tree::Node;
 
 /// The block of a name.
@@ -27,7 +28,10 @@ pub fn block(name: &str) -> Option<Vec<u8>> {
         "slowest" => candidate(SLOWEST),
         _ => match name.strip_prefix("order-") {
             Some(variables) => back(order(variables)?),
-            None => list(name.strip_prefix("list-")?)?,
+            None => match name.strip_prefix("list-") {
+                Some(size) => list(size)?,
+                None => together::formula(name)?,
+            },
         },
     };
     Some(write(&formula))

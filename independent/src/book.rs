@@ -4,27 +4,29 @@
 use crate::answer::{answer, polynomials_in, Verdict};
 use crate::block::Edition;
 use crate::cases::{cases, later_cases};
+use crate::count::work_of;
 use crate::polynomial::Polynomial;
 use crate::{block, convert, corpus, engine, pairs, plain, uses};
 
 /// How many blocks one claim takes: the checker allows a claim only so many steps.
-const BLOCKS_IN_A_CLAIM: usize = 20;
+const BLOCKS_IN_A_CLAIM: usize = 10;
 
-/// Longer blocks are left to the programs, which run them: the checker counts bits.
+/// Longer blocks, and those with more tries of two atoms at once, are left to the programs, which run them: the checker counts bits and steps.
 const LONGEST: usize = 100;
+const MOST_TRIES: u64 = 100;
+
+fn is_short(block: &[u8]) -> bool {
+    block.len() <= LONGEST && work_of(|| drop(answer(block, block.len()))).tries <= MOST_TRIES
+}
 
 /// The file over the blocks of the known cases, `count` random valid blocks and half as many damaged ones, and
 /// those whose polynomials in are known.
 pub fn claims(seed: u64, count: usize) -> String {
     let known = cases().into_iter().chain(later_cases());
-    let mut blocks: Vec<Vec<u8>> = known.map(|case| block::write(&case.formula)).collect();
-    blocks.extend(
-        corpus::valid(seed, 8 * count).into_iter().filter(|block| block.len() <= LONGEST).take(count),
-    );
-    blocks.extend(
-        corpus::damaged(seed, 8 * count).into_iter().filter(|block| block.len() <= LONGEST).take(count / 2),
-    );
-    blocks.extend(uses::blocks().into_iter().map(|known| known.bytes).filter(|block| block.len() <= LONGEST));
+    let mut blocks: Vec<Vec<u8>> = known.map(|case| block::write(&case.formula)).filter(|block| is_short(block)).collect();
+    blocks.extend(corpus::valid(seed, 8 * count).into_iter().filter(|block| is_short(block)).take(count));
+    blocks.extend(corpus::damaged(seed, 8 * count).into_iter().filter(|block| is_short(block)).take(count / 2));
+    blocks.extend(uses::blocks().into_iter().map(|known| known.bytes).filter(|block| is_short(block)));
     blocks.extend(of_edition_2(seed, count));
     let mut text = HEADER.to_string();
     for (number, some) in blocks.chunks(BLOCKS_IN_A_CLAIM).enumerate() {
@@ -35,9 +37,9 @@ pub fn claims(seed: u64, count: usize) -> String {
 
 /// 02, #109: the blocks that careful readers could differ on, the cases, and a third as many random and damaged blocks.
 fn of_edition_2(seed: u64, count: usize) -> Vec<Vec<u8>> {
-    let short = |block: &Vec<u8>| block.len() <= LONGEST;
+    let short = |block: &Vec<u8>| is_short(block);
     let mut blocks: Vec<Vec<u8>> = pairs::SAID.iter().map(|said| said.0.to_vec()).collect();
-    blocks.extend(cases().iter().map(|case| block::write_in(Edition::Two, &case.formula)));
+    blocks.extend(cases().iter().map(|case| block::write_in(Edition::Two, &case.formula)).filter(short));
     let valid = convert::all_in(Edition::Two, corpus::valid(seed + 1, 8 * count));
     blocks.extend(valid.into_iter().filter(short).take(count / 3));
     let damaged = corpus::damaged_in(Edition::Two, seed + 1, 8 * count);
@@ -55,6 +57,7 @@ use lib.ListN.{length}
 use Rattle.rules.specs.Signs.{open-signs}
 use Rattle.rules.specs.Polynomial.{open-polynomial}
 use Rattle.rules.specs.Deduce.{open-deduce}
+use Rattle.rules.specs.TwoAtoms.{open-two-atoms}
 use Rattle.rules.specs.Rounds.{open-rounds}
 use Rattle.rules.specs.Formula.{open-formula}
 use Rattle.rules.specs.Level.{open-level}
@@ -80,14 +83,14 @@ fn claim(number: usize, blocks: &[Vec<u8>]) -> String {
         "pub agrees-{number} : map (λ (e : Example). answer (length (e .given)) (e .given)) examples-{number} ≡ map (λ (e : Example). e .gives) examples-{number}\n"
     );
     text += &format!(
-        "unfolding open-signs open-polynomial open-deduce open-rounds open-formula open-level open-bits open-pairs open-block open-answer examples-{number}\n"
+        "unfolding open-signs open-polynomial open-deduce open-two-atoms open-rounds open-formula open-level open-bits open-pairs open-block open-answer examples-{number}\n"
     );
     text += &format!("agrees-{number} = refl\n\n");
     text += &format!(
         "pub counts-{number} : map (λ (e : Example). roundsOf (readBlock (e .given))) examples-{number} ≡ map (λ (e : Example). e .takes) examples-{number}\n"
     );
     text += &format!(
-        "unfolding open-signs open-polynomial open-deduce open-rounds open-formula open-level open-count open-bits open-pairs open-block open-answer examples-{number}\n"
+        "unfolding open-signs open-polynomial open-deduce open-two-atoms open-rounds open-formula open-level open-count open-bits open-pairs open-block open-answer examples-{number}\n"
     );
     text += &format!("counts-{number} = refl\n");
     text

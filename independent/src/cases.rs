@@ -179,10 +179,48 @@ pub fn later_cases() -> Vec<Case> {
     };
     let (greater_equal, greater) = (SignSet::GREATER_EQUAL, SignSet::GREATER);
     let (less_equal, less) = (SignSet::LESS_EQUAL, SignSet::LESS);
+    let of = |n, table: &[&Polynomial], tree| Formula {
+        variables: n,
+        table: table.iter().map(|&p| p.clone()).collect(),
+        tree,
+    };
+    let x_plus_1 = polynomial(&[(1, [1, 0]), (1, [0, 0])]);
+    let y_plus_1 = polynomial(&[(1, [0, 1]), (1, [0, 0])]);
+    let x_plus_y_plus_2 = polynomial(&[(1, [1, 0]), (1, [0, 1]), (2, [0, 0])]);
+    let three = [&x_plus_1, &y_plus_1, &x_plus_y_plus_2];
+    let (x, x2) = (polynomial(&[(1, [1])]), polynomial(&[(1, [2])]));
+    let three_x2_minus_2x = polynomial(&[(3, [2]), (-2, [1])]);
+    let equal = SignSet::EQUAL;
     vec![
         // #104: "x-y ≥ 0 AND x-y+1 > 0 now gives the first alone." And so with OR and all sets complemented, and where x-y = 0 is given.
         gives_the_first('1', Node::And(vec![is(0, greater_equal), is(1, greater)]), greater_equal),
         gives_the_first('2', Node::Or(vec![is(0, less), is(1, less_equal)]), less),
         gives_the_first('3', Node::And(vec![is(0, SignSet::EQUAL), is(1, greater)]), SignSet::EQUAL),
+        // #111: "From x+1 > 0 and y+1 > 0 it follows that x+y+2 > 0"; from weak sets it follows weakly; and none is at or below 0.
+        Case {
+            name: '4',
+            formula: of(2, &three, Node::And(vec![is(0, greater), is(1, greater), is(2, greater)])),
+            verdict: Verdict::Formula,
+            result: of(2, &three[..2], Node::And(vec![is(0, greater), is(1, greater)])),
+        },
+        Case {
+            name: '5',
+            formula: of(2, &three, Node::And(vec![is(0, greater_equal), is(1, greater_equal), is(2, SignSet::NOT_EQUAL)])),
+            verdict: Verdict::Formula,
+            result: of(2, &three, Node::And(vec![is(0, greater_equal), is(1, greater_equal), is(2, greater)])),
+        },
+        Case {
+            name: '6',
+            formula: of(2, &three, Node::And(vec![is(0, greater), is(1, greater), is(2, less)])),
+            verdict: Verdict::Unsatisfiable,
+            result: of(2, &[], Node::Or(vec![])),
+        },
+        // An answer can have more atoms than without #111: x² ≤ 0 and 3x²-2x ≤ 0, both cut to =, say x = 0 together.
+        Case {
+            name: '7',
+            formula: of(1, &[&x, &x2, &three_x2_minus_2x], Node::And(vec![is(0, equal), is(1, less_equal), is(2, less_equal)])),
+            verdict: Verdict::Formula,
+            result: of(1, &[&x2, &three_x2_minus_2x], Node::And(vec![is(0, equal), is(1, equal)])),
+        },
     ]
 }

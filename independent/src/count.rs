@@ -1,11 +1,12 @@
-//! How much work an answer takes: deductions made and rounds begun, over all runs of the rounds, and the rounds of the longest run.
-//! A deduction counts when L and U are looked at: q's set is none of empty, ≠ and full.
+//! How much work an answer takes: deductions made, rounds begun and pairs of atoms tried, over all runs of the rounds, and the rounds of the
+//! longest run. A deduction counts when L and U are looked at: q's set is none of empty, ≠ and full. A try counts when its factors allow a test.
 
 use std::cell::Cell;
 
 thread_local! {
     static DEDUCTIONS: Cell<u64> = const { Cell::new(0) };
     static ROUNDS: Cell<u64> = const { Cell::new(0) };
+    static TRIES: Cell<u64> = const { Cell::new(0) };
     static LONGEST: Cell<usize> = const { Cell::new(0) };
 }
 
@@ -13,6 +14,7 @@ thread_local! {
 pub struct Work {
     pub deductions: u64,
     pub rounds: u64,
+    pub tries: u64,
 }
 
 pub fn a_deduction() {
@@ -21,6 +23,11 @@ pub fn a_deduction() {
 
 pub fn a_round() {
     ROUNDS.with(|count| count.set(count.get() + 1));
+}
+
+/// So many p + u·q1 + v·q2 of request #111.
+pub fn tries(number: usize) {
+    TRIES.with(|count| count.set(count.get() + number as u64));
 }
 
 /// A run of the rounds that has ended, and how many rounds it began.
@@ -40,6 +47,7 @@ pub fn with_longest_run<T>(call: impl FnOnce() -> T) -> (T, usize) {
 pub fn work_of(call: impl FnOnce()) -> Work {
     DEDUCTIONS.with(|count| count.set(0));
     ROUNDS.with(|count| count.set(0));
+    TRIES.with(|count| count.set(0));
     call();
-    Work { deductions: DEDUCTIONS.with(Cell::get), rounds: ROUNDS.with(Cell::get) }
+    Work { deductions: DEDUCTIONS.with(Cell::get), rounds: ROUNDS.with(Cell::get), tries: TRIES.with(Cell::get) }
 }

@@ -13,7 +13,7 @@ pub mod tree;
 // "The block" and "Refusal numbers"
 pub mod block;
 
-// Deductions and rounds, counted
+// Deductions, rounds and tries, counted
 pub mod count;
 
 // "Deducing p from q"
@@ -21,6 +21,9 @@ pub mod deduce;
 
 // "Deducing p from q" with single values of t, for a person (document 02, #110)
 pub mod plain;
+
+// Two atoms at once (document 02, #111)
+pub mod two_atoms;
 
 // "Rounds over a list of atoms joined by AND"
 pub mod rounds;
@@ -61,6 +64,7 @@ pub mod engine;
 // The blocks that the cost is measured on
 pub mod bench;
 pub mod search;
+pub mod together;
 
 // A formula as other solvers read it
 pub mod smt;

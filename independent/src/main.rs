@@ -12,7 +12,7 @@ use independent::script::{answer_lines, back_line, plain_lines};
 use independent::scripts;
 use independent::{
     bench, block, book, check, convert, corpus, edge, engine, evaluate, loading, plain, pool, search,
-    smt, uses, why,
+    smt, together, uses, why,
 };
 
 const USAGE: &str =
@@ -21,7 +21,7 @@ const USAGE: &str =
                     script | many script | plain-script | script-back | scripts-back | corpus scripts SEED COUNT |\n\
                     corpus KIND SEED COUNT [EDITION] | book SEED COUNT | book-deductions SEED COUNT | check SEED COUNT]\n\
      KIND is valid, damaged, whys, trees, uses, edge, long, cases, later, deductions, points, lists, evaluations, conversions,\n\
-     pools, loads or candidates\n";
+     pools, loads, together or candidates\n";
 
 fn main() -> ExitCode {
     let arguments: Vec<String> = std::env::args().skip(1).collect();
@@ -213,6 +213,7 @@ fn write_corpus(kind: &str, seed: u64, count: usize, edition: Edition) -> io::Re
         "cases" => cases().iter().map(|case| block::write(&case.formula)).collect(),
         "later" => later_cases().iter().map(|case| block::write(&case.formula)).collect(),
         "points" => engine::single_points(),
+        "together" => together::corpus(seed, count),
         _ => return usage(),
     };
     let as_made = edition == Edition::One
@@ -313,10 +314,10 @@ fn repeat() -> io::Result<ExitCode> {
     Ok(ExitCode::SUCCESS)
 }
 
-/// Deductions made and rounds begun.
+/// Deductions made, rounds begun, and pairs tried with their factors.
 fn count_line(block: &[u8]) -> String {
     let work = work_of(|| drop(answer(block, block.len())));
-    format!("{} {}\n", work.deductions, work.rounds)
+    format!("{} {} {}\n", work.deductions, work.rounds, work.tries)
 }
 
 fn write_claims(seed: u64, count: usize) -> io::Result<ExitCode> {

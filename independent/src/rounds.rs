@@ -1,4 +1,4 @@
-//! Rounds over a list of atoms joined by AND, and what the list says of a polynomial afterwards.
+//! Rounds over a list of atoms joined by AND, the search over pairs (document 02, #111), and what the list says of a polynomial afterwards.
 //! The atoms are in normal form, no two of one polynomial, none constant.
 
 use crate::count;
@@ -6,6 +6,7 @@ use crate::deduce::deduce;
 use crate::polynomial::Polynomial;
 use crate::signs::SignSet;
 use crate::tree::Atom;
+use crate::two_atoms::Pairs;
 
 /// A list after its rounds.
 #[derive(Clone, Debug)]
@@ -15,7 +16,7 @@ pub struct AfterRounds {
     /// The variables' sets.
     pub board: Vec<SignSet>,
     pub contradiction: bool,
-    /// The number of rounds begun, the one that changed nothing or found the contradiction counted.
+    /// The number of rounds begun, the one that changed nothing or found the contradiction counted; a search over pairs is no round.
     pub rounds: usize,
 }
 
@@ -23,6 +24,13 @@ enum Round {
     Changed,
     Unchanged,
     Contradiction,
+}
+
+/// What a search over pairs comes to.
+enum Search {
+    Nothing,
+    Cut,
+    Emptied,
 }
 
 /// Runs the rounds over a list of atoms on n variables.
@@ -40,8 +48,17 @@ pub fn run_rounds(n: usize, atoms: &[Atom<Polynomial>]) -> AfterRounds {
         count::a_round();
         match list.round() {
             Round::Changed => {}
-            // "A round that changes nothing ends them too."
-            Round::Unchanged => break,
+            // "A round that changes nothing ends them too", unless two atoms at once find something. "The first pair
+            // finding that changes a set starts another round at once, unless that set is now empty: that ends the run
+            // as a contradiction, and no further round is begun."
+            Round::Unchanged => match list.search() {
+                Search::Nothing => break,
+                Search::Cut => {}
+                Search::Emptied => {
+                    list.contradiction = true;
+                    break;
+                }
+            },
             // "A set that becomes empty ends the rounds at once: contradiction."
             Round::Contradiction => {
                 list.contradiction = true;
@@ -111,9 +128,34 @@ impl AfterRounds {
         }
     }
 
+    /// "After a round that changes nothing, take as p each variable, then each non-variable atom, and try each pair of
+    /// non-variable atoms other than p": the first finding that changes p's set cuts it.
+    fn search(&mut self) -> Search {
+        let n = self.board.len();
+        let atoms = self.non_variable_atoms();
+        let variables: Vec<Polynomial> = (0..n).map(|i| Polynomial::of_variable(n, i)).collect();
+        let board = self.board.clone();
+        let mut pairs = Pairs::new(&board, &atoms);
+        for (i, variable) in variables.iter().enumerate() {
+            if let Some(cut) = pairs.first_cut(variable, self.board[i]) {
+                self.board[i] = cut;
+                return if cut.is_empty() { Search::Emptied } else { Search::Cut };
+            }
+        }
+        for atom in self.atoms.iter_mut().filter(|atom| atom.poly.variable().is_none()) {
+            let p = &atoms.iter().find(|other| other.poly == atom.poly).expect("it is one of them").poly;
+            if let Some(cut) = pairs.first_cut(p, atom.set) {
+                atom.set = cut;
+                return if cut.is_empty() { Search::Emptied } else { Search::Cut };
+            }
+        }
+        Search::Nothing
+    }
+
     /// "What a list *says of* p after its rounds: its set if listed (or the variable's set), else full, cut
     /// by its sign by terms and all deductions from non-variable atoms. A contradiction says the empty set."
-    /// The deductions are from all non-variable atoms, p itself among them when it is listed.
+    /// The deductions are from all non-variable atoms, p itself among them when it is listed. "What a list says of p includes
+    /// these" (02, #111): the findings of all tries over pairs of non-variable atoms other than p.
     pub fn says_of(&self, p: &Polynomial) -> SignSet {
         if self.contradiction {
             return SignSet::EMPTY;
@@ -126,9 +168,10 @@ impl AfterRounds {
             },
         };
         says = says.intersection(p.sign_by_terms(&self.board));
-        for q in self.non_variable_atoms() {
+        let atoms = self.non_variable_atoms();
+        for q in &atoms {
             says = says.intersection(deduce(p, &q.poly, q.set, &self.board));
         }
-        says
+        Pairs::new(&self.board, &atoms).cut_by_all(p, says)
     }
 }

@@ -21,6 +21,13 @@ fn the_blocks_have_their_shapes() {
         ("removed", 244, 255, 6),
         ("worst", 234, 255, 6),
         ("list-8-4", 8, 9, 1),
+        ("equalities", 64, 65, 1),
+        ("sums", 64, 65, 1),
+        ("linked", 64, 65, 1),
+        ("again", 150, 194, 2),
+        ("asked", 216, 255, 2),
+        ("nested", 234, 255, 6),
+        ("pinned", 234, 255, 6),
     ] {
         let block = bench::block(name).expect(name);
         let formula = read(&block).expect(name);
@@ -38,12 +45,13 @@ fn the_blocks_have_their_shapes() {
 }
 
 /// Case A: one round changes nothing, 4 deductions of variables and 2 of atoms. In step 5 a round over 2x - 1 < 0 alone makes 2 deductions, and
-/// what it says of the first atom 1; the first atom goes, and a last round over no atom makes none.
+/// what it says of the first atom 1; the first atom goes, and a last round over no atom makes none. The pair of atoms is tried for x and for y, with
+/// 32 pairs of factors each; no other list has two atoms beside p.
 #[test]
 fn work_is_counted() {
     let block = write(&cases()[0].formula);
     let work = work_of(|| drop(answer(&block, block.len())));
-    assert_eq!(work, Work { deductions: 9, rounds: 3 });
+    assert_eq!(work, Work { deductions: 9, rounds: 3, tries: 64 });
 }
 
 #[test]

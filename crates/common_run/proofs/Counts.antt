@@ -73,9 +73,8 @@ module _ {t : Table} {settled : State} {kept list : Atoms} {i : ℕ} {others : A
   -- the common run without it
   pub without-it : {c : Common} {k : ℕ} → Known t settled (atomsOf t kept ++ rest t list i) c → k ≡ atomSlot (list .number) i
       → which (t .variables) (formAt t k) ≡ none
-      → c .known ≡ true → Without t c k (atomsOf t others)
+      → c .known ≡ true → Without t settled c k (atomsOf t others)
   without-it known e no-variable is = record {
-    state = settled;
     kept = atomsOf t kept;
     atom = atom;
     later = rest t list (i + 1);

@@ -5,6 +5,7 @@ use mathlib.Core.List.{List, [], _∷_, _++_, append-assoc}
 use mathlib.Core.Option.{none}
 use Prim.Native.Nat.{ℕ, zero, suc, _+_, _*_, _<_, _≤_}
 use native.Mathlib.Omega.{arith}
+use borrow.Author.Count.{below-more}
 use lib.IntN.{ℤ}
 use lib.ListN.{length, getD, replicate}
 use Rattle.rules.specs.Signs.{full}
@@ -13,20 +14,27 @@ use Rattle.rules.specs.Rounds.{start, nonVariable, enough, sameSets}
 use Rattle.rules.specs.Rounds.{State as Standing}
 use Rattle.rules.specs.Level.{keptUnless}
 use Rattle.rules.specs.Count.{runCount}
+use Rattle.removal_laws.specs.Wider.{Wider}
+use Rattle.removal_laws.specs.Rounds.{LowBoard}
+use Rattle.removal_laws.specs.Settled.{start-low}
 use Rattle.turn_laws.specs.Some.{Some, all-there, not-there, some-both, some-append}
+use Rattle.turn_laws.specs.Afresh.{afresh-start}
 use Rattle.count_laws.specs.Boards.{turnedRounds}
 use Rattle.count_laws.specs.Common.{same-start}
-use Rattle.count_laws.specs.Onward.{afterRounds, Moving, Resting, common-onward, common-rounds}
+use Rattle.count_laws.specs.Onward.{afterRounds, Moving, Resting, NoPair, rounds-stay-low, common-onward, common-rounds}
 use Rattle.terms.specs.declared.Board.{Board as Sets}
 use Rattle.terms.specs.View.{few, setsOf, length-numbers}
 use Rattle.table.specs.Table.{Table, Forms, atomsOf, many}
 use Rattle.round.specs.declared.State.{State}
 use Rattle.round.specs.Views.{tableOf, stateOf}
+use Rattle.rounds.specs.Bounded.{BoundedBy, bounded-settled}
 use Rattle.common_run.specs.declared.run.Common.{Common}
 use Rattle.common_run.specs.Marks.{markedBy, markedOf}
 use Rattle.common_run.specs.Boards.{boardAt}
+use Rattle.common_run.specs.Run.{RestsAt}
 use Rattle.common_run.specs.Known.{CommonRun, Known, Without, Left, Lost}
 use Rattle.common_run.proofs.Marking.{marked-is, is-marked, none-marked}
+use Rattle.common_run.proofs.Above.{rounds-afresh}
 use Rattle.common_run.proofs.Apart.{marked-without}
 
 -- ---- an atom goes or stays
@@ -103,11 +111,12 @@ mark-above mark round h = by-test (markedBy mark round) refl
     by-test true e = let (some, most) = marked-is mark round e in absurd (omega arith)
     by-test false e = refl
 
-module _ {t : Table} (forms : Forms t) {c : Common} {k : ℕ} (low : k < 64) {others : List Atom} (w : Without t c k others) where
+module _ {t : Table} (forms : Forms t) {c : Common} {k : ℕ} (low : k < 64) {state : State} {others : List Atom}
+    (w : Without t state c k others) where
   abbrev n : ℕ
   n = t .variables
 
-  abbrev run : CommonRun t (w .state) (w .kept ++ (w .atom ∷ w .later)) c
+  abbrev run : CommonRun t state (w .kept ++ (w .atom ∷ w .later)) c
   run = w .run
 
   over-some : Some (run .over) others
@@ -116,38 +125,56 @@ module _ {t : Table} (forms : Forms t) {c : Common} {k : ℕ} (low : k < 64) {ot
   same-boards : start n (run .over) .board ≡ start n others .board
   same-boards = subst (λ (l : List Atom). start n (run .over) .board ≡ start n l .board) (sym (w .are)) (run .boards ∙ boards-same n (w .kept) (w .atom) (w .later) (w .between .no-variable))
 
-  resting : (j : ℕ) → j ≤ c .rounds → markedBy (getD (c .marks .first) k 0) j ≡ false
+  resting : (j : ℕ) → ((i : ℕ) → i < j → RestsAt t (run .first) (c .marks .first) i) → markedBy (getD (c .marks .first) k 0) j ≡ false
       → Resting n (start n (run .over) .atoms) (start n others .atoms) j (start n (run .over) .board)
   unfolding start
-  resting j h e = subst (λ (su : Standing). Resting n (su .atoms) (nonVariable n others) j (su .board)) (run .is-start) (λ i l.
+  resting j rests e = subst (λ (su : Standing). Resting n (su .atoms) (nonVariable n others) j (su .board)) (run .is-start) (λ i l.
       let a = run .first .atoms in
       record {
         these = markedOf (c .marks .first) (suc i) t a;
         there = subst (λ (l : List Atom). Some (nonVariable n l) (markedOf (c .marks .first) (suc i) t a)) (sym (w .are)) (marked-without forms (c .marks .first) (suc i) k low (not-yet (getD (c .marks .first) k 0) (suc i) j e (omega arith)) (w .kept) (w .atom) (w .later)
             (w .between .is) (w .between .no-variable) (a .number) (a .set) 0 (many (a .count)) (run .marked (suc i)));
-        rests = run .ran .rests i (omega arith);
+        rests = rests i l;
       })
 
   moving : (j : ℕ) → j < c .rounds → Moving n (start n (run .over) .atoms) j (start n (run .over) .board)
   moving j h = subst (λ (su : Standing). Moving n (su .atoms) j (su .board)) (run .is-start) (λ i l. run .ran .moves i (omega arith))
 
-  pub rounds-without : getD (c .marks .first) k 0 ≡ 0 → c .rounds ≡ runCount n others
-  rounds-without z = from (c .rounds) refl (run .ran .some)
+  pub rounds-without : getD (c .marks .first) k 0 ≡ 0 → c .ended ≡ true → c .rounds ≡ runCount n others
+  rounds-without z ended = from (c .rounds) refl (run .ran .some)
     where
       from : (m : ℕ) → m ≡ c .rounds → 0 < m → c .rounds ≡ runCount n others
       from zero e h = absurd (omega arith)
       from (suc j) e h =
+          let last = run .ran .last ended j e in
+          let at : suc j ≡ j + 1 = omega arith in
+          let rests = subst (λ (m : ℕ). (i : ℕ) → i < m → RestsAt t (run .first) (c .marks .first) i) (sym at)
+          (below-more (λ (i : ℕ). RestsAt t (run .first) (c .marks .first) i) j (λ (i : ℕ) (l : i < j). run .ran .rests i (omega arith)) (last .rests)) in
           sym e ∙ sym (common-rounds n (run .afresh .given) (run .afresh .settles) (run .over) others (run .afresh .some) over-some same-boards j
-          (resting (suc j) (omega arith) (mark-zero (suc j) z)) (moving j (omega arith))
-          (subst (λ (su : Standing). sameSets (afterRounds n (su .atoms) j (su .board)) (afterRounds n (su .atoms) (suc j) (su .board)) ≡ true) (run .is-start) (run .ran .still j e)))
+          (resting (suc j) rests (mark-zero (suc j) z)) (moving j (omega arith))
+          (subst (λ (su : Standing). sameSets (afterRounds n (su .atoms) j (su .board)) (afterRounds n (su .atoms) (suc j) (su .board)) ≡ true) (run .is-start) (last .still))
+          (subst (λ (su : Standing). NoPair n (su .atoms) (afterRounds n (su .atoms) (suc j) (su .board))) (run .is-start) (last .no-pair)))
 
   pub rounds-onward : (j : ℕ) → j < c .rounds → markedBy (getD (c .marks .first) k 0) j ≡ false
       → runCount n others ≡ j + turnedRounds n (start n others .atoms) (enough (start n others)) (boardAt (c .boards .sets) j n)
   rounds-onward j h e =
       common-onward n (run .afresh .given) (run .afresh .settles) (run .over) others (run .afresh .some) over-some same-boards j
-      (resting j (omega arith) e) (moving j h)
+      (resting j (λ i l. run .ran .rests i (omega arith)) e) (moving j h)
       ∙ ap (λ (b : Board). j + turnedRounds n (start n others .atoms) (enough (start n others)) b)
       (ap (λ (su : Standing). afterRounds n (su .atoms) j (su .board)) (sym (run .is-start)) ∙ sym (run .ran .boards j h))
+
+  -- the state that it goes on from is above the settled one
+  pub bounded-onward : (begun : State) → stateOf t begun ≡ start n others → (j : ℕ) → j < c .rounds → (b : Sets) → setsOf b ≡ boardAt (c .boards .sets) j n
+      → BoundedBy t (record { board = b; atoms = begun .atoms }) (state .board)
+  bounded-onward begun is-start j h b e =
+      let all = rounds-afresh (afresh-start n (run .afresh .given) (run .afresh .settles) (run .afresh .some)) j in
+      let own = afresh-start n (run .afresh .given) (run .afresh .settles) (some-both (run .afresh .some) over-some) in
+      let sets = e ∙ run .ran .boards j h ∙ ap (λ (su : Standing). afterRounds n (su .atoms) j (su .board)) (run .is-start) in
+      bounded-settled state (record {
+        still = own .still;
+        boards = subst (λ (board : Board). Wider (setsOf (state .board)) board) (sym sets) (all .boards);
+        lists = subst (λ (su : Standing). Some (atomsOf t (state .atoms)) (su .atoms)) (sym is-start) (own .lists);
+      }) (run .afresh .variables) (subst LowBoard (sym sets) (rounds-stay-low n (start n (run .over) .atoms) (start n (run .over) .board) (start-low n (run .over)) j))
 
 -- ---- its rounds, from the board that is read back
 

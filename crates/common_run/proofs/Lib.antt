@@ -2,6 +2,7 @@ pub mod Marking
 pub mod Cutting
 pub mod Turnings
 pub mod Storing
+pub mod Above
 pub mod Running
 pub mod Apart
 pub mod Knowing

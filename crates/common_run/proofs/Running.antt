@@ -1,6 +1,6 @@
 -- The rounds of the common run, one after the other: their boards, and that the cuts of each rest on what is marked by it, whatever is marked later.
 use mathlib.Core.Path.{_≡_, refl, sym, _∙_, ap, subst}
-use mathlib.Core.Bool.{Bool, true, false}
+use mathlib.Core.Bool.{Bool, true, false, false≢true}
 use mathlib.Core.List.{List}
 use Prim.Native.Nat.{ℕ, suc, _+_, _<_}
 use native.Mathlib.Numerals.{add-one}
@@ -11,7 +11,7 @@ use Rattle.rules.specs.Signs.{SignSet}
 use Rattle.rules.specs.Polynomial.{Board}
 use Rattle.rules.specs.Rounds.{turns, sameSets}
 use Rattle.count_laws.specs.Common.{RestTurns}
-use Rattle.count_laws.specs.Onward.{afterRounds}
+use Rattle.count_laws.specs.Onward.{afterRounds, NoPair}
 use Rattle.terms.specs.declared.Board.{Board as Sets}
 use Rattle.terms.specs.View.{few, numbersFrom, setsOf}
 use Rattle.table.specs.declared.Atoms.{Atoms}
@@ -22,7 +22,7 @@ use Rattle.round.specs.Signing.{Ready}
 use Rattle.common_run.specs.Marks.{markedOf, Grows}
 use Rattle.common_run.specs.Turning.{TurnsMarking}
 use Rattle.common_run.specs.Boards.{boardAt, StoredAt}
-use Rattle.common_run.specs.Run.{after, CommonOf}
+use Rattle.common_run.specs.Run.{after, RestsAt, CommonOf}
 use Rattle.common_run.proofs.Marking.{grows-itself, grows-on}
 use Rattle.common_run.proofs.Storing.{board-here, board-before}
 
@@ -43,8 +43,7 @@ pub record Running (t : Table) (st : State) (round : ℕ) (stood : Sets) (boards
   pub sets : setsOf stood ≡ after t st round
   pub moves : (i : ℕ) → i < round → sameSets (after t st i) (after t st (suc i)) ≡ false
   pub stored : (i : ℕ) → i < round → boardAt boards i (t .variables) ≡ after t st i
-  pub rests : (i : ℕ) → i < round → (later : List ℕ) → Grows marks later
-      → RestTurns (t .variables) (atomsOf t (st .atoms)) (markedOf later (suc i) t (st .atoms)) (after t st i) 0 (t .variables)
+  pub rests : (i : ℕ) → i < round → (later : List ℕ) → Grows marks later → RestsAt t st later i
 
 pub running-first : {t : Table} (st : State) (boards marks : List ℕ) {ss : List SignSet} → st .board .variables ≡ t .variables
     → Ready t (setsOf (st .board)) (st .atoms) ss
@@ -59,26 +58,38 @@ running-first st boards marks v r = record {
   rests = λ i l. absurd (omega arith);
 }
 
+module _ {t : Table} {st : State} {round : ℕ} {stood : Sets} {boards more marks : List ℕ} {ss : List SignSet}
+    (r : Running t st round stood boards marks ss) (s : StoredAt boards (stood .sets) round more) where
+  boards-so : (i : ℕ) → i < round + 1 → boardAt more i (t .variables) ≡ after t st i
+  boards-so =
+      below-more (λ (i : ℕ). boardAt more i (t .variables) ≡ after t st i) round (λ (i : ℕ) (l : i < round). board-before s (t .variables) i l ∙ r .stored i l)
+      (board-here s (t .variables) ∙ (rw (r .variables) at (r .sets)))
+
+  -- left before the next round
+  pub running-left : round < 40
+      → CommonOf t st (record { known = true; ended = false; rounds = round + 1; boards = record { sets = more }; marks = record { first = marks } })
+  running-left low = record {
+    some = omega arith;
+    most = omega arith;
+    moves = λ i l. r .moves i (omega arith);
+    boards = boards-so;
+    rests = λ i l. r .rests i (omega arith) marks (grows-itself marks);
+    last = λ e. absurd (false≢true e);
+  }
+
 module _ {t : Table} {st : State} {round : ℕ} {stood next : Sets} {boards more marks later-marks : List ℕ} {ss zs : List SignSet}
     (r : Running t st round stood boards marks ss) (s : StoredAt boards (stood .sets) round more)
     (m : TurnsMarking t (st .atoms) (setsOf stood) (round + 1) marks next later-marks zs) where
-  next-sets : setsOf next ≡ after t st (suc round)
+  pub next-sets : setsOf next ≡ after t st (suc round)
   unfolding afterRounds
   next-sets = m .turned .sets ∙ ap (λ (b : Board). turns (t .variables) (atomsOf t (st .atoms)) b 0 (t .variables)) (r .sets)
 
   same-so : {b : Bool} → sameSets (setsOf stood) (setsOf next) ≡ b → sameSets (after t st round) (after t st (suc round)) ≡ b
   same-so e = rw (sym (r .sets), sym next-sets) e
 
-  boards-so : (i : ℕ) → i < round + 1 → boardAt more i (t .variables) ≡ after t st i
-  boards-so =
-      below-more (λ (i : ℕ). boardAt more i (t .variables) ≡ after t st i) round (λ (i : ℕ) (l : i < round). board-before s (t .variables) i l ∙ r .stored i l)
-      (board-here s (t .variables) ∙ (rw (r .variables) at (r .sets)))
-
-  rests-so : (i : ℕ) → i < round + 1 → (later : List ℕ) → Grows later-marks later
-      → RestTurns (t .variables) (atomsOf t (st .atoms)) (markedOf later (suc i) t (st .atoms)) (after t st i) 0 (t .variables)
+  rests-so : (i : ℕ) → i < round + 1 → (later : List ℕ) → Grows later-marks later → RestsAt t st later i
   rests-so =
-      below-more (λ (i : ℕ). (later : List ℕ) → Grows later-marks later
-      → RestTurns (t .variables) (atomsOf t (st .atoms)) (markedOf later (suc i) t (st .atoms)) (after t st i) 0 (t .variables)) round
+      below-more (λ (i : ℕ). (later : List ℕ) → Grows later-marks later → RestsAt t st later i) round
       (λ (i : ℕ) (l : i < round) (later : List ℕ) (g : Grows later-marks later). r .rests i l later (grows-on (m .grows) g))
       (λ (later : List ℕ) (g : Grows later-marks later).
       subst (λ (b : Board). RestTurns (t .variables) (atomsOf t (st .atoms)) (markedOf later (suc round) t (st .atoms)) b 0 (t .variables)) (r .sets)
@@ -90,17 +101,23 @@ module _ {t : Table} {st : State} {round : ℕ} {stood next : Sets} {boards more
     ready = m .turned .ready;
     sets = rw (add-one round) next-sets;
     moves = below-more (λ (i : ℕ). sameSets (after t st i) (after t st (suc i)) ≡ false) round (r .moves) (same-so e);
-    stored = boards-so;
+    stored = boards-so r s;
     rests = rests-so;
   }
 
-  pub running-last : round < 40 → sameSets (setsOf stood) (setsOf next) ≡ true
-      → CommonOf t st (record { known = true; rounds = round + 1; boards = record { sets = more }; marks = record { first = later-marks } })
-  running-last low e = record {
+  -- the last round, if no pair finds anything
+  pub running-last : (ended : Bool) → round < 40 → sameSets (setsOf stood) (setsOf next) ≡ true
+      → (ended ≡ true → NoPair (t .variables) (atomsOf t (st .atoms)) (setsOf next))
+      → CommonOf t st (record { known = true; ended = ended; rounds = round + 1; boards = record { sets = more }; marks = record { first = later-marks } })
+  running-last ended low e idle = record {
     some = omega arith;
     most = omega arith;
     moves = λ i l. r .moves i (omega arith);
-    still = λ i l. let last : i ≡ round = omega arith in rw last (same-so e);
-    boards = boards-so;
-    rests = λ i l. rests-so i l later-marks (grows-itself later-marks);
+    boards = boards-so r s;
+    rests = λ i l. rests-so i (omega arith) later-marks (grows-itself later-marks);
+    last = λ so i l. let at : i ≡ round = omega arith in rw at (record {
+      still = same-so e;
+      rests = rests-so round (omega arith) later-marks (grows-itself later-marks);
+      no-pair = rw (sym next-sets) (idle so);
+    });
   }

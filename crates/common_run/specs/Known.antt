@@ -37,8 +37,7 @@ pub record Between (t : Table) (k : ℕ) (kept : List Atom) (a : Atom) (later : 
   pub no-variable : which (t .variables) (a .polynomial) ≡ none
 
 -- the others are those that remain but for the atom of slot k
-pub record Without (t : Table) (c : Common) (k : ℕ) (others : List Atom) : Type 0 where
-  pub state : State
+pub record Without (t : Table) (state : State) (c : Common) (k : ℕ) (others : List Atom) : Type 0 where
   pub kept : List Atom
   pub atom : Atom
   pub later : List Atom

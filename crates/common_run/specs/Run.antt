@@ -1,10 +1,12 @@
--- The common run from a start: each of its rounds but the last changes the board, and the cuts of each rest on what is marked by it.
+-- The common run from a start, as far as it was made: each of its rounds but the last changes the board, and the cuts of each rest on what is marked by
+-- it. If it has ended, its last round leaves the board, and no pair of atoms finds anything of a variable.
 use mathlib.Core.Path.{_≡_}
 use mathlib.Core.Bool.{true, false}
+use mathlib.Core.List.{List}
 use Prim.Native.Nat.{ℕ, suc, _<_, _≤_}
 use Rattle.rules.specs.Rounds.{sameSets}
 use Rattle.count_laws.specs.Common.{RestTurns}
-use Rattle.count_laws.specs.Onward.{afterRounds}
+use Rattle.count_laws.specs.Onward.{afterRounds, NoPair}
 use Rattle.rules.specs.Polynomial.{Board}
 use Rattle.terms.specs.View.{setsOf}
 use Rattle.table.specs.Table.{Table, atomsOf}
@@ -17,11 +19,22 @@ use Rattle.common_run.specs.Boards.{boardAt}
 abbrev pub after : Table → State → ℕ → Board
 after t st i = afterRounds (t .variables) (atomsOf t (st .atoms)) i (setsOf (st .board))
 
+-- the cuts of the round on the board after i rest on what is marked by it
+abbrev pub RestsAt : Table → State → List ℕ → ℕ → Type 0
+RestsAt t st marks i =
+    RestTurns (t .variables) (atomsOf t (st .atoms)) (markedOf marks (suc i) t (st .atoms)) (after t st i) 0 (t .variables)
+
+-- the round on the board after i is the last: it leaves that board, and no pair finds anything of a variable on it
+pub record LastAt (t : Table) (st : State) (marks : List ℕ) (i : ℕ) : Type 0 where
+  pub still : sameSets (after t st i) (after t st (suc i)) ≡ true
+  pub rests : RestsAt t st marks i
+  pub no-pair : NoPair (t .variables) (atomsOf t (st .atoms)) (after t st (suc i))
+
+-- as many boards as rounds; a run that has ended has made its last round too
 pub record CommonOf (t : Table) (st : State) (r : Common) : Type 0 where
   pub some : 0 < r .rounds
   pub most : r .rounds ≤ 40
   pub moves : (i : ℕ) → suc i < r .rounds → sameSets (after t st i) (after t st (suc i)) ≡ false
-  pub still : (i : ℕ) → suc i ≡ r .rounds → sameSets (after t st i) (after t st (suc i)) ≡ true
   pub boards : (i : ℕ) → i < r .rounds → boardAt (r .boards .sets) i (t .variables) ≡ after t st i
-  pub rests : (i : ℕ) → i < r .rounds
-      → RestTurns (t .variables) (atomsOf t (st .atoms)) (markedOf (r .marks .first) (suc i) t (st .atoms)) (after t st i) 0 (t .variables)
+  pub rests : (i : ℕ) → suc i < r .rounds → RestsAt t st (r .marks .first) i
+  pub last : r .ended ≡ true → (i : ℕ) → suc i ≡ r .rounds → LastAt t st (r .marks .first) i

@@ -23,11 +23,9 @@ use round::list::joined;
 use round::slots::Holds;
 use round::slots::which;
 use rounds::counting::fresh_rounds;
-use rounds::counting::larger;
-use rounds::counting::spares;
+use rounds::counting::within;
 use rounds::start::start;
 use table::Atoms;
-use terms::few;
 
 // The largest number of rounds so far, and what is known of a common run.
 pub struct Counting {
@@ -49,15 +47,8 @@ fn open(
 {
     let first = start(coefficient, monomial, terms, variables, others);
     let board = first.board;
-    let sets = board.sets;
     let floor = settled.board;
-    let lowest = floor.sets;
-    let above = spares(&sets, few(board.variables));
-    let below = spares(&lowest, few(floor.variables));
-    if above < largest {
-        return false;
-    }
-    below + largest <= above
+    !within(board, floor, 0, largest)
 }
 
 // The common run that is known, or one over the atoms that remain.
@@ -72,6 +63,7 @@ fn remade(
     others: Atoms,
     settled: State,
     common: Common,
+    largest: usize,
 ) -> Common
     requires { let t = lentTable coefficient monomial terms variables in
         ⌜ Forms t × (Remain t settled kept list i others × Known t settled (atomsOf t kept ++ rest t list i) common) ⌝ }
@@ -84,7 +76,8 @@ fn remade(
     }
     let all = joined(kept, list, i);
     let begun = start(coefficient, monomial, terms, variables, all);
-    marking_run(coefficient, monomial, terms, begun)
+    let floor = settled.board;
+    marking_run(coefficient, monomial, terms, begun, floor, largest)
 }
 
 // The larger of the largest number so far and that of the run without the atom of slot k: by the common run, if it is known.
@@ -102,14 +95,23 @@ fn by_common(
     requires { let t = lentTable coefficient monomial terms variables in
         ⌜ Forms t × AfreshFrom t settled (atomsOf t others) ⌝ }
     requires { let t = lentTable coefficient monomial terms variables in
-        ⌜ (k < 64) × (common .known ≡ true → Without t common k (atomsOf t others)) ⌝ }
+        ⌜ (k < 64) × (common .known ≡ true → Without t settled common k (atomsOf t others)) ⌝ }
     ensures { λ r.
         let t = lentTable (coefficient .entry) (monomial .entry) (terms .entry) variables in
         ⌜ r ≡ max largest (runCount variables (atomsOf t others)) ⌝ }
 {
     if common.known {
-        let rounds = without(coefficient, monomial, terms, variables, others, common, k);
-        return larger(largest, rounds);
+        return without(
+            coefficient,
+            monomial,
+            terms,
+            variables,
+            others,
+            settled,
+            common,
+            k,
+            largest,
+        );
     }
     fresh_rounds(
         coefficient,
@@ -182,6 +184,7 @@ fn form_counted(
         others,
         settled,
         common,
+        largest,
     );
     let rounds = by_common(
         coefficient,

@@ -1,8 +1,12 @@
-// The common run itself: rounds that cut no atom, until one leaves the board as it was.
+// The common run itself: rounds that cut no atom, until one leaves the board as it was. It has ended there if no pair of its atoms finds anything then.
 ghost use mathlib.Core.Path.{_≡_};
 ghost use mathlib.Core.Bool.{true};
-ghost use Rattle.table.specs.Table.{Forms};
+ghost use Rattle.count_laws.specs.Onward.{NoPair};
+ghost use Rattle.terms.specs.View.{setsOf};
+ghost use Rattle.table.specs.Table.{Forms, atomsOf};
 ghost use Rattle.round.specs.Views.{lentTable};
+ghost use Rattle.round.specs.Signing.{Ready};
+ghost use Rattle.rounds.specs.Afresh.{AboveFloor};
 ghost use Rattle.common_run.specs.Run.{CommonOf};
 use crate::boards::Boards;
 use crate::boards::no_boards;
@@ -12,12 +16,17 @@ use crate::marks::no_marks;
 use crate::turning::turns_marking;
 use round::State;
 use round::slots::sign_list;
+use rounds::counting::within;
 use rounds::settle::same_sets;
+use search::variables::search_board;
+use table::Atoms;
+use terms::Board;
 use terms::few;
 
-// How many rounds were begun, the board at the start of each, and which atoms their cuts rest on, if the run is known.
+// How many rounds were begun, the board at the start of each, and which atoms their cuts rest on, if the run is known; and whether it has ended.
 pub struct Common {
     pub known: bool,
+    pub ended: bool,
     pub rounds: usize,
     pub boards: Boards,
     pub marks: Marks,
@@ -29,15 +38,45 @@ pub fn unknown() -> Common
 {
     Common {
         known: false,
+        ended: false,
         rounds: 0,
         boards: no_boards(),
         marks: no_marks(),
     }
 }
 
-// A run of more than forty rounds is left unknown; none takes so many.
-pub fn marking_run(coefficient: &[i32], monomial: &[u64], terms: &[u8], start: State) -> Common
-    requires { ⌜ Forms (lentTable coefficient monomial terms (start .board .variables)) ⌝ }
+// Whether no pair of the atoms finds anything of a variable on a board above the floor.
+fn no_pair(
+    coefficient: &[i32],
+    monomial: &[u64],
+    terms: &[u8],
+    sign: &[u8],
+    state: State,
+    floor: Board,
+) -> bool
+    requires { let t = lentTable coefficient monomial terms (state .board .variables) in
+        ⌜ Ready t (setsOf (state .board)) (state .atoms) (now sign) × AboveFloor t state floor ⌝ }
+    ensures { λ r.
+        let t = lentTable (coefficient .entry) (monomial .entry) (terms .entry) (state .board .variables) in
+        ⌜ (r ≡ true → NoPair (state .board .variables) (atomsOf t (state .atoms)) (setsOf (state .board))) ⌝ }
+{
+    let board = state.board;
+    let atoms = state.atoms;
+    let searched = search_board(coefficient, monomial, terms, sign, board, atoms, floor);
+    !searched.found
+}
+
+// From a start above the floor. It is left where its bound falls to the largest number so far, which is the bound of each run without an atom that no
+// cut rests on, too. A run of more than forty rounds is left unknown; none takes so many.
+pub fn marking_run(
+    coefficient: &[i32],
+    monomial: &[u64],
+    terms: &[u8],
+    start: State,
+    floor: Board,
+    largest: usize,
+) -> Common
+    requires { let t = lentTable coefficient monomial terms (start .board .variables) in ⌜ Forms t × AboveFloor t start floor ⌝ }
     ensures { λ r.
         let t = lentTable (coefficient .entry) (monomial .entry) (terms .entry) (start .board .variables) in
         ⌜ (r .known ≡ true → CommonOf t start r) ⌝ }
@@ -52,6 +91,15 @@ pub fn marking_run(coefficient: &[i32], monomial: &[u64], terms: &[u8], start: S
     let mut round = 0u8;
     while round < 40 {
         boards = stored(boards, stood, round as usize);
+        if within(stood, floor, round as usize, largest) {
+            return Common {
+                known: true,
+                ended: false,
+                rounds: round as usize + 1,
+                boards,
+                marks,
+            };
+        }
         round += 1;
         let turned = turns_marking(
             coefficient,
@@ -68,8 +116,11 @@ pub fn marking_run(coefficient: &[i32], monomial: &[u64], terms: &[u8], start: S
         let old = stood.sets;
         let new = next.sets;
         if same_sets(&old, &new, few(stood.variables)) {
+            let last = State { board: next, atoms };
+            let ended = no_pair(coefficient, monomial, terms, &sign, last, floor);
             return Common {
                 known: true,
+                ended,
                 rounds: round as usize,
                 boards,
                 marks,

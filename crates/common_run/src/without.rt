@@ -1,8 +1,8 @@
 // The run without an atom, by the common run: it has the rounds in common with it before the first whose cuts rest on the atom,
 // and is made from there.
 ghost use mathlib.Core.Path.{_≡_};
-ghost use mathlib.Core.Bool.{false};
-ghost use Prim.Native.Nat.{_<_};
+ghost use mathlib.Core.Bool.{true, false};
+ghost use Prim.Native.Nat.{_<_, max};
 ghost use Rattle.rules.specs.Count.{runCount};
 ghost use Rattle.table.specs.Table.{Forms, atomsOf};
 ghost use Rattle.round.specs.Views.{lentTable};
@@ -12,45 +12,58 @@ use crate::boards::restored;
 use crate::run::Common;
 use crate::run::unknown;
 use round::State;
+use rounds::counting::larger;
 use rounds::start::start;
-use rounds::turned::turned_rounds;
+use rounds::turned::turned_largest;
 use table::Atoms;
 
-// How many rounds the run without an atom has in common with a run of so many rounds, by the atom's mark.
+// Whether the run without an atom takes as many rounds as the common run: no cut rests on the atom, and the common run has ended.
+fn as_many(mark: u8, ended: bool) -> bool
+    ensures { λ r. ⌜ (r ≡ true → (mark ≡ 0) × (ended ≡ true)) ⌝ }
+{
+    if mark == 0 {
+        return ended;
+    }
+    false
+}
+
+// How many rounds the run without an atom has in common with a run of so many rounds, but for its last one, by the atom's mark.
 fn shared(mark: u8, rounds: usize) -> usize
     requires { ⌜ 0 < rounds ⌝ }
     ensures { λ r. ⌜ (r < rounds) × (markedBy mark r ≡ false) ⌝ }
 {
     let first = mark as usize;
     if first == 0 {
-        return 0;
+        return rounds - 1;
     }
     if rounds < first {
-        return 0;
+        return rounds - 1;
     }
     first - 1
 }
 
-// How many rounds the run over the atoms takes that remain without the one of slot k.
+// The larger of the largest number so far and that of the rounds of the run over the atoms that remain without the one of slot k.
 pub fn without(
     coefficient: &[i32],
     monomial: &[u64],
     terms: &[u8],
     variables: usize,
     others: Atoms,
+    settled: State,
     common: Common,
     k: usize,
+    largest: usize,
 ) -> usize
     requires { let t = lentTable coefficient monomial terms variables in
-        ⌜ Forms t × ((k < 64) × Without t common k (atomsOf t others)) ⌝ }
+        ⌜ Forms t × ((k < 64) × Without t settled common k (atomsOf t others)) ⌝ }
     ensures { λ r.
         let t = lentTable (coefficient .entry) (monomial .entry) (terms .entry) variables in
-        ⌜ r ≡ runCount variables (atomsOf t others) ⌝ }
+        ⌜ r ≡ max largest (runCount variables (atomsOf t others)) ⌝ }
 {
     let marks = common.marks;
     let mark = marks.first[k];
-    if mark == 0 {
-        return common.rounds;
+    if as_many(mark, common.ended) {
+        return larger(largest, common.rounds);
     }
     let from = shared(mark, common.rounds);
     let begun = start(coefficient, monomial, terms, variables, others);
@@ -58,8 +71,16 @@ pub fn without(
     let atoms = begun.atoms;
     let boards = common.boards;
     let board = restored(boards, first, from);
-    let rest = turned_rounds(coefficient, monomial, terms, State { board, atoms });
-    from + rest
+    let floor = settled.board;
+    turned_largest(
+        coefficient,
+        monomial,
+        terms,
+        State { board, atoms },
+        floor,
+        from,
+        largest,
+    )
 }
 
 // What is known of the common run after the atom of slot k, no variable's, which is out or not: as much, if no cut rests on it.

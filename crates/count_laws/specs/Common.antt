@@ -1,26 +1,31 @@
 -- Request #108: without atoms that no cut of a run rests on the rounds are the same rounds, and so is their number.
--- Rounds that cut no atom are meant, those of `turnedRounds`: one common run counts for each atom that it does not rest on.
+-- Rounds that cut no atom are meant, those of `turnedRounds`: one common run in which no pair finds anything counts for each atom that it does not rest on.
 use mathlib.Core.Path.{_≡_, refl, sym, ap, _∙_}
+use mathlib.Core.Bool.{Bool, true, false}
 use mathlib.Core.List.{List, [], _∷_, _++_}
 use mathlib.Core.Option.{Option, none, some}
-use Prim.Native.Nat.{ℕ, zero, suc, _+_}
+use Prim.Native.Nat.{ℕ, zero, suc, _+_, _<_}
 use native.Mathlib.Omega.{arith}
 use lib.Dec.{lit<}
 use lib.ListN.{length, getD, set, replicate}
-use Rattle.rules.specs.Signs.{full}
+use Rattle.rules.specs.Signs.{SignSet, full}
 use Rattle.rules.specs.Polynomial.{Polynomial, Atom, Board, variable, which}
-use Rattle.rules.specs.Rounds.{cutBy, turn, turns, State, sameSets, settled, begun, unlessVariable, nonVariable, placed, placedAll, start, enough, run, carried}
+use Rattle.rules.specs.TwoAtoms.{tries, firstCut}
+use Rattle.rules.specs.Rounds.{cutBy, turn, turns, State, sameSets, settled, setsOr, searchBoard, begun, unlessVariable, nonVariable, placed, placedAll, start, enough, run, carried}
 use Rattle.rules.specs.Count.{runCount}
-use Rattle.sign_laws.specs.Lists.{every-getD}
+use Rattle.sign_laws.specs.Lists.{Every, every-none, every, every-getD}
 use Rattle.sign_laws.specs.Sets.{PartOf, part-refl, parts-equal}
 use Rattle.ending_laws.specs.Cuts.{cutBy-below}
+use Rattle.ending_laws.specs.Searches.{none-cuts, parts-cut-none, board-none}
 use Rattle.ending_laws.specs.Rounds.{more-rounds-begin-no-more}
 use Rattle.removal_laws.specs.Rounds.{LowBoard, LowAtoms, turn-low, cutBy-wider}
+use Rattle.removal_laws.specs.TwoAtoms.{Filled, tries-wider, weaker-every}
 use Rattle.removal_laws.specs.Settled.{start-low}
+use Rattle.removal_laws.specs.Searched.{settled-filled}
 use Rattle.turn_laws.specs.Some.{Some, not-there, some-fewer, all-there, some-append, some-without, nonVariable-some}
 use Rattle.turn_laws.specs.Equal.{board-itself}
 use Rattle.turn_laws.specs.Afresh.{afresh-start}
-use Rattle.count_laws.specs.Fresh.{some-low}
+use Rattle.count_laws.specs.Fresh.{some-every, some-low}
 use Rattle.count_laws.specs.Boards.{unlessStill, turnedRounds, counted-by-turns}
 
 -- The cuts of k turns from variable i on, on a board, rest on the atoms of `these`: they leave of each set what all atoms leave.
@@ -30,10 +35,17 @@ RestTurns n all these board i (suc k) =
     (cutBy board (variable n i) these (getD board i full) ≡ cutBy board (variable n i) all (getD board i full))
     × RestTurns n all these (turn n all board i) (suc i) k
 
--- The cuts of so many rounds do.
+-- After a round that leaves the board no pair finds anything of a variable; after another one the further rounds rest on them.
+unfoldable pub RestFurther : Bool → Option Board → Type 0 → Type 0
+RestFurther true found further = found ≡ none
+RestFurther false found further = further
+
+-- The cuts of so many rounds rest on them, and are none of pairs.
 unfoldable pub RestRounds : ℕ → List Atom → List Atom → ℕ → Board → Type 0
 RestRounds n all these zero board = Unit {0}
-RestRounds n all these (suc k) board = RestTurns n all these board 0 n × RestRounds n all these k (turns n all board 0 n)
+RestRounds n all these (suc k) board =
+    let next = turns n all board 0 n in
+    RestTurns n all these board 0 n × RestFurther (sameSets board next) (searchBoard n all next 0 n next) (RestRounds n all these k next)
 
 module _ (n : ℕ) {all fewer these : List Atom} (low : LowAtoms all) (lower : LowAtoms fewer) (f : Some all fewer) (g : Some fewer these) where
   -- What atoms between them leave of a set.
@@ -55,10 +67,33 @@ module _ (n : ℕ) {all fewer these : List Atom} (low : LowAtoms all) (lower : L
       ap (λ (s : ℕ). turns n fewer (set board i s) (suc i) k) (same-cut board h i (r .0))
       ∙ same-turns (turn n all board i) (turn-low n all board i h) (suc i) k (r .1)
 
-  turns-stay-low : (board : Board) → LowBoard board → (i k : ℕ) → LowBoard (turns n all board i k)
-  unfolding turns
-  turns-stay-low board h i zero = h
-  turns-stay-low board h i (suc k) = turns-stay-low (turn n all board i) (turn-low n all board i h) (suc i) k
+pub turns-stay-low : (n : ℕ) (all : List Atom) (board : Board) → LowBoard board → (i k : ℕ) → LowBoard (turns n all board i k)
+unfolding turns
+turns-stay-low n all board h i zero = h
+turns-stay-low n all board h i (suc k) = turns-stay-low n all (turn n all board i) (turn-low n all board i h) (suc i) k
+
+-- Of pairs fewer atoms find no more.
+module _ (n : ℕ) {all fewer : List Atom} (filled : Every Filled all) (f : Some all fewer) where
+  pub same-idle : (board : Board) (i k : ℕ) {l : List SignSet} → Every (λ (s : SignSet). s < 8) l → searchBoard n all board i k l ≡ none
+      → searchBoard n fewer board i k l ≡ none
+  unfolding searchBoard setsOr
+  same-idle board i zero h e = refl
+  same-idle board i (suc k) every-none e = refl
+  same-idle board i (suc k) (every {a = s} {l = later} h hs) e =
+      let idle = board-none n all board i k s later e in
+      let here : firstCut s (tries board (variable n i) fewer) ≡ none = parts-cut-none s h
+      (weaker-every (tries-wider (board-itself board) (variable n i) (some-fewer f) filled) (none-cuts s (tries board (variable n i) all) (idle .0))) in
+      let rest = same-idle board (suc i) k hs (idle .1) in
+      rw (here, rest)
+
+module _ (n : ℕ) {all fewer these : List Atom} (filled : Every Filled all) (low : LowAtoms all) (lower : LowAtoms fewer) (f : Some all fewer)
+    (g : Some fewer these) where
+  same-further : (still : Bool) (few many : Board → ℕ) {next : Board} → LowBoard next → {Rest : Type 0} → RestFurther still (searchBoard n all next 0 n next) Rest
+      → (Rest → few next ≡ many next)
+      → unlessStill still (searchBoard n fewer next 0 n next) next (λ (b : Board). few b) ≡ unlessStill still (searchBoard n all next 0 n next) next (λ (b : Board). many b)
+  unfolding unlessStill RestFurther
+  same-further true few many {next} h idle same = rw (same-idle n filled f next 0 n h idle, idle)
+  same-further false few many h rest same = same rest
 
   -- So the rounds are as many.
   pub same-rounds : (k : ℕ) (board : Board) → LowBoard board → RestRounds n all these k board → turnedRounds n fewer k board ≡ turnedRounds n all k board
@@ -66,8 +101,9 @@ module _ (n : ℕ) {all fewer these : List Atom} (low : LowAtoms all) (lower : L
   same-rounds zero board h r = refl
   same-rounds (suc k) board h r =
       let next = turns n all board 0 n in
-      rw (same-turns board h 0 n (r .0))
-      (ap (λ (further : ℕ). suc (unlessStill (sameSets board next) further)) (same-rounds k next (turns-stay-low board h 0 n) (r .1)))
+      let low-next = turns-stay-low n all board h 0 n in
+      rw (same-turns n low lower f g board h 0 n (r .0))
+      (ap suc (same-further (sameSets board next) (turnedRounds n fewer k) (turnedRounds n all k) low-next (r .1) (λ rest. same-rounds k next low-next rest)))
 
 -- ---- Step 5: the run over the other atoms, without one that is no variable's.
 
@@ -103,7 +139,7 @@ common-run n l e kept a later f no-variable these g rest =
     let some : Some (all .atoms) (fewer .atoms) = nonVariable-some n (some-append (all-there kept) (not-there (all-there later))) in
     let more : enough all ≡ enough fewer + 2 = omega (arith, ap length boards, one-atom-more n kept a later no-variable) in
     let same : turnedRounds n (fewer .atoms) (enough all) (all .board) ≡ turnedRounds n (all .atoms) (enough all) (all .board) =
-    same-rounds n (some-low (t .lists) (t .still .low .atoms)) (some-low (u .lists) (u .still .low .atoms)) some g (enough all) (all .board)
+    same-rounds n (some-every (t .lists) (settled-filled (t .still))) (some-low (t .lists) (t .still .low .atoms)) (some-low (u .lists) (u .still .low .atoms)) some g (enough all) (all .board)
     (start-low n (kept ++ (a ∷ later))) rest in
     sym (more-rounds-begin-no-more n 2 fewer) ∙ ap (λ (k : ℕ). begun n k fewer) (sym more) ∙ counted-by-turns u (enough all)
     ∙ ap (turnedRounds n (fewer .atoms) (enough all)) (sym boards) ∙ same ∙ sym (counted-by-turns t (enough all))

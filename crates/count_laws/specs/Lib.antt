@@ -3,5 +3,7 @@ pub mod Boards
 pub mod Common
 pub mod Onward
 pub mod Sharper
+pub mod Bound
 pub mod Removal
 pub mod AtMost
+pub mod KnownRounds

@@ -11,12 +11,15 @@ use Rattle.whole.specs.Differences.{one-*ℤ, *ℤ-assoc}
 use Rattle.rules.specs.Signs.{signOf, positive, SignSet, open-signs}
 use Rattle.rules.specs.Polynomial.{Polynomial, Atom, Board, exponent, monomialSignFrom, monomialSign, byTerms, variable}
 use Rattle.rules.specs.Deduce.{anyEmpty, deduce}
+use Rattle.rules.specs.TwoAtoms.{tries}
 use Rattle.rules.specs.Meaning.{monomialAt, valueBy, signAt, atomHolds}
+use Rattle.sign_laws.specs.Lists.{Every, every-wider}
 use Rattle.sign_laws.specs.Sets.{_In_, not-empty}
 use Rattle.sign_laws.specs.Whole.{_∈_, by-sign, by-equal}
 use Rattle.deduction_laws.specs.Monomials.{exponent-own, exponent-behind, exponent-before}
 use Rattle.deduction_laws.specs.Terms.{multiplied-sound, terms-sound}
 use Rattle.deduction_laws.specs.Deduction.{deduce-sound}
+use Rattle.deduction_laws.specs.TwoAtoms.{tries-sound}
 
 -- Each reading has a sign of its variable's set.
 pub data Fits : List ℤ → Board → Type 0 where
@@ -60,6 +63,13 @@ pub by-deduction : {xs : List ℤ} {board : Board} → Fits xs board → (p : Po
 unfolding signAt atomHolds
 by-deduction {xs} {board} fit p q h =
     deduce-sound (monomialAt xs) board (monomial-sound fit) (none-empty fit) p q (record { sign = record { is = h } }) .sign
+
+-- If the atoms hold, p's sign is in what each two of them find.
+pub by-pairs : {xs : List ℤ} {board : Board} → Fits xs board → (p : Polynomial) {l : List Atom} → Every (λ (q : Atom). atomHolds (signAt xs) q ≡ true) l
+    → Every (λ (f : SignSet). signAt xs p In f) (tries board p l)
+unfolding signAt atomHolds
+by-pairs {xs} {board} fit p h = every-wider (λ f k. k .sign)
+    (tries-sound (monomialAt xs) board (monomial-sound fit) p (every-wider (λ q k. record { sign = record { is = k } }) h))
 
 -- ---- The sign of a variable is the sign of its reading.
 

@@ -1,5 +1,6 @@
 pub mod Sizes
 pub mod Cuts
+pub mod Searches
 pub mod FirstRound
 pub mod Rounds
 pub mod AtOnce

@@ -15,12 +15,14 @@ use Rattle.rules.specs.Polynomial.{Term, Polynomial, Atom, Board, exponent, mon
 use Rattle.rules.specs.Formula.{Node}
 use Rattle.rules.specs.Meaning.{monomialAt, valueBy, signAt, atomHolds, holds, holdsAt, Choice, wholeNumbers, degree, totalDegree, monomialOver, signOver, holdsOver}
 use Rattle.rules.specs.Tenths.{power-above-zero}
+use Rattle.sign_laws.specs.Lists.{every-wider}
 use Rattle.sign_laws.specs.Sets.{_In_}
 use Rattle.sign_laws.specs.Whole.{_∈_, by-sign, by-same-sign, sign-pos, sign-times}
 use Rattle.deduction_laws.specs.Readings.{monomial-sound, none-empty, variable-sign}
 use Rattle.deduction_laws.specs.Readings.{Fits as ReadingsFit}
 use Rattle.deduction_laws.specs.Terms.{terms-sound}
 use Rattle.deduction_laws.specs.Deduction.{deduce-sound}
+use Rattle.deduction_laws.specs.TwoAtoms.{tries-sound}
 use Rattle.normal_laws.specs.Keeps.{normal-holds, constant-sign, monomial-one}
 use Rattle.level_laws.specs.Respects.{Fits, Respects}
 use Rattle.laws.specs.Readings.{place-by-place}
@@ -158,6 +160,8 @@ module _ {n : ℕ} (choice : Choice n) where
   unfolding atomHolds
   common-respected = record {
     by-deduction = λ board p q f h. deduce-sound common board (monomials-fit (fits board f)) (none-empty (fits board f)) p q (record { sign = record { is = h } }) .sign;
+    by-pairs = λ board p f h. every-wider (λ s k. k .sign)
+        (tries-sound common board (monomials-fit (fits board f)) p (every-wider (λ q k. record { sign = record { is = k } }) h));
     by-terms = λ board p f. terms-sound common board (monomials-fit (fits board f)) p .sign;
     by-normal = normal-holds common;
     by-constant = constants;

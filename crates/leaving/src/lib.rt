@@ -17,8 +17,7 @@ use round::State;
 use round::slots::sign_table;
 use rounds::narrow::afresh;
 use rounds::run;
-use settled::says;
-use signs::SignSet;
+use settled::says_inside;
 use steps::tidying::atoms_in;
 use tape::rows::Row;
 use tape::rows::append;
@@ -89,7 +88,7 @@ fn implies(
     let board = left.board;
     let mut sign = [0u8; 1280];
     sign_table(board, monomial, terms, &mut sign);
-    let said = says(
+    says_inside(
         coefficient,
         monomial,
         terms,
@@ -97,8 +96,8 @@ fn implies(
         variables,
         left,
         slot_of(token),
-    );
-    said.inside(set_of(token))
+        set_of(token),
+    )
 }
 
 // Whether the kept atoms and those of the list from an index on are enough.

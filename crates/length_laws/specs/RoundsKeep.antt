@@ -8,10 +8,11 @@ use Prim.Native.Nat.{ℕ}
 use lib.ListN.{getD, replicate}
 use Rattle.rules.specs.Signs.{SignSet, full, intersect}
 use Rattle.rules.specs.Polynomial.{Polynomial, Atom, Board, which, variable}
-use Rattle.rules.specs.Rounds.{State, Outcome, contradiction, settled, turn, turns, cutAtom, cutAtoms, round}
+use Rattle.rules.specs.Rounds.{State, Outcome, contradiction, settled, turn, turns, cutAtom, cutAtoms, round, search}
 use Rattle.rules.specs.Rounds.{unlessVariable, nonVariable, placed, start, run, carriedOne, carried}
 use Rattle.sign_laws.specs.Lists.{Every, every-none, every, every-wider, every-replicate, every-set, every-getD}
 use Rattle.ending_laws.specs.Cuts.{cutBy-below, cutAtom-below, along-turns}
+use Rattle.ending_laws.specs.Searches.{OneCut, this-one, later-one, board-cut, OneAtomCut, this-atom, later-atom, atoms-cut, search-finds}
 use Rattle.ending_laws.specs.Rounds.{along-run, along-placed, run-ends}
 use Rattle.length_laws.specs.Formed.{Small, Formed, full-small, intersect-small, formed-with}
 
@@ -37,6 +38,10 @@ placed-small : (o : Option ℕ) (s : SignSet) (board : Board) → Every Small bo
 unfolding placed
 placed-small none s board h = h
 placed-small (some i) s board h = every-set i (intersect (getD board i full) s) (intersect-small (getD board i full) s) h
+
+sets-small : {P : SignSet → Type 0} {l m : List SignSet} → OneCut P l m → Every Small l → Every Small m
+sets-small (this-one h c) (every k ks) = every (record { bits = c .low }) ks
+sets-small (later-one c) (every k ks) = every k (sets-small c ks)
 
 module _ {forms : List Polynomial} where
   -- ---- The atoms.
@@ -71,6 +76,15 @@ module _ {forms : List Polynomial} where
         atoms = cutAtoms-formed board [] (h .atoms);
       })
 
+  atoms-formed : {l m : List Atom} → OneAtomCut l m → Every (Formed forms) l → Every (Formed forms) m
+  atoms-formed (this-atom {cut = cut} c) (every k ks) = every (formed-with cut (record { bits = c .low }) k) ks
+  atoms-formed (later-atom c) (every k ks) = every k (atoms-formed c ks)
+
+  search-formed : (n : ℕ) (st sv : State) → search n st ≡ some sv → OutcomeFormed forms (settled st) → OutcomeFormed forms (settled sv)
+  search-formed n st sv e (settles h) = settles (search-finds (StateFormed forms) n st e
+      (λ new f. record { board = sets-small (board-cut (λ s. Unit {0}) n (st .atoms) (st .board) 0 n (st .board) (λ j b. tt) f) (h .board); atoms = h .atoms })
+      (λ new f. record { board = h .board; atoms = atoms-formed (atoms-cut (st .board) [] (st .atoms) f) (h .atoms) }))
+
   start-formed : (n : ℕ) {l : List Atom} → Every (Formed forms) l → StateFormed forms (start n l)
   unfolding start
   start-formed n {l} h =
@@ -78,7 +92,7 @@ module _ {forms : List Polynomial} where
 
   -- The rounds over formed atoms end in a formed state, or in a contradiction.
   pub run-formed : (n : ℕ) {l : List Atom} → Every (Formed forms) l → OutcomeFormed forms (run n l)
-  run-formed n {l} h = along-run (OutcomeFormed forms) (λ st k e. contradicts) (round-formed n) (run-ends n l) (settles (start-formed n h))
+  run-formed n {l} h = along-run (OutcomeFormed forms) (λ st k e. contradicts) (round-formed n) (search-formed n) (run-ends n l) (settles (start-formed n h))
 
   carriedOne-formed : (o : Option ℕ) {board : Board} {a : Atom} {cut : List Atom} (more : List Atom → List Atom)
       → Every Small board → Formed forms a → Every (Formed forms) cut → ((rest : List Atom) → Every (Formed forms) rest → Every (Formed forms) (more rest))

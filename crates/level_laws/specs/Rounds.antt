@@ -4,18 +4,22 @@ use mathlib.Core.Path.{_≡_, refl, sym, _∙_, subst}
 use mathlib.Core.Bool.{Bool, true, false}
 use mathlib.Core.List.{List, [], _∷_, _++_}
 use mathlib.Core.Option.{Option, none, some}
-use Prim.Native.Nat.{ℕ, suc}
+use Prim.Native.Nat.{ℕ, zero, suc, _+_}
+use native.Mathlib.Omega.{arith}
 use lib.ListN.{getD, set, replicate, length-set, length-replicate}
 use Rattle.rules.specs.Signs.{Sign, SignSet, full, intersect}
 use Rattle.rules.specs.Polynomial.{Polynomial, Atom, Board, same, variable, which}
 use Rattle.rules.specs.Deduce.{deduce, anyEmpty}
-use Rattle.rules.specs.Rounds.{cutBy, turn, turns, cutAtom, cutAtoms, State, round, setsOf, hasEmpty, Outcome, contradiction, settled}
-use Rattle.rules.specs.Rounds.{unlessVariable, nonVariable, placed, placedAll, start, run, orNext, listed, held, saysIn, says}
+use Rattle.rules.specs.TwoAtoms.{cutByAll}
+use Rattle.rules.specs.Rounds.{cutBy, turn, turns, cutAtom, cutAtoms, State, round, setsOf, hasEmpty, Outcome, contradiction, settled, search}
+use Rattle.rules.specs.Rounds.{unlessVariable, nonVariable, placed, placedAll, start, run, orNext, listed, held, unlessSame, otherThan, saysIn, says}
 use Rattle.rules.specs.Meaning.{atomHolds}
 use Rattle.sign_laws.specs.Booleans.{and-intro, never-true, never-both}
-use Rattle.sign_laws.specs.Lists.{every-replicate, every-getD}
+use Rattle.sign_laws.specs.Lists.{Every, every-none, every, every-replicate, every-getD}
 use Rattle.sign_laws.specs.Sets.{_In_, in-full, not-empty, in-intersect}
 use Rattle.ending_laws.specs.Cuts.{along-turns}
+use Rattle.ending_laws.specs.Searches.{first-has, one-length, board-cut, BoardFound, found-here, found-later, board-found, AtomsFound, found-this, found-after, atoms-found}
+use Rattle.ending_laws.specs.Searches.{search-finds}
 use Rattle.ending_laws.specs.Rounds.{along-run, run-ends}
 use Rattle.level_laws.specs.Same.{same-equal, which-variable}
 use Rattle.level_laws.specs.Holding.{every-append, atomsHold, atom-in, in-atom, no-atoms, first-holds, others-hold, both-hold, one-atom}
@@ -96,6 +100,52 @@ module _ {sign : Polynomial → Sign} {n : ℕ} (ok : Respects sign n) where
       let f : Fits sign n (turns n (st .atoms) (st .board) 0 n) = turns-keep (st .atoms) (st .board) 0 n (r .fits) (r .hold) in
       record { fits = f; hold = cutAtoms-keep (turns n (st .atoms) (st .board) 0 n) [] (st .atoms) f (no-atoms sign) (r .hold) }
 
+  -- ---- A search over pairs.
+
+  each-holds : (l : List Atom) → atomsHold sign l ≡ true → Every (λ (a : Atom). atomHolds sign a ≡ true) l
+  each-holds [] e = every-none
+  each-holds (a ∷ l) e = every (first-holds sign a l e) (each-holds l (others-hold sign a l e))
+
+  sets-keep : (atoms : List Atom) (board : Board) → Fits sign n board → atomsHold sign atoms ≡ true → {i : ℕ} {l m : List SignSet}
+      → BoardFound n atoms board i l m → ((j : ℕ) → sign (variable n (i + j)) In getD l j full) → (j : ℕ) → sign (variable n (i + j)) In getD m j full
+  sets-keep atoms board f e {i} (found-here {s = s} c) h zero =
+      let here : i + 0 ≡ i = omega arith in
+      rw here (first-has s (rw here at (h 0)) (ok .by-pairs board (variable n i) f (each-holds atoms e)) c)
+  sets-keep atoms board f e (found-here c) h (suc j) = h (suc j)
+  sets-keep atoms board f e (found-later b) h zero = h zero
+  sets-keep atoms board f e {i} (found-later b) h (suc j) =
+      let next : (k : ℕ) → i + suc k ≡ suc i + k = λ k. omega arith in
+      rw (next j) (sets-keep atoms board f e b (λ k. rw (next k) at (h (suc k))) j)
+
+  atoms-keep : (board : Board) → Fits sign n board → {before l m : List Atom} → AtomsFound board before l m → atomsHold sign before ≡ true
+      → atomsHold sign l ≡ true → atomsHold sign m ≡ true
+  atoms-keep board f (found-this {before} {a} {later} {cut} c) e g =
+      let hold : atomsHold sign later ≡ true = others-hold sign a later g in
+      let others : atomsHold sign (before ++ later) ≡ true = every-append (atomHolds sign) before later ∙ and-intro e hold in
+      let right : sign (a .polynomial) In cut =
+      first-has (a .set) (atom-in sign a (first-holds sign a later g)) (ok .by-pairs board (a .polynomial) f (each-holds (before ++ later) others)) c in
+      both-hold sign (record { polynomial = a .polynomial; set = cut }) later (in-atom sign (record { polynomial = a .polynomial; set = cut }) right) hold
+  atoms-keep board f (found-after {before} {a} {later} {m} c) e g =
+      let holds : atomHolds sign a ≡ true = first-holds sign a later g in
+      let next : atomsHold sign (before ++ (a ∷ [])) ≡ true = every-append (atomHolds sign) before (a ∷ []) ∙ and-intro e (one-atom sign a ∙ holds) in
+      both-hold sign a m holds (atoms-keep board f c next (others-hold sign a later g))
+
+  from-first : (j : ℕ) → 0 + j ≡ j
+  from-first j = omega arith
+
+  -- A right state stays right under a search.
+  pub search-keeps : (st sv : State) → search n st ≡ some sv → Right sign n st → Right sign n sv
+  search-keeps st sv e r = search-finds (Right sign n) n st e
+      (λ sets f. record {
+        fits = record {
+          long = one-length (board-cut (λ s. Unit {0}) n (st .atoms) (st .board) 0 n (st .board) (λ j b. tt) f) ∙ r .fits .long;
+          each = λ j. rw (from-first j) at
+              (sets-keep (st .atoms) (st .board) (r .fits) (r .hold) (board-found n (st .atoms) (st .board) 0 n (st .board) f) (λ k. rw (from-first k) (r .fits .each k)) j);
+        };
+        hold = r .hold;
+      })
+      (λ l f. record { fits = r .fits; hold = atoms-keep (st .board) (r .fits) (atoms-found (st .board) [] (st .atoms) f) (no-atoms sign) (r .hold) })
+
   -- ---- A run.
 
   placed-fits : (l : List Atom) (board : Board) → atomsHold sign l ≡ true → Fits sign n board → Fits sign n (placedAll n l board)
@@ -120,7 +170,7 @@ module _ {sign : Polynomial → Sign} {n : ℕ} (ok : Respects sign n) where
   -- A run over atoms that all hold ends in a right state.
   pub run-keeps : (l : List Atom) → atomsHold sign l ≡ true → RightOutcome sign n (run n l)
   unfolding start
-  run-keeps l e = along-run (RightOutcome sign n) (λ st r e. never-both e (right-full (round n st) (round-keeps st r))) round-keeps (run-ends n l)
+  run-keeps l e = along-run (RightOutcome sign n) (λ st r e. never-both e (right-full st r)) round-keeps search-keeps (run-ends n l)
       (record { fits = placed-fits l (replicate n full) e (fits-full sign n); hold = non-variable-hold l e })
 
   -- So a contradiction comes only from a list that does not hold.
@@ -146,11 +196,26 @@ module _ {sign : Polynomial → Sign} {n : ℕ} (ok : Respects sign n) where
       by-which none w = listed-right p (st .atoms) (r .hold)
       by-which (some i) w = subst (λ (q : Polynomial). sign q In getD (st .board) i full) (sym (which-variable n p i w)) (r .fits .each i)
 
+  others-held : (p : Polynomial) {l : List Atom} → Every (λ (a : Atom). atomHolds sign a ≡ true) l → Every (λ (a : Atom). atomHolds sign a ≡ true) (otherThan p l)
+  unfolding otherThan unlessSame
+  others-held p every-none = every-none
+  others-held p (every {a} {l} h hs) = by-test (same p (a .polynomial)) (others-held p hs)
+    where
+      by-test : (b : Bool) → Every (λ (a : Atom). atomHolds sign a ≡ true) (otherThan p l) → Every (λ (a : Atom). atomHolds sign a ≡ true) (unlessSame b a (otherThan p l))
+      by-test true k = k
+      by-test false k = every h k
+
+  all-keep : {x : Sign} {s : SignSet} {fs : List SignSet} → x In s → Every (λ (f : SignSet). x In f) fs → x In cutByAll s fs
+  unfolding cutByAll
+  all-keep h every-none = h
+  all-keep h (every k ks) = all-keep (in-intersect h k) ks
+
   -- What a right state says of a polynomial has its sign.
   pub saysIn-right : (st : State) (p : Polynomial) → Right sign n st → sign p In saysIn n st p
   unfolding saysIn
-  saysIn-right st p r =
-      cutBy-keeps (st .board) p (st .atoms) _ (r .fits) (r .hold) (in-intersect (held-right st p r) (ok .by-terms (st .board) p (r .fits)))
+  saysIn-right st p r = all-keep
+      (cutBy-keeps (st .board) p (st .atoms) _ (r .fits) (r .hold) (in-intersect (held-right st p r) (ok .by-terms (st .board) p (r .fits))))
+      (ok .by-pairs (st .board) p (r .fits) (others-held p (each-holds (st .atoms) (r .hold))))
 
   outcome-right : (outcome : Outcome) (p : Polynomial) → RightOutcome sign n outcome → sign p In says n outcome p
   unfolding says

@@ -7,49 +7,55 @@ use mathlib.Core.Option.{Option, none, some}
 use Prim.Native.Nat.{ℕ, _<_}
 use lib.Dec.{eqb, lit<}
 use borrow.Author.Tests.{eqb-true, eq-eqb}
-use Rattle.rules.specs.Signs.{SignSet, empty, full, allSigns, sum, intersect}
-use Rattle.rules.specs.Polynomial.{Polynomial, Atom, Board, byTermsFrom, byTerms, same, which}
+use Rattle.rules.specs.Signs.{SignSet, empty, full, intersect}
+use Rattle.rules.specs.Polynomial.{Polynomial, Atom, Board, byTerms, same, which}
 use Rattle.rules.specs.Deduce.{anyEmpty}
+use Rattle.rules.specs.TwoAtoms.{tries, cutByAll}
 use Rattle.rules.specs.Rounds.{cutBy, State, round, setsOf, hasEmpty, Outcome, contradiction, settled, unlessVariable, nonVariable, start, run}
-use Rattle.rules.specs.Rounds.{orNext, listed, held, saysIn, says, carried}
+use Rattle.rules.specs.Rounds.{orNext, listed, held, unlessSame, otherThan, saysIn, says, carried}
 use Rattle.sign_laws.specs.Booleans.{or-second, or-keeps, never-both}
 use Rattle.sign_laws.specs.Lists.{Every, every-none, every}
-use Rattle.sign_laws.specs.Sets.{setOf-small, in-full, in-intersect, PartOf}
+use Rattle.sign_laws.specs.Sets.{in-full, in-intersect, intersect-below, PartOf}
 use Rattle.ending_laws.specs.Cuts.{cutBy-below}
 use Rattle.ending_laws.specs.Rounds.{Run, along-run, run-ends}
 use Rattle.level_laws.specs.Narrower.{AtomsWithin, no-atoms as none-within, one-more, Narrows, run-narrows}
 use Rattle.removal_laws.specs.Wider.{Wider, no-sets, sets}
-use Rattle.removal_laws.specs.Terms.{byTerms-wider}
+use Rattle.removal_laws.specs.Terms.{byTerms-wider, byTerms-small}
 use Rattle.removal_laws.specs.Fewer.{part-empty, Fewer, no-atoms, left-out, kept}
 use Rattle.removal_laws.specs.Rounds.{LowBoard, LowAtoms, Low, WiderState, cutBy-wider, round-wider}
+use Rattle.removal_laws.specs.TwoAtoms.{Filled, tries-wider, cut-wider}
 use Rattle.removal_laws.specs.Settled.{Settled}
+use Rattle.removal_laws.specs.Searched.{settled-filled, search-wider}
 use Rattle.removal_laws.specs.Starts.{Carries, start-wider}
 use Rattle.removal_laws.specs.Apart.{Other}
 
 -- ---- The atoms of other polynomials.
 
-unfoldable pub unlessSame : Bool → Atom → List Atom → List Atom
-unlessSame true a rest = rest
-unlessSame false a rest = a ∷ rest
-
--- The atoms of a list whose polynomial is not p.
-unfoldable pub otherThan : Polynomial → List Atom → List Atom
-otherThan p [] = []
-otherThan p (a ∷ l) = unlessSame (same p (a .polynomial)) a (otherThan p l)
-
--- What the state says of p by p's sign by terms and by the atoms of other polynomials.
+-- What the state says of p by p's sign by terms and by the atoms of other polynomials, one at a time and two at once.
 unfoldable pub saidByOthers : State → Polynomial → SignSet
-saidByOthers st p = cutBy (st .board) p (otherThan p (st .atoms)) (byTerms (st .board) p)
+saidByOthers st p =
+    let others = otherThan p (st .atoms) in
+    cutByAll (cutBy (st .board) p others (byTerms (st .board) p)) (tries (st .board) p others)
 
 -- It is one of the eight sets.
-terms-below : (board : Board) (p : Polynomial) (s : SignSet) → s < 8 → byTermsFrom s board p < 8
-unfolding byTermsFrom sum allSigns
-terms-below board [] s h = h
-terms-below board (t ∷ ts) s h = terms-below board ts _ (setOf-small _)
+pub all-below : (s : SignSet) (fs : List SignSet) → s < 8 → cutByAll s fs < 8
+unfolding cutByAll
+all-below s [] h = h
+all-below s (f ∷ fs) h = all-below (intersect s f) fs (intersect-below s f)
 
 pub said-below : (st : State) (p : Polynomial) → saidByOthers st p < 8
-unfolding saidByOthers byTerms
-said-below st p = cutBy-below (st .board) p (otherThan p (st .atoms)) (byTerms (st .board) p) (terms-below (st .board) p 2 (lit< tt))
+unfolding saidByOthers
+said-below st p =
+    all-below _ (tries (st .board) p (otherThan p (st .atoms))) (cutBy-below (st .board) p (otherThan p (st .atoms)) (byTerms (st .board) p) (byTerms-small (st .board) p))
+
+pub other-filled : (p : Polynomial) {l : List Atom} → Every Filled l → Every Filled (otherThan p l)
+unfolding otherThan unlessSame
+other-filled p every-none = every-none
+other-filled p (every {a} {l} h hs) = by-test (same p (a .polynomial)) (other-filled p hs)
+  where
+    by-test : (b : Bool) → Every Filled (otherThan p l) → Every Filled (unlessSame b a (otherThan p l))
+    by-test true k = k
+    by-test false k = every h k
 
 other-low : (p : Polynomial) {l : List Atom} → LowAtoms l → LowAtoms (otherThan p l)
 unfolding otherThan unlessSame
@@ -83,6 +89,12 @@ nonVariable-other n p (every {a} {l} h hs) = by-which (which n (a .polynomial)) 
 within-other : (p : Polynomial) {k l : List Atom} → AtomsWithin k l → Every (Other p) l → Every (Other p) k
 within-other p none-within every-none = every-none
 within-other p (one-more q f t) (every h hs) = every (record { differs = ap (same p) q ∙ h .differs }) (within-other p t hs)
+
+-- A list without p is all others.
+pub none-same : (p : Polynomial) {l : List Atom} → Every (Other p) l → otherThan p l ≡ l
+unfolding otherThan unlessSame
+none-same p every-none = refl
+none-same p (every {a} h hs) = rw (h .differs) (ap (λ (m : List Atom). a ∷ m) (none-same p hs))
 
 not-listed : (p : Polynomial) {l : List Atom} → Every (Other p) l → listed p l ≡ full
 unfolding listed orNext
@@ -119,7 +131,7 @@ Widens st (settled su) = WiderState st su
 
 -- A run that starts wider than a settled state stays wider.
 pub widens-run : {n : ℕ} {st : State} → Settled n st → {wide : State} {k : ℕ} {o : Outcome} → Run n wide k o → WiderState st wide → Widens st o
-widens-run {n} {st} s = along-run (Widens st) (λ wide w e. never-both (state-empty (stays-wider wide w) (s .low) e) (s .filled)) stays-wider
+widens-run {n} {st} s = along-run (Widens st) (λ wide w e. never-both (state-empty w (s .low) e) (s .filled)) stays-wider (λ wide sv e w. search-wider s w e)
   where
     stays-wider : (wide : State) → WiderState st wide → WiderState st (round n wide)
     stays-wider wide w = subst (λ (su : State). WiderState su (round n wide)) (s .still) (round-wider n (s .low) w)
@@ -141,5 +153,7 @@ module _ {n : ℕ} {l : List Atom} {st : State} (s : Settled n st) (c : Carries 
           let others-only : Every (Other p) (wide .atoms) = within-other p (narrower .lists) (nonVariable-other n p hs) in
           let by-terms : PartOf (byTerms (st .board) p) (intersect full (byTerms (wide .board) p)) =
           record { each = λ x h. in-intersect (in-full x) (byTerms-wider (w .boards) p .each x h) } in
-          rw (e, not-listed p others-only)
-          (cutBy-wider (w .boards) (s .low .board) p (other-fewer p (w .lists) others-only) (other-low p (s .low .atoms)) by-terms)
+          let fewer = other-fewer p (w .lists) others-only in
+          rw (e, not-listed p others-only, none-same p others-only)
+          (cut-wider (tries-wider (w .boards) p fewer (other-filled p (settled-filled s)))
+          (cutBy-wider (w .boards) (s .low .board) p fewer (other-low p (s .low .atoms)) by-terms))

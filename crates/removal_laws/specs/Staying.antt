@@ -5,9 +5,10 @@ use mathlib.Core.Bool.{Bool, true, false, not, _&&_, false≢true}
 use mathlib.Core.List.{List, [], _∷_, _++_, append-assoc, map-append}
 use mathlib.Core.Option.{Option, none, some}
 use Prim.Native.Nat.{ℕ}
-use Rattle.rules.specs.Signs.{inside}
-use Rattle.rules.specs.Polynomial.{Polynomial, Atom, byTerms, same, which}
-use Rattle.rules.specs.Rounds.{cutBy, State, settled, run, carried}
+use Rattle.rules.specs.Signs.{SignSet, inside}
+use Rattle.rules.specs.Polynomial.{Polynomial, Atom, Board, byTerms, same, which}
+use Rattle.rules.specs.TwoAtoms.{tries, cutByAll}
+use Rattle.rules.specs.Rounds.{cutBy, State, settled, run, unlessSame, otherThan, carried}
 use Rattle.rules.specs.Level.{Placed, plain, plains, keptUnless, implied, removeImplied, tidied, tidy, carry}
 use Rattle.sign_laws.specs.Booleans.{and-first, and-second, never-true, never-both, not-true}
 use Rattle.sign_laws.specs.Lists.{Every, every-none, every}
@@ -17,7 +18,7 @@ use Rattle.removal_laws.specs.Fewer.{inside-wider, Fewer, left-out, all-
 use Rattle.removal_laws.specs.Settled.{run-settles}
 use Rattle.removal_laws.specs.Starts.{run-carries}
 use Rattle.removal_laws.specs.Apart.{Other, Apart, others-differ, others-apart, carries-apart, tidy-apart}
-use Rattle.removal_laws.specs.Said.{unlessSame, otherThan, saidByOthers, said-below, says-wider}
+use Rattle.removal_laws.specs.Said.{saidByOthers, said-below, none-same, says-wider}
 
 -- ---- The test, and step 5 with the test first.
 
@@ -114,31 +115,28 @@ removes-the-same-tidied n given l {st} e settles = removes-the-same n (plains l)
 
 -- ---- Where an atom stands among the settled atoms, the others are those before it and those after it.
 
-none-same : (p : Polynomial) {l : List Atom} → Every (Other p) l → otherThan p l ≡ l
-unfolding otherThan unlessSame
-none-same p every-none = refl
-none-same p (every {a} h hs) = rw (h .differs) (ap (λ (m : List Atom). a ∷ m) (none-same p hs))
-
 one-same : (before : List Atom) (a : Atom) (later : List Atom) → Every (Other (a .polynomial)) (before ++ later)
     → otherThan (a .polynomial) (before ++ (a ∷ later)) ≡ before ++ later
 unfolding otherThan unlessSame
 one-same [] a later hs = rw (same-itself (a .polynomial)) (none-same (a .polynomial) hs)
 one-same (b ∷ before) a later (every h hs) = rw (h .differs) (ap (λ (m : List Atom). b ∷ m) (one-same before a later hs))
 
+-- What these atoms say of p, one at a time and two at once.
+unfoldable pub saidBy : Board → Polynomial → List Atom → SignSet
+saidBy board p others = cutByAll (cutBy board p others (byTerms board p)) (tries board p others)
+
 -- So what is said of it by the others is what it would be cut to, but for its own set.
 pub said-at : (st : State) (before : List Atom) (a : Atom) (later : List Atom) → st .atoms ≡ before ++ (a ∷ later) → Apart (st .atoms)
-    → saidByOthers st (a .polynomial) ≡ cutBy (st .board) (a .polynomial) (before ++ later) (byTerms (st .board) (a .polynomial))
-unfolding saidByOthers
+    → saidByOthers st (a .polynomial) ≡ saidBy (st .board) (a .polynomial) (before ++ later)
+unfolding saidByOthers saidBy
 said-at st before a later e h =
     let p = a .polynomial in
-    ap (λ (m : List Atom). cutBy (st .board) p m (byTerms (st .board) p))
-    (ap (otherThan p) e ∙ one-same before a later (others-differ before a later (subst Apart e h)))
+    ap (saidBy (st .board) p) (ap (otherThan p) e ∙ one-same before a later (others-differ before a later (subst Apart e h)))
 
 -- Where no settled atom is of the polynomial, all of them are the others.
-pub said-nowhere : (st : State) (p : Polynomial) → Every (Other p) (st .atoms)
-    → saidByOthers st p ≡ cutBy (st .board) p (st .atoms) (byTerms (st .board) p)
-unfolding saidByOthers
-said-nowhere st p hs = ap (λ (m : List Atom). cutBy (st .board) p m (byTerms (st .board) p)) (none-same p hs)
+pub said-nowhere : (st : State) (p : Polynomial) → Every (Other p) (st .atoms) → saidByOthers st p ≡ saidBy (st .board) p (st .atoms)
+unfolding saidByOthers saidBy
+said-nowhere st p hs = ap (saidBy (st .board) p) (none-same p hs)
 
 -- The settled atoms have no polynomial twice if the list has none.
 pub settled-apart : (n : ℕ) (l : List Atom) {st : State} → run n l ≡ settled st → Apart l → Apart (st .atoms)

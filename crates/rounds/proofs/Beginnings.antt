@@ -11,10 +11,11 @@ use Rattle.rules.specs.Signs.{SignSet, empty}
 use Rattle.rules.specs.Polynomial.{Atom, Board as Sets}
 use Rattle.rules.specs.Rounds.{start, rounds, enough, run, settled}
 use Rattle.rules.specs.Rounds.{State as Standing}
+use Rattle.removal_laws.specs.Rounds.{LowBoard}
 use Rattle.removal_laws.specs.Settled.{start-low}
 use Rattle.ending_laws.specs.Rounds.{start-length}
-use Rattle.turn_laws.specs.AfterTurns.{AfterTurns, end, same-end, Idle, Floor, floor-empty}
-use Rattle.turn_laws.specs.Afresh.{afresh-start, floor-settled, run-by-turns}
+use Rattle.turn_laws.specs.AfterTurns.{AfterTurns, after-low, end, same-end, Idle, Floor, floor-empty}
+use Rattle.turn_laws.specs.Afresh.{Afresh, afresh-start, PairsIdle, floor-settled, run-by-turns}
 use Rattle.terms.specs.declared.Board.{Board}
 use Rattle.terms.specs.View.{few, numbersFrom, setsOf}
 use Rattle.table.specs.declared.Atoms.{Atoms}
@@ -26,9 +27,12 @@ use Rattle.ahead.specs.declared.Passed.{Passed}
 use Rattle.ahead.specs.Ahead.{Ahead}
 use Rattle.rounds.specs.declared.Counted.{Counted}
 use Rattle.rounds.specs.declared.narrow.Beginning.{Beginning}
-use Rattle.rounds.specs.Run.{polynomialsOf, NarrowedStart, RunOf}
+use Rattle.rounds.specs.Run.{polynomialsOf, NarrowedStart, SettledStart, RunOf}
 use Rattle.rounds.specs.Ended.{Ended}
-use Rattle.rounds.specs.Afresh.{AfreshFrom}
+use Rattle.rounds.specs.Afresh.{AfreshFrom, AboveFloor, above-settled}
+use Rattle.rounds.specs.Turned.{Settling}
+use Rattle.rounds.specs.Bounded.{BoundedBy, bounded-settled}
+use Rattle.rounds.proofs.Standing.{above-over, bounded-over}
 use Rattle.rounds.proofs.Polynomials.{same-polynomials}
 
 -- ---- how it is begun
@@ -55,6 +59,47 @@ narrowed-start cs ms ts {n} same {first} list is-start {r} {ss} passed =
       idle = λ e i h. subst (λ (st : Standing). Idle n (st .atoms) (setsOf (r .board)) i) is-start (a .idle e i h);
     }
 
+-- its sets are below 8
+pub narrowed-low : {t : Table} {list : Atoms} {r : Beginning} → NarrowedStart t list r → LowBoard (setsOf (r .state .board))
+narrowed-low {t} {list} begin = after-low (start-low (t .variables) (atomsOf t list)) (begin .after)
+
+pub started-low : (t : Table) (list : Atoms) (first : State) → stateOf t first ≡ start (t .variables) (atomsOf t list) → LowBoard (setsOf (first .board))
+started-low t list first is-start = subst (λ (st : Standing). LowBoard (st .board)) (sym is-start) (start-low (t .variables) (atomsOf t list))
+
+-- the start of fresh rounds is above the settled board
+pub begins-above : (cs : List ℤ) (ms ts : List ℕ) {n m : ℕ} → m ≡ n → (state first : State) (others : Atoms)
+    → AfreshFrom (tableOf cs ms ts n) state (atomsOf (tableOf cs ms ts n) others)
+    → stateOf (tableOf cs ms ts n) first ≡ start n (atomsOf (tableOf cs ms ts n) others) → AboveFloor (tableOf cs ms ts m) first (state .board)
+begins-above cs ms ts {n} same state first others from is-start =
+    let t = tableOf cs ms ts n in
+    let begins = afresh-start n (from .given) (from .settles) (from .some) in
+    above-over cs ms ts (sym same) (above-settled {t = t} state (subst (Afresh n (stateOf t state)) (sym is-start) begins) (from .variables))
+
+pub begins-bounded : (cs : List ℤ) (ms ts : List ℕ) {n m : ℕ} → m ≡ n → (state first : State) (others : Atoms)
+    → AfreshFrom (tableOf cs ms ts n) state (atomsOf (tableOf cs ms ts n) others)
+    → stateOf (tableOf cs ms ts n) first ≡ start n (atomsOf (tableOf cs ms ts n) others) → BoundedBy (tableOf cs ms ts m) first (state .board)
+begins-bounded cs ms ts {n} same state first others from is-start =
+    let t = tableOf cs ms ts n in
+    let begins = afresh-start n (from .given) (from .settles) (from .some) in
+    bounded-over cs ms ts (sym same) (bounded-settled {t = t} state (subst (Afresh n (stateOf t state)) (sym is-start) begins) (from .variables) (started-low t others first is-start))
+
+-- narrowed by turns and by pairs
+pub settled-start : (cs : List ℤ) (ms ts : List ℕ) {n m : ℕ} → m ≡ n → {first : State} (list : Atoms)
+    → stateOf (tableOf cs ms ts n) first ≡ start n (atomsOf (tableOf cs ms ts n) list) → {r : Passed}
+    → Settling (tableOf cs ms ts m) (first .atoms) (first .board) r
+    → SettledStart (tableOf cs ms ts n) list (record { still = r .still; state = record { board = r .board; atoms = first .atoms }; order = r .order })
+settled-start cs ms ts {n} same {first} list is-start {r} passed =
+    let a = subst (λ (k : ℕ). Settling (tableOf cs ms ts k) (first .atoms) (first .board) r) same passed in
+    record {
+      narrowed = record {
+        variables = a .variables;
+        atoms = ap (λ (st : Standing). st .atoms) is-start;
+        after = subst (λ (st : Standing). AfterTurns n (st .atoms) (st .board) (setsOf (r .board))) is-start (a .after);
+        idle = λ e i h. subst (λ (st : Standing). Idle n (st .atoms) (setsOf (r .board)) i) is-start (a .idle e i h);
+      };
+      pairs-idle = λ e i h. subst (λ (st : Standing). PairsIdle n (record { board = setsOf (r .board); atoms = st .atoms }) i) is-start (a .pairs-idle e i h);
+    }
+
 -- a board of empty sets is a floor
 pub nothing-below : (n : ℕ) → n ≤ 16 → (atoms : List Atom) (first : Sets) → Floor n atoms first (numbersFrom (replicate 16 0) 0 (few n))
 nothing-below n h atoms first = floor-empty (λ i low.
@@ -76,11 +121,12 @@ narrowed-end {t} {list} {r} begin =
     ap (λ (atoms : List Atom). end n (record { board = setsOf (r .state .board); atoms = atoms })) (begin .atoms)
     ∙ same-end (start-low n l) (start-length n l) (begin .after)
 
-pub still-end : {t : Table} {state : State} {others : Atoms} {r : Beginning} → AfreshFrom t state (atomsOf t others) → NarrowedStart t others r
+pub still-end : {t : Table} {state : State} {others : Atoms} {r : Beginning} → AfreshFrom t state (atomsOf t others) → SettledStart t others r
     → r .still ≡ true → settled (stateOf t (r .state)) ≡ run (t .variables) (atomsOf t others)
-still-end {t} {state} {others} {r} from begin e =
+still-end {t} {state} {others} {r} from start-of e =
+    let begin = start-of .narrowed in
     ap (λ (atoms : List Atom). settled (record { board = setsOf (r .state .board); atoms = atoms })) (begin .atoms)
-    ∙ sym (run-by-turns (t .variables) (from .given) (from .settles) (atomsOf t others) (from .some) (begin .after) (begin .idle e))
+    ∙ sym (run-by-turns (t .variables) (from .given) (from .settles) (atomsOf t others) (from .some) (begin .after) (begin .idle e) (start-of .pairs-idle e))
 
 -- so rounds from it are the run
 pub run-narrowed : {t : Table} {list : Atoms} {b : Beginning} {r : Counted} → NarrowedStart t list b → Ended t (b .state) r
@@ -99,11 +145,11 @@ run-narrowed {t} {list} {b} {r} begin ended =
     }
 
 -- and fresh rounds need none
-pub run-still : {t : Table} {state : State} {others : Atoms} {b : Beginning} → AfreshFrom t state (atomsOf t others) → NarrowedStart t others b
+pub run-still : {t : Table} {state : State} {others : Atoms} {b : Beginning} → AfreshFrom t state (atomsOf t others) → SettledStart t others b
     → b .still ≡ true → RunOf t others (record { contradiction = false; state = b .state })
 unfolding start
 run-still from begin e = record {
   outcome = still-end from begin e;
-  variables = begin .variables;
-  atoms = record { polynomials = ap polynomialsOf (begin .atoms) };
+  variables = begin .narrowed .variables;
+  atoms = record { polynomials = ap polynomialsOf (begin .narrowed .atoms) };
 }

@@ -12,6 +12,10 @@ use Rattle.rounds.specs.declared.Largest.{Largest}
 use Rattle.rounds.specs.Run.{RunOf, CountedRun, LargestRun}
 use Rattle.rounds.proofs.Ends.{length-atoms}
 
+-- a run of which no round was begun before
+pub from-none : (largest : ℕ) {r x y : ℕ} → r ≡ max largest (0 + x) → x ≡ y → r ≡ max largest y
+from-none largest h e = omega (arith, h, e)
+
 module _ (t : Table) (list : Atoms) {largest : ℕ} where
   pub none-larger : 2 * (t .variables + many (list .count)) + 1 ≤ largest → largest ≡ max largest (runCount (t .variables) (atomsOf t list))
   none-larger h =
@@ -31,3 +35,9 @@ module _ {t : Table} (list : Atoms) {largest : ℕ} where
       → LargestRun t list largest (record { contradiction = r .contradiction; largest = k; state = r .state })
   unfolding runCount
   largest-counted ran e = record { outcome = ran .outcome; counts = e ∙ ap (max largest) (ran .begun); variables = ran .variables; atoms = ran .atoms }
+
+-- with none before it
+pub counted-alone : {t : Table} {list : Atoms} {r : Largest} → LargestRun t list 0 r
+    → CountedRun t list (record { contradiction = r .contradiction; begun = r .largest; state = r .state })
+unfolding runCount
+counted-alone ran = record { outcome = ran .outcome; begun = omega (arith, ran .counts); variables = ran .variables; atoms = ran .atoms }

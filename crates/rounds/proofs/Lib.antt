@@ -1,6 +1,8 @@
 pub mod Ends
 pub mod Starts
 pub mod Polynomials
+pub mod Found
+pub mod Settling
 pub mod Beginnings
 pub mod Spares
 pub mod Standing

@@ -13,7 +13,6 @@ use Rattle.rules.specs.Signs.{SignSet, negative, nought, positive, only, has, b
 use Rattle.rules.specs.Count.{runCount}
 use Rattle.ending_laws.specs.Sizes.{size, spare, spare-at-most}
 use Rattle.ending_laws.specs.Cuts.{spareAll}
-use Rattle.count_laws.specs.Fresh.{fresh-at-most, fresh-above}
 use Rattle.terms.specs.View.{numbersFrom, numbers-cons, numbers-nil, setsOf}
 use Rattle.table.specs.declared.Atoms.{Atoms}
 use Rattle.table.specs.Table.{Table, atomsOf}
@@ -50,21 +49,7 @@ pub spares-none : (xs : List SignSet) (i n : ℕ) → n ≤ i → spareAll (numb
 unfolding spareAll
 spares-none xs i n h = rw (numbers-nil xs i n h)
 
--- ---- a fresh run that need not be run
-
-module _ {t : Table} {state : State} (others : Atoms) (from : AfreshFrom t state (atomsOf t others)) (first : State)
-    (is-start : stateOf t first ≡ start (t .variables) (atomsOf t others)) where
-  pub above-settled : spareAll (setsOf (state .board)) ≤ spareAll (setsOf (first .board))
-  above-settled = rw (← is-start) at (fresh-above (t .variables) (from .given) (from .settles) (atomsOf t others) (from .some))
-
-  pub left-out : {above below largest : ℕ} → above ≡ spareAll (setsOf (first .board)) → below ≡ spareAll (setsOf (state .board)) → above - below < largest
-      → largest ≡ max largest (runCount (t .variables) (atomsOf t others))
-  left-out {largest} e f h =
-      let most : runCount (t .variables) (atomsOf t others) + spareAll (setsOf (state .board)) ≤ spareAll (setsOf (first .board)) + 1 =
-      rw (← is-start) at (fresh-at-most (t .variables) (from .given) (from .settles) (atomsOf t others) (from .some)) in
-      omega (arith, most, above-settled, e, f, h)
-
--- ---- a fresh run that is run: its rounds on the board alone
+-- ---- a fresh run: its rounds on the board alone
 
 pub turned-is : (cs : List ℤ) (ms ts : List ℕ) {n m : ℕ} → m ≡ n → (others : Atoms) {state : State}
     → AfreshFrom (tableOf cs ms ts n) state (atomsOf (tableOf cs ms ts n) others) → (first : State)

@@ -13,6 +13,7 @@ use Rattle.rules.specs.Polynomial.{Polynomial, Atom}
 use Rattle.rules.specs.Rounds.{start, rounds, begun, enough, run, settled, sameSets, setsOf}
 use Rattle.rules.specs.Rounds.{State as Standing}
 use Rattle.sign_laws.specs.Booleans.{and-first, and-second}
+use Rattle.turn_laws.specs.Afresh.{Afresh}
 use Rattle.count_laws.specs.Fresh.{settled-start}
 use Rattle.count_laws.specs.Boards.{turnedRounds, counted-by-turns}
 use Rattle.terms.specs.View.{numbersFrom}
@@ -24,8 +25,11 @@ use Rattle.round.specs.Views.{tableOf, stateOf}
 use Rattle.rounds.specs.declared.Ran.{Ran}
 use Rattle.rounds.specs.declared.Counted.{Counted}
 use Rattle.rounds.specs.Ended.{Ended}
-use Rattle.rounds.specs.Run.{polynomialsOf, NonVariable, RunOf, CountedRun}
+use Rattle.rounds.specs.Bounded.{BoundedBy, bounded-settled}
+use Rattle.rounds.specs.Run.{polynomialsOf, NonVariable, RunOf, CountedRun, Uncut}
 use Rattle.rounds.proofs.Ends.{sets-are, length-atoms, ended-over}
+use Rattle.rounds.proofs.Standing.{bounded-over}
+use Rattle.rounds.proofs.Beginnings.{started-low}
 use Rattle.rounds.proofs.Polynomials.{same-polynomials}
 
 -- atoms of the same polynomials with the same sets are the same
@@ -75,23 +79,34 @@ module _ (cs : List ℤ) (ms ts : List ℕ) {n m : ℕ} (own : m ≡ n) (list : 
       ∙ sym (sets-are t (a .number) (a .set) 0 (many (a .count))) in
       sym starts ∙ sym (atoms-same (atomsOf t b) (atomsOf t a) forms held)
 
-  pub counted-uncut : r .contradiction ≡ false
-      → sameSets (numbersFrom (first .atoms .set) 0 (many (first .atoms .count))) (numbersFrom (r .state .atoms .set) 0 (many (first .atoms .count))) ≡ true
-      → {k : ℕ} → k ≡ turnedRounds m (atomsOf (tableOf cs ms ts m) (first .atoms)) (enough (stateOf (tableOf cs ms ts m) first)) (boardOf (first .board))
-      → CountedRun (tableOf cs ms ts n) list (record { contradiction = false; begun = k; state = r .state })
-  unfolding t
-  counted-uncut e same {k} h =
-      let settles : run n (atomsOf t list) ≡ settled (stateOf t (r .state)) = sym (ran .outcome) ∙ rw e in
-      let here = subst (λ (v : ℕ). k ≡ turnedRounds v (atomsOf (tableOf cs ms ts v) (first .atoms)) (enough (stateOf (tableOf cs ms ts v) first)) (boardOf (first .board))) own h in
-      let su : Standing = start n (atomsOf t list) in
-      record {
-        outcome = sym settles;
-        begun =
-            here ∙ ap (λ (st : Standing). turnedRounds n (st .atoms) (enough st) (st .board)) is-start
-            ∙ sym (counted-by-turns (settled-start n (atomsOf t list) settles (uncut same)) (enough su));
-        variables = ran .variables;
-        atoms = ran .atoms;
-      }
+  module _ (u : Uncut first r) where
+    -- so the start is above the settled board
+    uncut-afresh : Afresh n (stateOf t (r .state)) (start n (atomsOf t list))
+    unfolding t
+    uncut-afresh = settled-start n (atomsOf t list) (sym (ran .outcome) ∙ rw (u .settles)) (uncut (u .sets))
+
+    pub uncut-bounded : BoundedBy (tableOf cs ms ts m) first (r .state .board)
+    unfolding t
+    uncut-bounded =
+        bounded-over cs ms ts (sym own)
+        (bounded-settled {t = tableOf cs ms ts n} (r .state) (subst (Afresh n (stateOf t (r .state))) (sym is-start) uncut-afresh) (ran .variables)
+        (started-low (tableOf cs ms ts n) list first is-start))
+
+    pub counted-uncut : {k : ℕ} → k ≡ turnedRounds m (atomsOf (tableOf cs ms ts m) (first .atoms)) (enough (stateOf (tableOf cs ms ts m) first)) (boardOf (first .board))
+        → CountedRun (tableOf cs ms ts n) list (record { contradiction = false; begun = k; state = r .state })
+    unfolding t
+    counted-uncut {k} h =
+        let settles : run n (atomsOf t list) ≡ settled (stateOf t (r .state)) = sym (ran .outcome) ∙ rw (u .settles) in
+        let here = subst (λ (v : ℕ). k ≡ turnedRounds v (atomsOf (tableOf cs ms ts v) (first .atoms)) (enough (stateOf (tableOf cs ms ts v) first)) (boardOf (first .board))) own h in
+        let su : Standing = start n (atomsOf t list) in
+        record {
+          outcome = sym settles;
+          begun =
+              here ∙ ap (λ (st : Standing). turnedRounds n (st .atoms) (enough st) (st .board)) is-start
+              ∙ sym (counted-by-turns uncut-afresh (enough su));
+          variables = ran .variables;
+          atoms = ran .atoms;
+        }
 
 -- ---- the rounds as they stand
 

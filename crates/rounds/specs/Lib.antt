@@ -3,3 +3,5 @@ pub mod Ended
 pub mod Start
 pub mod Run
 pub mod Afresh
+pub mod Bounded
+pub mod Turned

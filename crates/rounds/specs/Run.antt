@@ -1,15 +1,17 @@
 -- What the public functions ensure: the run of the rounds over a list, and where the rounds are begun.
 use mathlib.Core.Path.{_≡_}
-use mathlib.Core.Bool.{true}
+use mathlib.Core.Bool.{true, false}
 use mathlib.Core.List.{List, map}
 use Prim.Native.Nat.{ℕ, _<_, max}
 use Rattle.rules.specs.Polynomial.{Atom, Polynomial}
-use Rattle.rules.specs.Rounds.{run, start, begun, enough, nonVariable}
+use Rattle.rules.specs.Rounds.{run, start, begun, enough, nonVariable, sameSets}
 use Rattle.rules.specs.Count.{runCount}
 use Rattle.turn_laws.specs.AfterTurns.{AfterTurns, Idle}
-use Rattle.terms.specs.View.{setsOf}
+use Rattle.turn_laws.specs.Afresh.{PairsIdle}
+use Rattle.terms.specs.View.{numbersFrom, setsOf}
 use Rattle.table.specs.declared.Atoms.{Atoms}
-use Rattle.table.specs.Table.{Table, atomsOf}
+use Rattle.table.specs.Table.{Table, atomsOf, many}
+use Rattle.round.specs.declared.State.{State}
 use Rattle.round.specs.Views.{stateOf}
 use Rattle.rounds.specs.declared.Ran.{Ran}
 use Rattle.rounds.specs.declared.Counted.{Counted}
@@ -45,6 +47,12 @@ pub record LargestRun (t : Table) (list : Atoms) (largest : ℕ) (r : Largest) :
   pub variables : r .state .board .variables ≡ t .variables
   pub atoms : NonVariable t list (r .state .atoms)
 
+-- the run has found no contradiction and left each atom the set that it has in the first state
+pub record Uncut (first : State) (ran : Ran) : Type 0 where
+  pub settles : ran .contradiction ≡ false
+  pub sets : let k = many (first .atoms .count) in
+      sameSets (numbersFrom (first .atoms .set) 0 k) (numbersFrom (ran .state .atoms .set) 0 k) ≡ true
+
 -- r has the start of the list, but for turns of its variables, in some order, that have been taken ahead of the rounds; if it is still, each is idle
 pub record NarrowedStart (t : Table) (list : Atoms) (r : Beginning) : Type 0 where
   pub variables : r .state .board .variables ≡ t .variables
@@ -53,3 +61,9 @@ pub record NarrowedStart (t : Table) (list : Atoms) (r : Beginning) : Type 0 whe
       (setsOf (r .state .board))
   pub idle : r .still ≡ true
       → (i : ℕ) → i < t .variables → Idle (t .variables) (start (t .variables) (atomsOf t list) .atoms) (setsOf (r .state .board)) i
+
+-- the same, and if it is still, no pair finds anything of a variable
+pub record SettledStart (t : Table) (list : Atoms) (r : Beginning) : Type 0 where
+  pub narrowed : NarrowedStart t list r
+  pub pairs-idle : r .still ≡ true → (i : ℕ) → i < t .variables
+      → PairsIdle (t .variables) (record { board = setsOf (r .state .board); atoms = start (t .variables) (atomsOf t list) .atoms }) i

@@ -1,18 +1,22 @@
-// The rounds one after the other, 01 "Rounds", until one finds a contradiction or changes nothing.
+// The rounds one after the other, 01 "Rounds", until one finds a contradiction, or changes nothing and no pair of atoms finds anything (02, #111).
 // The rounds that are left are counted down from the book's own number, and those begun are told.
 ghost use mathlib.Core.Path.{_≡_};
 ghost use Prim.Native.Nat.{_≤_};
 ghost use lib.ListN.{length};
 ghost use Rattle.rules.specs.Deduce.{anyEmpty};
 ghost use Rattle.rules.specs.Rounds.{sameSets, hasEmpty, unchanged as unchangedOf};
-ghost use Rattle.terms.specs.View.{numbersFrom};
+ghost use Rattle.removal_laws.specs.Rounds.{LowBoard};
+ghost use Rattle.terms.specs.View.{numbersFrom, setsOf};
 ghost use Rattle.table.specs.Table.{Table, Forms, many as manyOf};
 ghost use Rattle.round.specs.Views.{lentTable, stateOf};
-ghost use Rattle.rounds.specs.Ended.{Ended};
+ghost use Rattle.search.specs.Filled.{Filled};
+ghost use Rattle.rounds.specs.Ended.{Furthered, Ended};
 use crate::Counted;
 use round::State;
 use round::list::many;
 use round::round::round;
+use search::Found;
+use search::search;
 use signs::SignSet;
 use terms::few;
 
@@ -93,8 +97,33 @@ pub fn same_atoms(first: State, last: State) -> bool
     same_sets(&held, &left, many(atoms.count))
 }
 
+// The state that a round left, if it changed anything; else what a pair finds in it, if one does. No further round is begun if nothing is found.
+fn further(
+    coefficient: &[i32],
+    monomial: &[u64],
+    terms: &[u8],
+    before: State,
+    after: State,
+) -> Found
+    requires { let t = lentTable coefficient monomial terms (after .board .variables) in
+        ⌜ Forms t × Filled (setsOf (after .board)) ⌝ }
+    requires { ⌜ (after .board .variables ≡ before .board .variables) × (after .atoms .count ≡ before .atoms .count) ⌝ }
+    ensures { λ r.
+        let t = lentTable (coefficient .entry) (monomial .entry) (terms .entry) (after .board .variables) in
+        ⌜ Furthered t before after r ⌝ }
+{
+    if unchanged(before, after) {
+        search(coefficient, monomial, terms, after)
+    } else {
+        Found {
+            found: true,
+            state: after,
+        }
+    }
+}
+
 pub fn rounds(coefficient: &[i32], monomial: &[u64], terms: &[u8], start: State) -> Counted
-    requires { ⌜ Forms (lentTable coefficient monomial terms (start .board .variables)) ⌝ }
+    requires { ⌜ Forms (lentTable coefficient monomial terms (start .board .variables)) × LowBoard (setsOf (start .board)) ⌝ }
     ensures { λ r. ⌜ Ended (lentTable (coefficient .entry) (monomial .entry) (terms .entry) (start .board .variables)) start r ⌝ }
 {
     let board = start.board;
@@ -112,14 +141,23 @@ pub fn rounds(coefficient: &[i32], monomial: &[u64], terms: &[u8], start: State)
                 state: next,
             };
         }
-        if unchanged(current, next) {
+        let onward = further(coefficient, monomial, terms, current, next);
+        let state = onward.state;
+        if !onward.found {
             return Counted {
                 contradiction: false,
                 begun: enough - left,
-                state: next,
+                state,
             };
         }
-        current = next;
+        if has_empty(state) {
+            return Counted {
+                contradiction: true,
+                begun: enough - left,
+                state,
+            };
+        }
+        current = state;
     }
     Counted {
         contradiction: false,

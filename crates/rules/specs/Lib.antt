@@ -2,6 +2,7 @@ pub mod Signs
 pub mod Polynomial
 pub mod Deduce
 pub mod Plain
+pub mod TwoAtoms
 pub mod Rounds
 pub mod Formula
 pub mod Level

@@ -1,4 +1,4 @@
--- 01, "Rounds over a list of atoms joined by AND", and what a list says of a polynomial after its rounds.
+-- 01, "Rounds over a list of atoms joined by AND", with the search over pairs of 02, #111, and what a list says of a polynomial after its rounds.
 -- Crate ending_laws says that the number of rounds that a run may take is always enough: `rounds-end`, `at-most`.
 use mathlib.Core.Bool.{Bool, true, false, _&&_, _||_}
 use mathlib.Core.List.{List, [], _∷_, map, _++_}
@@ -9,6 +9,7 @@ use lib.ListN.{length, getD, set, replicate}
 use Rattle.rules.specs.Signs.{SignSet, empty, full, intersect}
 use Rattle.rules.specs.Polynomial.{Polynomial, Atom, Board, byTerms, same, variable, which}
 use Rattle.rules.specs.Deduce.{deduce, anyEmpty}
+use Rattle.rules.specs.TwoAtoms.{tries, firstCut, cutByAll}
 
 -- A set "cut by all deductions" of p from the atoms.
 unfoldable pub cutBy : Board → Polynomial → List Atom → SignSet → SignSet
@@ -63,26 +64,76 @@ pub data Outcome : Type 0 where
   contradiction : Outcome
   settled : State → Outcome
 
--- After a round that left su: a contradiction, the end, or what the further rounds give.
-unfoldable pub afterRound : Bool → Bool → State → Outcome → Outcome
-afterRound true still su further = contradiction
-afterRound false true su further = settled su
-afterRound false false su further = further
+-- ---- 02, #111: "After a round that changes nothing, take as p each variable, then each non-variable atom, and try each pair of non-variable atoms
+-- other than p". The first finding that changes a set: of k variables from i on, whose sets are these of the board;
+unfoldable pub setsOr : Option SignSet → SignSet → List SignSet → Option (List SignSet) → Option (List SignSet)
+setsOr (some cut) s later rest = some (cut ∷ later)
+setsOr none s later none = none
+setsOr none s later (some rest) = some (s ∷ rest)
+
+unfoldable pub searchBoard : ℕ → List Atom → Board → ℕ → ℕ → List SignSet → Option (List SignSet)
+searchBoard n atoms board i zero sets = none
+searchBoard n atoms board i (suc k) [] = none
+searchBoard n atoms board i (suc k) (s ∷ later) =
+    let rest = searchBoard n atoms board (suc i) k later in setsOr (firstCut s (tries board (variable n i) atoms)) s later rest
+
+-- of an atom, the atoms before it being these.
+unfoldable pub atomsOr : Option SignSet → Atom → List Atom → Option (List Atom) → Option (List Atom)
+atomsOr (some cut) a later rest = some (record { polynomial = a .polynomial; set = cut } ∷ later)
+atomsOr none a later none = none
+atomsOr none a later (some rest) = some (a ∷ rest)
+
+unfoldable pub searchAtoms : Board → List Atom → List Atom → Option (List Atom)
+searchAtoms board before [] = none
+searchAtoms board before (a ∷ later) =
+    let rest = searchAtoms board (before ++ (a ∷ [])) later in atomsOr (firstCut (a .set) (tries board (a .polynomial) (before ++ later))) a later rest
+
+unfoldable pub stateOr : State → Option Board → Option (List Atom) → Option State
+stateOr st (some board) atoms = some (record { board = board; atoms = st .atoms })
+stateOr st none (some atoms) = some (record { board = st .board; atoms = atoms })
+stateOr st none none = none
+
+unfoldable pub search : ℕ → State → Option State
+search n st = stateOr st (searchBoard n (st .atoms) (st .board) 0 n (st .board)) (searchAtoms (st .board) [] (st .atoms))
+
+-- "The first pair finding that changes a set starts another round at once, unless that set is now empty: that ends the run as a contradiction, and no
+-- further round is begun."
+unfoldable pub unlessEmptied : Bool → State → (State → Outcome) → Outcome
+unlessEmptied true st more = contradiction
+unlessEmptied false st more = more st
+
+unfoldable pub afterSearch : Option State → State → (State → Outcome) → Outcome
+afterSearch none su more = settled su
+afterSearch (some sv) su more = unlessEmptied (hasEmpty sv) sv more
+
+-- After a round that left su: a contradiction; what comes of the search, if the round changed nothing; or what the further rounds give.
+unfoldable pub afterRound : Bool → Bool → ℕ → State → (State → Outcome) → Outcome
+afterRound true still n su more = contradiction
+afterRound false true n su more = afterSearch (search n su) su more
+afterRound false false n su more = more su
 
 -- At most k rounds.
 unfoldable pub rounds : ℕ → ℕ → State → Outcome
 rounds n zero st = settled st
-rounds n (suc k) st = let su = round n st in let further = rounds n k su in afterRound (hasEmpty su) (unchanged st su) su further
+rounds n (suc k) st = let su = round n st in afterRound (hasEmpty su) (unchanged st su) n su (λ (sv : State). rounds n k sv)
 
--- The number of rounds begun, a round that finds a contradiction or no change being counted.
-unfoldable pub furtherBegun : Bool → Bool → ℕ → ℕ
-furtherBegun true still further = 0
-furtherBegun false true further = 0
-furtherBegun false false further = further
+-- The number of rounds begun, a round that finds a contradiction or no change being counted; a search is no round.
+unfoldable pub begunUnlessEmptied : Bool → State → (State → ℕ) → ℕ
+begunUnlessEmptied true st more = 0
+begunUnlessEmptied false st more = more st
+
+unfoldable pub begunAfterSearch : Option State → (State → ℕ) → ℕ
+begunAfterSearch none more = 0
+begunAfterSearch (some sv) more = begunUnlessEmptied (hasEmpty sv) sv more
+
+unfoldable pub furtherBegun : Bool → Bool → ℕ → State → (State → ℕ) → ℕ
+furtherBegun true still n su more = 0
+furtherBegun false true n su more = begunAfterSearch (search n su) more
+furtherBegun false false n su more = more su
 
 unfoldable pub begun : ℕ → ℕ → State → ℕ
 begun n zero st = 0
-begun n (suc k) st = let su = round n st in let further = begun n k su in suc (furtherBegun (hasEmpty su) (unchanged st su) further)
+begun n (suc k) st = let su = round n st in suc (furtherBegun (hasEmpty su) (unchanged st su) n su (λ (sv : State). begun n k sv))
 
 -- The start: the non-variable atoms; "variable i starts with its variable atom's set, else full".
 unfoldable pub unlessVariable : Option ℕ → Atom → List Atom → List Atom
@@ -124,10 +175,21 @@ unfoldable pub held : Option ℕ → State → Polynomial → SignSet
 held none st p = listed p (st .atoms)
 held (some i) st p = getD (st .board) i full
 
+-- The atoms of a list whose polynomial is not p.
+unfoldable pub unlessSame : Bool → Atom → List Atom → List Atom
+unlessSame true a rest = rest
+unlessSame false a rest = a ∷ rest
+
+unfoldable pub otherThan : Polynomial → List Atom → List Atom
+otherThan p [] = []
+otherThan p (a ∷ l) = unlessSame (same p (a .polynomial)) a (otherThan p l)
+
 -- "What a list *says of* p after its rounds: its set if listed (or the variable's set), else full, cut by its sign by terms and all deductions
--- from non-variable atoms." (p itself among them, if it is listed.)
+-- from non-variable atoms." (p itself among them, if it is listed.) "What a list says of p includes these": the findings of all pairs (02, #111).
 unfoldable pub saysIn : ℕ → State → Polynomial → SignSet
-saysIn n st p = cutBy (st .board) p (st .atoms) (intersect (held (which n p) st p) (byTerms (st .board) p))
+saysIn n st p =
+    let cut = cutBy (st .board) p (st .atoms) (intersect (held (which n p) st p) (byTerms (st .board) p)) in
+    cutByAll cut (tries (st .board) p (otherThan p (st .atoms)))
 
 -- "A contradiction says the empty set."
 unfoldable pub says : ℕ → Outcome → Polynomial → SignSet
@@ -146,5 +208,5 @@ carried n board (a ∷ l) cut = carriedOne (which n (a .polynomial)) board a cut
 
 -- To unfold this is to unfold every definition of this file.
 unfoldable pub open-rounds : Unit {0}
-unfolding cutBy turn turns cutAtom cutAtoms round setsOf sameSets hasEmpty unchanged afterRound rounds furtherBegun begun unlessVariable nonVariable placed placedAll start enough run orNext listed held saysIn says carriedOne carried
+unfolding cutBy turn turns cutAtom cutAtoms round setsOf sameSets hasEmpty unchanged setsOr searchBoard atomsOr searchAtoms stateOr search unlessEmptied afterSearch afterRound rounds begunUnlessEmptied begunAfterSearch furtherBegun begun unlessVariable nonVariable placed placedAll start enough run orNext listed held unlessSame otherThan saysIn says carriedOne carried
 open-rounds = tt

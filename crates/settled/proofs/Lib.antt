@@ -1,4 +1,7 @@
 pub mod Said
 pub mod Carrying
 pub mod Removing
-pub mod Others
+pub mod TestFirst
+pub mod OtherAtoms
+pub mod ByPairs
+pub mod NoPairs

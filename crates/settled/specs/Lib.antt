@@ -1,3 +1,4 @@
 pub mod Carried
-pub mod Staying
+pub mod Others
 pub mod Remaining
+pub mod Ends

@@ -4,13 +4,19 @@ ghost use mathlib.Core.Path.{_≡_};
 ghost use mathlib.Core.Option.{none};
 ghost use Prim.Native.Nat.{_<_, _≤_};
 ghost use lib.ListN.{length};
+ghost use Rattle.rules.specs.Signs.{inside};
 ghost use Rattle.rules.specs.Rounds.{held as heldOf, saysIn, carried as carriedOf};
+ghost use Rattle.removal_laws.specs.Settled.{Settled};
 ghost use Rattle.terms.specs.View.{setsOf};
 ghost use Rattle.table.specs.Table.{Table, Forms, formAt, atomsOf};
 ghost use Rattle.round.specs.Views.{lentTable, variableOf, Below, stateOf};
 ghost use Rattle.round.specs.Signing.{SignedSlot, SignedTable, Ready};
 ghost use Rattle.rounds.specs.Run.{NonVariable};
 ghost use Rattle.settled.specs.Carried.{Carried, carriedSet, carriedNext};
+ghost use Rattle.settled.specs.Others.{OtherThan, PairsMatter, saysBeforePairs};
+use crate::others::cut_by_others;
+use crate::others::lies_inside;
+use crate::others::other_than;
 use round::State;
 use round::list::listed;
 use round::list::many;
@@ -24,6 +30,7 @@ use terms::Board;
 use terms::by_terms;
 
 pub mod removal; // which of its atoms the others imply
+mod others; // what pairs of the other atoms say of a polynomial
 mod staying; // which atoms stay whatever else is removed
 
 // ---- what a list says of a polynomial
@@ -44,8 +51,8 @@ fn held(state: State, holds: Holds, number: usize) -> SignSet
     }
 }
 
-// What a settled state says of the polynomial in slot number, where only the signs that this takes are worked out.
-fn says_at(
+// What a state says of the polynomial in slot number before the pairs of atoms are asked, where only the signs that this takes are worked out.
+fn says_before_pairs(
     coefficient: &[i32],
     monomial: &[u64],
     terms: &[u8],
@@ -59,7 +66,7 @@ fn says_at(
     requires { ⌜ SignedSlot (lentTable coefficient monomial terms variables) (setsOf (state .board)) (now sign) number ⌝ }
     ensures { λ r.
         let t = lentTable (coefficient .entry) (monomial .entry) (terms .entry) variables in
-        ⌜ r .0 ≡ saysIn variables (stateOf t state) (formAt t number) ⌝ }
+        ⌜ r .0 ≡ saysBeforePairs variables (stateOf t state) (formAt t number) ⌝ }
 {
     let board = state.board;
     let atoms = state.atoms;
@@ -82,6 +89,35 @@ fn says_at(
     )
 }
 
+// Whether pairs of the others can say more of a polynomial than a settled state holds of it already: not of a variable, nor if it is listed.
+fn pairs_matter(
+    coefficient: &[i32],
+    monomial: &[u64],
+    terms: &[u8],
+    variables: usize,
+    state: State,
+    others: Atoms,
+    number: usize,
+) -> bool
+    requires { ⌜ Forms (lentTable coefficient monomial terms variables) × ((number < 64) × OtherThan (state .atoms) number others) ⌝ }
+    ensures { λ r.
+        let t = lentTable (coefficient .entry) (monomial .entry) (terms .entry) variables in
+        ⌜ PairsMatter t state number r ⌝ }
+{
+    let atoms = state.atoms;
+    let end = many(atoms.count);
+    let holds = which(coefficient, monomial, terms, variables, number);
+    match holds {
+        Holds::Variable(i) => false,
+        Holds::Form => {
+            if others.count < end {
+                return false;
+            }
+            true
+        }
+    }
+}
+
 // What a settled state says of the polynomial in slot number, where the signs of all slots are worked out for its board.
 pub fn says(
     coefficient: &[i32],
@@ -93,12 +129,86 @@ pub fn says(
     number: usize,
 ) -> SignSet
     requires { ⌜ Forms (lentTable coefficient monomial terms variables) × ((state .board .variables ≡ variables) × (number < 64)) ⌝ }
-    requires { ⌜ (length (now sign) ≡ 1280) × SignedTable (lentTable coefficient monomial terms variables) (setsOf (state .board)) (now sign) ⌝ }
+    requires { let t = lentTable coefficient monomial terms variables in
+        ⌜ (length (now sign) ≡ 1280) × (SignedTable t (setsOf (state .board)) (now sign) × Settled variables (stateOf t state)) ⌝ }
     ensures { λ r.
         let t = lentTable (coefficient .entry) (monomial .entry) (terms .entry) variables in
         ⌜ r .0 ≡ saysIn variables (stateOf t state) (formAt t number) ⌝ }
 {
-    says_at(coefficient, monomial, terms, sign, variables, state, number)
+    let board = state.board;
+    let atoms = state.atoms;
+    let said = says_before_pairs(coefficient, monomial, terms, sign, variables, state, number);
+    let others = other_than(atoms, number);
+    if pairs_matter(
+        coefficient,
+        monomial,
+        terms,
+        variables,
+        state,
+        others,
+        number,
+    ) {
+        return cut_by_others(
+            coefficient,
+            monomial,
+            terms,
+            sign,
+            variables,
+            board,
+            others,
+            number,
+            said,
+        );
+    }
+    said
+}
+
+// Whether what a settled state says of the polynomial in slot number lies inside a set, where only the signs that this takes are worked out.
+pub fn says_inside(
+    coefficient: &[i32],
+    monomial: &[u64],
+    terms: &[u8],
+    sign: &[u8],
+    variables: usize,
+    state: State,
+    number: usize,
+    bound: SignSet,
+) -> bool
+    requires { let t = lentTable coefficient monomial terms variables in
+        ⌜ Ready t (setsOf (state .board)) (state .atoms) (now sign) × ((state .board .variables ≡ variables) × (number < 64)) ⌝ }
+    requires { let t = lentTable coefficient monomial terms variables in
+        ⌜ SignedSlot t (setsOf (state .board)) (now sign) number × Settled variables (stateOf t state) ⌝ }
+    ensures { λ r.
+        let t = lentTable (coefficient .entry) (monomial .entry) (terms .entry) variables in
+        ⌜ r ≡ inside (saysIn variables (stateOf t state) (formAt t number)) (bound .0) ⌝ }
+{
+    let board = state.board;
+    let atoms = state.atoms;
+    let said = says_before_pairs(coefficient, monomial, terms, sign, variables, state, number);
+    let others = other_than(atoms, number);
+    if pairs_matter(
+        coefficient,
+        monomial,
+        terms,
+        variables,
+        state,
+        others,
+        number,
+    ) {
+        return lies_inside(
+            coefficient,
+            monomial,
+            terms,
+            sign,
+            variables,
+            board,
+            others,
+            number,
+            said,
+            bound,
+        );
+    }
+    said.inside(bound)
 }
 
 // ---- the sets that the atoms of a list carry after its rounds

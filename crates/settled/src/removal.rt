@@ -7,7 +7,6 @@ ghost use Prim.Native.Nat.{_<_, max};
 ghost use Rattle.rules.specs.Polynomial.{Atom};
 ghost use Rattle.rules.specs.Level.{Placed, plains, implied as impliedOf, removeImplied};
 ghost use Rattle.rules.specs.Count.{removalCount};
-ghost use Rattle.removal_laws.specs.Apart.{Apart};
 ghost use Rattle.removal_laws.specs.Staying.{staysBy, removeFaster};
 ghost use Rattle.count_laws.specs.Removal.{countFaster};
 ghost use Rattle.terms.specs.View.{setsOf};
@@ -16,7 +15,7 @@ ghost use Rattle.round.specs.Views.{lentTable, stateOf};
 ghost use Rattle.round.specs.Signing.{SignedSlot, Ready};
 ghost use Rattle.rounds.specs.Afresh.{AfreshFrom};
 ghost use Rattle.settled.specs.Remaining.{CarriedFrom, KeptUnless, RemainingOf};
-use crate::says_at;
+use crate::says_inside;
 use crate::staying::stays;
 use ahead::Order;
 use ahead::no_order;
@@ -93,7 +92,7 @@ fn implied(
     let mut sign = [0u8; 1280];
     sign_list(board, monomial, terms, atoms, &mut sign);
     sign_slot(board, monomial, terms, &mut sign, number);
-    let said = says_at(
+    let yes = says_inside(
         coefficient,
         monomial,
         terms,
@@ -101,11 +100,9 @@ fn implied(
         variables,
         state,
         number,
+        set,
     );
-    Told {
-        yes: said.inside(set),
-        order: turns,
-    }
+    Told { yes, order: turns }
 }
 
 // Whether the atom is removed: the rounds over the others are run only if the settled state leaves it open.
@@ -124,7 +121,7 @@ fn goes(
     requires { let t = lentTable coefficient monomial terms variables in
         ⌜ Ready t (setsOf (state .board)) (state .atoms) (now sign) × ((state .board .variables ≡ variables) × (number < 64)) ⌝ }
     requires { let t = lentTable coefficient monomial terms variables in
-        ⌜ SignedSlot t (setsOf (state .board)) (now sign) number × (Apart (atomsOf t (state .atoms)) × AfreshFrom t state (atomsOf t others)) ⌝ }
+        ⌜ SignedSlot t (setsOf (state .board)) (now sign) number × AfreshFrom t state (atomsOf t others) ⌝ }
     ensures { λ r.
         let t = lentTable (coefficient .entry) (monomial .entry) (terms .entry) variables in
         let a : Atom = record { polynomial = formAt t number; set = set .0 } in

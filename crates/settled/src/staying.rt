@@ -2,14 +2,17 @@
 // Rounds run afresh on some of the others never say more of it than that state does, so for such an atom none are run.
 ghost use mathlib.Core.Path.{_≡_};
 ghost use Prim.Native.Nat.{_<_};
-ghost use Rattle.removal_laws.specs.Apart.{Apart};
+ghost use Rattle.rules.specs.Signs.{inside};
 ghost use Rattle.removal_laws.specs.Said.{saidByOthers};
+ghost use Rattle.removal_laws.specs.Settled.{Settled};
 ghost use Rattle.removal_laws.specs.Staying.{staysBy};
 ghost use Rattle.terms.specs.View.{setsOf};
-ghost use Rattle.table.specs.Table.{formAt, atomsOf, many as manyOf};
+ghost use Rattle.table.specs.Table.{formAt, atomsOf};
 ghost use Rattle.round.specs.Views.{lentTable, stateOf};
 ghost use Rattle.round.specs.Signing.{SignedSlot, Ready};
-ghost use Rattle.settled.specs.Staying.{PlaceIs};
+ghost use Rattle.settled.specs.Others.{saidBeforePairs};
+use crate::others::lies_inside;
+use crate::others::other_than;
 use round::State;
 use round::list::many;
 use round::round::cut_by;
@@ -18,27 +21,46 @@ use round::slots::places;
 use round::slots::which;
 use signs::SignSet;
 use table::Atoms;
+use terms::Board;
 use terms::by_terms;
 
-// The index of the first atom of the polynomial in slot number, or how many atoms there are if none is its.
-fn place(list: Atoms, number: usize) -> usize
-    ensures { λ r. ⌜ PlaceIs (list .number) number (manyOf (list .count)) r ⌝ }
+// What these atoms say of the polynomial in slot number, with its sign by terms, before the pairs of them are asked.
+fn said_before_pairs(
+    coefficient: &[i32],
+    monomial: &[u64],
+    terms: &[u8],
+    sign: &[u8],
+    variables: usize,
+    board: Board,
+    others: Atoms,
+    number: usize,
+) -> SignSet
+    requires { let t = lentTable coefficient monomial terms variables in
+        ⌜ Ready t (setsOf board) others (now sign) × ((board .variables ≡ variables) × (number < 64)) ⌝ }
+    requires { ⌜ SignedSlot (lentTable coefficient monomial terms variables) (setsOf board) (now sign) number ⌝ }
+    ensures { λ r.
+        let t = lentTable (coefficient .entry) (monomial .entry) (terms .entry) variables in
+        ⌜ r .0 ≡ saidBeforePairs (setsOf board) (formAt t number) (atomsOf t others) ⌝ }
 {
-    let end = many(list.count);
-    let mut i = 0;
-    while i < end {
-        let other = list.number[i];
-        let k = (other % 64) as usize;
-        if number == k {
-            return i;
-        }
-        i += 1;
-    }
-    end
+    let end = many(others.count);
+    let run = places(terms, number);
+    let by = by_terms(coefficient, sign, run.from, run.to);
+    cut_by(
+        coefficient,
+        monomial,
+        terms,
+        sign,
+        board,
+        others,
+        0,
+        end,
+        number,
+        by,
+    )
 }
 
-// What the state says of the polynomial in slot number by its sign by terms and by the atoms of other polynomials.
-fn said_by_others(
+// Whether what the other atoms say so, one at a time and two at once, lies inside the set.
+fn said_inside(
     coefficient: &[i32],
     monomial: &[u64],
     terms: &[u8],
@@ -46,44 +68,39 @@ fn said_by_others(
     variables: usize,
     state: State,
     number: usize,
-) -> SignSet
+    set: SignSet,
+) -> bool
     requires { let t = lentTable coefficient monomial terms variables in
         ⌜ Ready t (setsOf (state .board)) (state .atoms) (now sign) × ((state .board .variables ≡ variables) × (number < 64)) ⌝ }
     requires { let t = lentTable coefficient monomial terms variables in
-        ⌜ SignedSlot t (setsOf (state .board)) (now sign) number × Apart (atomsOf t (state .atoms)) ⌝ }
+        ⌜ SignedSlot t (setsOf (state .board)) (now sign) number × Settled variables (stateOf t state) ⌝ }
     ensures { λ r.
         let t = lentTable (coefficient .entry) (monomial .entry) (terms .entry) variables in
-        ⌜ r .0 ≡ saidByOthers (stateOf t state) (formAt t number) ⌝ }
+        ⌜ r ≡ inside (saidByOthers (stateOf t state) (formAt t number)) (set .0) ⌝ }
 {
     let board = state.board;
-    let atoms = state.atoms;
-    let end = many(atoms.count);
-    let i = place(atoms, number);
-    let run = places(terms, number);
-    let by = by_terms(coefficient, sign, run.from, run.to);
-    let before = cut_by(
+    let others = other_than(state.atoms, number);
+    let said = said_before_pairs(
         coefficient,
         monomial,
         terms,
         sign,
+        variables,
         board,
-        atoms,
-        0,
-        i,
+        others,
         number,
-        by,
     );
-    cut_by(
+    lies_inside(
         coefficient,
         monomial,
         terms,
         sign,
+        variables,
         board,
-        atoms,
-        i + 1,
-        end,
+        others,
         number,
-        before,
+        said,
+        set,
     )
 }
 
@@ -101,7 +118,7 @@ pub fn stays(
     requires { let t = lentTable coefficient monomial terms variables in
         ⌜ Ready t (setsOf (state .board)) (state .atoms) (now sign) × ((state .board .variables ≡ variables) × (number < 64)) ⌝ }
     requires { let t = lentTable coefficient monomial terms variables in
-        ⌜ SignedSlot t (setsOf (state .board)) (now sign) number × Apart (atomsOf t (state .atoms)) ⌝ }
+        ⌜ SignedSlot t (setsOf (state .board)) (now sign) number × Settled variables (stateOf t state) ⌝ }
     ensures { λ r.
         let t = lentTable (coefficient .entry) (monomial .entry) (terms .entry) variables in
         ⌜ r ≡ staysBy variables (stateOf t state) (record { polynomial = formAt t number; set = set .0 }) ⌝ }
@@ -109,7 +126,7 @@ pub fn stays(
     let holds = which(coefficient, monomial, terms, variables, number);
     match holds {
         Holds::Variable(i) => false,
-        Holds::Form => !said_by_others(
+        Holds::Form => !said_inside(
             coefficient,
             monomial,
             terms,
@@ -117,6 +134,7 @@ pub fn stays(
             variables,
             state,
             number,
-        ).inside(set),
+            set,
+        ),
     }
 }

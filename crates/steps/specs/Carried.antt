@@ -1,5 +1,5 @@
 -- Steps 3 and 5 over tokens: the tokens with other sets, and what the two steps leave, in the book's values.
-use mathlib.Core.Path.{_≡_}
+use mathlib.Core.Path.{_≡_, sym}
 use mathlib.Core.Bool.{false}
 use mathlib.Core.List.{List, [], _∷_}
 use Prim.Native.Nat.{ℕ, suc, _+_, _*_, _/_, _%_, _≤_, max}
@@ -7,6 +7,7 @@ use lib.ListN.{length, getD}
 use Rattle.rules.specs.Rounds.{run, carried}
 use Rattle.rules.specs.Level.{plains, carry, removeImplied}
 use Rattle.rules.specs.Count.{runCount, removalCount}
+use Rattle.removal_laws.specs.Settled.{Settled}
 use Rattle.terms.specs.View.{setsOf}
 use Rattle.table.specs.Table.{Table, atomsOf}
 use Rattle.tape.specs.declared.rows.Row.{Row}
@@ -17,6 +18,7 @@ use Rattle.round.specs.declared.State.{State}
 use Rattle.round.specs.Views.{stateOf}
 use Rattle.rounds.specs.Views.{ending}
 use Rattle.settled.specs.Remaining.{CarriedFrom}
+use Rattle.settled.specs.Ends.{ends-settled}
 
 -- Tokens with the sets from place i on.
 unfoldable pub withSets : List ℕ → ℕ → List ℕ → List ℕ
@@ -34,6 +36,11 @@ pub record Carries (t : Table) (l : List ℕ) (largest : ℕ) (row : Row) (r : C
   pub same : length list ≡ length l
   pub carries : r .contradiction ≡ false
       → carry (atomsIn t l) (carried (t .variables) (setsOf (r .state .board)) (plains (atomsIn t l)) (atomsOf t (r .state .atoms))) ≡ atomsIn t list
+
+-- where there is no contradiction, the state is settled
+pub carry-settles : {t : Table} (l : List ℕ) (largest : ℕ) {row : Row} {r : Carrying} → Carries t l largest row r → r .contradiction ≡ false
+    → Settled (t .variables) (stateOf t (r .state))
+carry-settles {t} l largest c e = ends-settled (t .variables) (plains (atomsIn t l)) (sym (c .is)) e
 
 -- What step 5 asks: the row lists what step 3 left beside the state.
 pub record LeftBy (t : Table) (state : State) (row : Row) : Type 0 where

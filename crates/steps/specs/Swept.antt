@@ -9,6 +9,7 @@ use lib.ListN.{length}
 use Rattle.rules.specs.Signs.{SignSet, empty, complement, intersect, inside}
 use Rattle.rules.specs.Rounds.{saysIn}
 use Rattle.rules.specs.Level.{Formula, complemented, dual, parts, prune, enter, sweep, Walk}
+use Rattle.removal_laws.specs.Settled.{Settled}
 use Rattle.terms.specs.View.{setsOf}
 use Rattle.table.specs.Table.{Table, formAt, Forms}
 use Rattle.round.specs.declared.State.{State}
@@ -22,10 +23,11 @@ use Rattle.tape.specs.Walked.{Stands, afterwards, load}
 use Rattle.round.specs.Views.{stateOf}
 use Rattle.round.specs.Signing.{SignedTable}
 
--- What asking the list needs: a state that rounds over the table left, and the signs of all slots of the table on the state's board.
+-- What asking the list needs: a state that rounds over the table settled in, and the signs of all slots of the table on the state's board.
 pub record Hears (t : Table) (state : State) (sign : List ℕ) : Type 0 where
   pub forms : Forms t
   pub variables : state .board .variables ≡ t .variables
+  pub settles : Settled (t .variables) (stateOf t state)
   pub signed : SignedTable t (setsOf (state .board)) sign
   pub long : length sign ≡ 1280
 

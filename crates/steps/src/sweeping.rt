@@ -5,9 +5,10 @@ ghost use mathlib.Core.List.{List};
 ghost use Prim.Native.Nat.{ℕ, _+_, _-_, _≤_};
 ghost use lib.ListN.{length, take, drop};
 ghost use Rattle.rules.specs.Level.{Walk};
+ghost use Rattle.removal_laws.specs.Settled.{Settled};
 ghost use Rattle.table.specs.Table.{Forms};
 ghost use Rattle.tape.specs.Row.{rowOf, Lists};
-ghost use Rattle.round.specs.Views.{lentTable};
+ghost use Rattle.round.specs.Views.{lentTable, stateOf};
 ghost use Rattle.tape.specs.Tape.{Children, laid, ChildAt};
 ghost use Rattle.tape.specs.Walked.{Stands};
 ghost use Rattle.steps.specs.Swept.{Hears, CutIs, PruneIs, EntersPruned, SweepIs};
@@ -211,7 +212,8 @@ pub fn sweep(
     ors: &[u32],
     n: usize,
 ) -> Walked
-    requires { ⌜ Forms (lentTable coefficient monomial terms variables) × ((state .board .variables ≡ variables)
+    requires { let t = lentTable coefficient monomial terms variables in
+        ⌜ Forms t × (((state .board .variables ≡ variables) × Settled variables (stateOf t state))
         × ((length (now ors) ≡ 256) × ((n ≤ 256) × ((children : Children) × Lists (rowOf (now ors) n) (laid children))))) ⌝ }
     ensures { λ r. let t = lentTable (coefficient .entry) (monomial .entry) (terms .entry) variables in ⌜ ((children : Children) → Lists (rowOf (now (ors .entry)) n) (laid children) → SweepIs t state children r) ⌝ }
 {

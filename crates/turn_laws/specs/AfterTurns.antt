@@ -10,23 +10,29 @@ use lib.ListN.{length, getD, set, length-set}
 use lib.Seq.{set-getD, getD-set-same, getD-set-other}
 use Rattle.rules.specs.Signs.{SignSet, empty, full}
 use Rattle.rules.specs.Polynomial.{Atom, Board, variable}
+use Rattle.rules.specs.TwoAtoms.{tries, cutByAll}
 use Rattle.rules.specs.Rounds.{cutBy, turn, turns, State, round, rounds, enough, Outcome, contradiction, settled}
-use Rattle.sign_laws.specs.Lists.{every-set}
-use Rattle.sign_laws.specs.Sets.{in-empty, PartOf, part-trans}
+use Rattle.sign_laws.specs.Lists.{Every, every-none, every, every-set}
+use Rattle.sign_laws.specs.Sets.{in-empty, in-intersect, PartOf, part-trans}
+use Rattle.ending_laws.specs.Searches.{none-cuts, search-idle, board-none-at}
 use Rattle.ending_laws.specs.Rounds.{Run, rounds-end}
 use Rattle.removal_laws.specs.Wider.{Wider}
 use Rattle.removal_laws.specs.Fewer.{getD-wider, set-wide}
 use Rattle.removal_laws.specs.Rounds.{LowBoard, WiderState, turn-low, cutBy-wider}
+use Rattle.removal_laws.specs.TwoAtoms.{tries-wider, weaker-every}
 use Rattle.removal_laws.specs.Settled.{Settled, Settles, settles-from}
+use Rattle.removal_laws.specs.Searched.{settled-filled}
 use Rattle.removal_laws.specs.Said.{Widens, widens-run}
 use Rattle.turn_laws.specs.Equal.{states-equal, board-itself, wider-both, set-narrow, turn-narrow, Narrows, run-narrow}
 
 -- The boards that turns of the n variables over the atoms leave of a first board, in any order. A turn may be taken in part: some deductions leave
--- the variable a set between what it had and what the whole turn leaves.
+-- the variable a set between what it had and what the whole turn leaves. And so with the findings of pairs for a variable (02, #111), some or all.
 pub data AfterTurns (n : ℕ) (atoms : List Atom) (first : Board) : Board → Type 0 where
   no-turn : AfterTurns n atoms first first
   one-more : {board : Board} (i : ℕ) → i < n → AfterTurns n atoms first board → AfterTurns n atoms first (turn n atoms board i)
   in-part : {board : Board} (i : ℕ) {s : SignSet} → i < n → s < 8 → PartOf (cutBy board (variable n i) atoms (getD board i full)) s
+      → PartOf s (getD board i full) → AfterTurns n atoms first board → AfterTurns n atoms first (set board i s)
+  by-pairs : {board : Board} (i : ℕ) {s : SignSet} → i < n → s < 8 → PartOf (cutByAll (getD board i full) (tries board (variable n i) atoms)) s
       → PartOf s (getD board i full) → AfterTurns n atoms first board → AfterTurns n atoms first (set board i s)
 
 -- ---- What holds of each.
@@ -37,6 +43,7 @@ module _ {n : ℕ} {atoms : List Atom} {first : Board} where
   after-low low no-turn = low
   after-low low (one-more {board} i h t) = turn-low n atoms board i (after-low low t)
   after-low low (in-part i h small below above t) = every-set i _ small (after-low low t)
+  after-low low (by-pairs i h small below above t) = every-set i _ small (after-low low t)
 
   -- It has as many sets.
   pub after-length : {board : Board} → AfterTurns n atoms first board → length board ≡ length first
@@ -44,12 +51,14 @@ module _ {n : ℕ} {atoms : List Atom} {first : Board} where
   after-length no-turn = refl
   after-length (one-more {board} i h t) = length-set board i _ ∙ after-length t
   after-length (in-part {board} i h small below above t) = length-set board i _ ∙ after-length t
+  after-length (by-pairs {board} i h small below above t) = length-set board i _ ∙ after-length t
 
   -- The first one is wider.
   pub after-narrow : {board : Board} → AfterTurns n atoms first board → Wider board first
   after-narrow no-turn = board-itself first
   after-narrow (one-more i h t) = turn-narrow n atoms i (after-narrow t)
   after-narrow (in-part i h small below above t) = set-narrow (after-narrow t) i above
+  after-narrow (by-pairs i h small below above t) = set-narrow (after-narrow t) i above
 
 -- Turns after turns.
 pub after-both : {n : ℕ} {atoms : List Atom} {first second third : Board} → AfterTurns n atoms first second → AfterTurns n atoms second third
@@ -57,6 +66,7 @@ pub after-both : {n : ℕ} {atoms : List Atom} {first second third : Board} → 
 after-both t no-turn = t
 after-both t (one-more i h u) = one-more i h (after-both t u)
 after-both t (in-part i h small below above u) = in-part i h small below above (after-both t u)
+after-both t (by-pairs i h small below above u) = by-pairs i h small below above (after-both t u)
 
 -- ---- Turns that leave the board leave each variable's set.
 
@@ -102,6 +112,25 @@ pub cut-wider : {n : ℕ} {st su : State} → Settled n st → WiderState st su 
 cut-wider {n} s w i h =
     rw (settled-idle s i h) at (cutBy-wider (w .boards) (s .low .board) (variable n i) (w .lists) (s .low .atoms) (getD-wider (w .boards) i))
 
+-- Each finding of pairs for a variable of a wider state holds the settled set.
+pub pairs-hold : {n : ℕ} {st su : State} → Settled n st → WiderState st su → (i : ℕ) → i < n
+    → Every (PartOf (getD (st .board) i full)) (tries (su .board) (variable n i) (su .atoms))
+pairs-hold {n} {st} s w i h =
+    let own = getD (st .board) i full in
+    let first : 0 + i ≡ i = omega arith in
+    let none-here = rw first at (board-none-at n (st .atoms) (st .board) 0 n (st .board) (search-idle n st (s .idle) .0) i h (omega (arith, s .many))) in
+    weaker-every (tries-wider (w .boards) (variable n i) (w .lists) (settled-filled s)) (none-cuts own (tries (st .board) (variable n i) (st .atoms)) none-here)
+
+part-all : {x s : SignSet} {fs : List SignSet} → PartOf x s → Every (PartOf x) fs → PartOf x (cutByAll s fs)
+unfolding cutByAll
+part-all p every-none = p
+part-all p (every h hs) = part-all (record { each = λ y k. in-intersect (p .each y k) (h .each y k) }) hs
+
+-- So what they leave of a variable's set is no narrower than the settled set.
+pub pairs-wider : {n : ℕ} {st su : State} → Settled n st → WiderState st su → (i : ℕ) → i < n
+    → PartOf (getD (st .board) i full) (cutByAll (getD (su .board) i full) (tries (su .board) (variable n i) (su .atoms)))
+pairs-wider s w i h = part-all (getD-wider (w .boards) i) (pairs-hold s w i h)
+
 pub after-wider : {n : ℕ} {st : State} → Settled n st → {atoms : List Atom} {first : Board} → WiderState st (record { board = first; atoms = atoms })
     → {board : Board} → AfterTurns n atoms first board → WiderState st (record { board = board; atoms = atoms })
 unfolding turn
@@ -110,6 +139,8 @@ after-wider s w (one-more i h t) =
     let v = after-wider s w t in record { boards = set-wide (v .boards) i (cut-wider s v i h); lists = v .lists }
 after-wider s w (in-part i h small below above t) =
     let v = after-wider s w t in record { boards = set-wide (v .boards) i (part-trans (cut-wider s v i h) below); lists = v .lists }
+after-wider s w (by-pairs i h small below above t) =
+    let v = after-wider s w t in record { boards = set-wide (v .boards) i (part-trans (pairs-wider s v i h) below); lists = v .lists }
 
 -- ---- The same end.
 

@@ -3,7 +3,7 @@ use borrow.Author.Needs.{needs}
 use mathlib.Core.Path.{refl, sym}
 use Rattle.round.specs.Over.{forms-over}
 use Rattle.rounds.proofs.Ends.{ended-over}
-use Rattle.rounds.proofs.Beginnings.{nothing-below, run-narrowed}
+use Rattle.rounds.proofs.Beginnings.{nothing-below, narrowed-low, run-narrowed}
 use Rattle.rounds.proofs.run.Statement.{statement}
 use Rattle.rounds.proofs.run.Tie as tie
 
@@ -13,7 +13,9 @@ narrowed-requires c κs =
     (s .pre, (refl, nothing-below (s .args .variables) (s .pre .variables) _ _))
 
 rounds-requires : tie.Need-rounds-requires
-rounds-requires c κs = forms-over _ _ _ (sym (c .before .narrowed .ensures .variables)) (c .before .before .before .before .before .pre)
+rounds-requires c κs =
+    let begin = c .before .narrowed .ensures in
+    (forms-over _ _ _ (sym (begin .variables)) (c .before .before .before .before .before .pre), narrowed-low begin)
 
 returns : tie.Need-returns
 returns c =

@@ -27,7 +27,7 @@ says-requires c κs =
     let start = loop .before .before .before .before .before .before .before .before .before .before in
     let low : loop .loop .i < 64 = omega arith in
     let places : length (worked-out .last .1 .1 .1 .0) ≡ 1280 = search needs in
-    ((start .pre .0, (start .pre .1, low)), (places, rw (worked-out .ensures) (table-signed _ _ (start .pre .0) (search needs))))
+    ((start .pre .0, (start .pre .1 .0, low)), (places, (rw (worked-out .ensures) (table-signed _ _ (start .pre .0) (search needs)), start .pre .1 .1)))
 
 pub said-spec : {M : Type 1} → statement M
 said-spec =

@@ -8,4 +8,4 @@ without-requires c κs = let s = c .before .before .before in (s .pre .0 .0, (s 
 
 pub by-common-spec : {M : Type 1} → statement M
 by-common-spec =
-    tie.close (tie.spec without-requires (λ c κs. search needs) (λ c. search needs) (λ c κs. search needs) (λ c. search needs))
+    tie.close (tie.spec without-requires (λ c. search needs) (λ c κs. search needs) (λ c. search needs))

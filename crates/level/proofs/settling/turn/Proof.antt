@@ -5,6 +5,7 @@ use borrow.Author.Needs.{needs}
 use native.Mathlib.Omega.{arith}
 use Rattle.tape.specs.Tape.{laid}
 use Rattle.tape.specs.Listing.{row-long}
+use Rattle.steps.specs.Carried.{carry-settles}
 use Rattle.level.proofs.Stages.{laid-down, laid-first, turn-broken, turn-contradiction, turn-alone, turn-falls, turn-moved, left-by, turn-over}
 use Rattle.level.proofs.settling.turn.Statement.{statement}
 use Rattle.level.proofs.settling.turn.Tie as tie
@@ -43,7 +44,8 @@ sweep-requires : tie.Need-sweep-requires
 sweep-requires c κs =
     let (forms, ready) = c .before .before .before .before .before .before .before .before .before .before .before .before .before .before .before .before .before .pre in
     let f = c .before .before .before .before .before .before .before .before .before .before .before .tidy .ensures (ready .list) (ready .lists) in
-    (forms, (c .before .before .before .before .before .before .carry .ensures (f .list) (f .lists) .variables, (ready .wide, (omega (arith, ready .fits), (ready .children, ready .lies)))))
+    let g = c .before .before .before .before .before .before .carry .ensures (f .list) (f .lists) in
+    (forms, ((g .variables, carry-settles (f .list) _ g (c .before .before .before .if2 .left)), (ready .wide, (omega (arith, ready .fits), (ready .children, ready .lies)))))
 
 falls : tie.Need-returns-4
 falls c l children h k =

@@ -14,7 +14,6 @@ use Rattle.table.specs.Table.{Table, atomAt, atomsOf, many}
 use Rattle.round.specs.Views.{tableOf, lentTable, stateOf, rest}
 use Rattle.settled.proofs.Removing.{Removing, removing-first, removing-next, removing-last, afresh-others, some-first, some-more}
 use Rattle.settled.proofs.Removing.{Counting, counting-first, counting-next, counting-last}
-use Rattle.settled.proofs.Others.{state-apart}
 use Rattle.settled.proofs.removal.remove.Statement.{statement}
 use Rattle.settled.proofs.removal.remove.Tie as tie
 
@@ -37,7 +36,7 @@ goes-requires c κs =
     let (ready, from) = s .pre .0 in
     let l = c .before .before .before .before .before .loop in
     let afresh = afresh-others (s .args .t6) (atomsOf (table s) (l .kept .atoms)) from (omega (arith, l .inv .1 .0)) (l .inv .1 .1 .1 .0) (c .joined .ensures (table s)) in
-    ((ready, (from .variables, omega arith)), (s .pre .1 .atoms (l .i) (omega arith), (state-apart from, afresh)))
+    ((ready, (from .variables, omega arith)), (s .pre .1 .atoms (l .i) (omega arith), afresh))
 
 fresh-rounds-requires : tie.Need-fresh-rounds-requires Inv-loop μ-loop
 fresh-rounds-requires c κs =

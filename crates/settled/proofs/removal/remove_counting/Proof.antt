@@ -15,7 +15,6 @@ use Rattle.round.specs.Views.{tableOf, lentTable, stateOf, rest}
 use Rattle.common_run.specs.Known.{Known}
 use Rattle.settled.proofs.Removing.{Removing, removing-first, removing-next, removing-last, afresh-others, afresh-remaining, known-next, some-first, some-more}
 use Rattle.settled.proofs.Removing.{Counting, counting-first, counting-next, counting-last}
-use Rattle.settled.proofs.Others.{state-apart}
 use Rattle.settled.proofs.removal.remove_counting.Statement.{statement}
 use Rattle.settled.proofs.removal.remove_counting.Tie as tie
 
@@ -38,7 +37,7 @@ goes-requires c κs =
     let (ready, from) = s .pre .0 in
     let l = c .before .before .before .before .before .loop in
     let afresh = afresh-others (s .args .t6) (atomsOf (table s) (l .kept .atoms)) from (omega (arith, l .inv .1 .0)) (l .inv .1 .1 .1 .0) (c .joined .ensures (table s)) in
-    ((ready, (from .variables, omega arith)), (s .pre .1 .atoms (l .i) (omega arith), (state-apart from, afresh)))
+    ((ready, (from .variables, omega arith)), (s .pre .1 .atoms (l .i) (omega arith), afresh))
 
 counted-requires : tie.Need-counted-requires Inv-loop μ-loop
 counted-requires c κs =

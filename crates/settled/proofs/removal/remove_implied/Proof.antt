@@ -6,7 +6,7 @@ use lib.ListN.{length-replicate}
 use Rattle.table.specs.Table.{Table}
 use Rattle.round.specs.Views.{lentTable}
 use Rattle.round.specs.SignedSlots.{list-ready, list-keeps}
-use Rattle.settled.proofs.Others.{test-first, count-first}
+use Rattle.settled.proofs.TestFirst.{test-first, count-first}
 use Rattle.settled.proofs.removal.remove_implied.Statement.{statement}
 use Rattle.settled.proofs.removal.remove_implied.Tie as tie
 

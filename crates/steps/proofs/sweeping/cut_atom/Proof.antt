@@ -8,7 +8,7 @@ use Rattle.steps.proofs.sweeping.cut_atom.Tie as tie
 says-requires : tie.Need-says-requires
 says-requires c κs =
     let hears = c .before .before .before .before .pre in
-    ((hears .forms, (hears .variables, omega (arith, c .slot-of .ensures))), (hears .long, hears .signed))
+    ((hears .forms, (hears .variables, omega (arith, c .slot-of .ensures))), (hears .long, (hears .signed, hears .settles)))
 
 returns : tie.Need-returns
 returns c =

@@ -8,7 +8,7 @@ walk-over-requires : tie.Need-walk-over-requires
 walk-over-requires c κs =
     let pre = c .before .before .before .before .before .before .before .before .pre in
     let worked-out = c .before .before .sign-table in (
-      record { forms = pre .0; variables = pre .1 .0; signed = rw (worked-out .ensures) (table-signed _ _ (pre .0) (search needs)); long = worked-out .kept .1 .1 .1 .0 },
+      record { forms = pre .0; variables = pre .1 .0 .0; settles = pre .1 .0 .1; signed = rw (worked-out .ensures) (table-signed _ _ (pre .0) (search needs)); long = worked-out .kept .1 .1 .1 .0 },
       pre .1 .1,
     )
 

@@ -1,0 +1,4 @@
+pub mod Words
+pub mod Weights
+pub mod Masks
+pub mod Passes

@@ -1,0 +1,3 @@
+pub mod Rows
+pub mod Tries
+pub mod Sieve

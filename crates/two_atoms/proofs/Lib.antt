@@ -1,0 +1,9 @@
+pub mod Sums
+pub mod Totals
+pub mod Walks
+pub mod Findings
+pub mod Tries
+pub mod Factors
+pub mod Ranges
+pub mod RangeWalks
+pub mod Spares

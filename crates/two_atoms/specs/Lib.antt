@@ -1,0 +1,5 @@
+pub mod Sums
+pub mod Totals
+pub mod Tries
+pub mod Cuts
+pub mod Ranges
