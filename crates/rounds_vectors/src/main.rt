@@ -58,10 +58,32 @@ fn said(table: WorkingTable, variables: usize, state: State, polynomials: usize)
     let count = many(polynomials);
     let mut sign = [0u8; 1280];
     round::slots::sign_table(state.board, &monomial, &terms, &mut sign);
+    let mut masks = [0u64; 128];
+    let mut columns = [0u64; 130];
+    let falls = search::words::words_of(
+        &coefficient,
+        &monomial,
+        &terms,
+        &sign,
+        state.atoms,
+        &mut masks,
+        &mut columns,
+    );
     let mut sets = [0u8; 64];
     let mut i = 0;
     while i < count {
-        let set = settled::says(&coefficient, &monomial, &terms, &sign, variables, state, i);
+        let set = settled::says(
+            &coefficient,
+            &monomial,
+            &terms,
+            &sign,
+            &masks,
+            &columns,
+            falls,
+            variables,
+            state,
+            i,
+        );
         sets[i] = set.0;
         i += 1;
     }

@@ -84,6 +84,15 @@ firstAt t numbers sets board n i =
     firstCut (getD sets i 0)
     (tries board (formAt t (getD numbers i 0 % 64)) (atomsFrom t numbers sets 0 i ++ atomsFrom t numbers sets (i + 1) (n - (i + 1))))
 
+-- a set stored before them leaves the atoms from i on
+pub set-later : (t : Table) (numbers : List ℕ) (sets : List SignSet) (i k j : ℕ) (cut : SignSet) → j < i
+    → atomsFrom t numbers (set sets j cut) i k ≡ atomsFrom t numbers sets i k
+unfolding atomsFrom
+set-later t numbers sets i zero j cut h = refl
+set-later t numbers sets i (suc k) j cut h =
+    rw (getD-set-other sets j i cut 0 (λ (e : i ≡ j). omega arith))
+    (ap (λ (l : List Atom). atomAt t numbers sets i ∷ l) (set-later t numbers sets (suc i) k j cut (omega arith)))
+
 module _ (t : Table) (numbers : List ℕ) (sets : List SignSet) (board : Board) (n : ℕ) where
   later-at : (i k : ℕ) → i + suc k ≡ n → {x : Option SignSet} → firstAt t numbers sets board n i ≡ x
       → firstCut (getD sets i 0)
@@ -98,13 +107,6 @@ module _ (t : Table) (numbers : List ℕ) (sets : List SignSet) (board : Board) 
       let rest = rw (before-next t numbers sets i) at (atoms-idle (suc i) k (omega arith) (λ j h l. idle j (omega arith) l)) in
       rw (later-at i k e (idle i (omega arith) (omega arith)), rest)
 
-  set-later : (i k j : ℕ) (cut : SignSet) → j < i → atomsFrom t numbers (set sets j cut) i k ≡ atomsFrom t numbers sets i k
-  unfolding atomsFrom
-  set-later i zero j cut h = refl
-  set-later i (suc k) j cut h =
-      rw (getD-set-other sets j i cut 0 (λ (e : i ≡ j). omega arith))
-      (ap (λ (l : List Atom). atomAt t numbers sets i ∷ l) (set-later (suc i) k j cut (omega arith)))
-
   pub atoms-first : (i k d : ℕ) {cut : SignSet} → i + k ≡ n → d < k → i + d < length sets
       → ((j : ℕ) → i ≤ j → j < i + d → firstAt t numbers sets board n j ≡ none) → firstAt t numbers sets board n (i + d) ≡ some cut
       → searchAtoms board (atomsFrom t numbers sets 0 i) (atomsFrom t numbers sets i k) ≡ some (atomsFrom t numbers (set sets (i + d) cut) i k)
@@ -112,7 +114,7 @@ module _ (t : Table) (numbers : List ℕ) (sets : List SignSet) (board : Board) 
   atoms-first i zero d e a b idle f = absurd (omega arith)
   atoms-first i (suc k) zero {cut} e a b idle f =
       let here : i + 0 ≡ i = omega arith in
-      rw (here, later-at i k e (rw here at f), getD-set-same sets i cut 0 (omega arith), set-later (suc i) k i cut (omega arith))
+      rw (here, later-at i k e (rw here at f), getD-set-same sets i cut 0 (omega arith), set-later t numbers sets (suc i) k i cut (omega arith))
   atoms-first i (suc k) (suc d) {cut} e a b idle f =
       let next : i + suc d ≡ suc i + d = omega arith in
       let rest = rw (before-next t numbers sets i) at

@@ -1,6 +1,7 @@
 pub mod Walks
 pub mod Firsts
-pub mod Slots
+pub mod Nothing
+pub mod Silencing
 pub mod States
 pub mod Masking
 pub mod Skips

@@ -1,7 +1,6 @@
 -- The words of one atom are stored, those of the others stay; and the words of runs that are the places of a slot.
 -- So after a walk over a list each of its atoms has its words.
-use mathlib.Core.Path.{_≡_, refl, sym, ap₂, _∙_, subst}
-use mathlib.Core.Bool.{Bool, true, false, not, true≢false}
+use mathlib.Core.Path.{_≡_, sym, ap₂, _∙_, subst}
 use mathlib.Core.List.{List}
 use Prim.Native.Nat.{ℕ, _+_, _*_, _<_}
 use native.Mathlib.Omega.{arith}
@@ -83,7 +82,3 @@ falls-run ts k e f h = rw (e, f) h
 pub falls-slot : {ms : List ℕ} (ts : List ℕ) (k : ℕ) {run : Run} → run .from ≡ 16 * k → run .to ≡ 16 * k + getD ts k 0 → Falls ms (run .from) (run .to)
     → FallingSlot ms ts k
 falls-slot ts k e f h = rw (e, f) at h
-
-pub un-false : {b : Bool} → not b ≡ false → b ≡ true
-un-false {b = true} e = refl
-un-false {b = false} e = absurd (true≢false e)

@@ -18,7 +18,11 @@ pub record SlotPlaces (ms ts : List ℕ) : Type 0 where
 abbrev pub FallingSlot : List ℕ → List ℕ → ℕ → Type 0
 FallingSlot ms ts k = Falls ms (16 * k) (16 * k + getD ts k 0)
 
--- those of the form in slot p and of the atoms' forms
+-- those of the forms of a list's atoms
+pub record FallingList (ms ts : List ℕ) (a : Atoms) : Type 0 where
+  pub each : (i : ℕ) → i < many (a .count) → FallingSlot ms ts (atomSlot (a .number) i)
+
+-- those of the form in slot p too
 pub record FallingAtoms (ms ts : List ℕ) (a : Atoms) (p : ℕ) : Type 0 where
   pub own : FallingSlot ms ts p
-  pub atoms : (i : ℕ) → i < many (a .count) → FallingSlot ms ts (atomSlot (a .number) i)
+  pub atoms : FallingList ms ts a

@@ -2,5 +2,6 @@ pub mod Falling
 pub mod Filled
 pub mod Masked
 pub mod Noted
-pub mod Pairs
 pub mod Search
+pub mod Silent
+pub mod Words

@@ -36,6 +36,10 @@ whenFound false a = none
 pub record PairsFloor (n : ℕ) (atoms : List Atom) (board floor : Board) : Type 0 where
   pub idle : (i : ℕ) → i < n → getD board i full ≡ getD floor i full → firstCut (getD board i full) (tries board (variable n i) atoms) ≡ none
 
+-- Each variable has its floor's set.
+pub record AtFloor (b floor : Sets) : Type 0 where
+  pub each : (i : ℕ) → i < b .variables → getD (b .sets) i 0 ≡ getD (floor .sets) i 0
+
 -- r has the board's variables, and its sets are empty
 pub record Nowhere (b r : Sets) : Type 0 where
   pub variables : r .variables ≡ b .variables

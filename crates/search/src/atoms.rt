@@ -5,8 +5,10 @@ ghost use Rattle.round.specs.Views.{lentTable};
 ghost use Rattle.round.specs.Signing.{Ready};
 ghost use Rattle.search.specs.Filled.{Filled};
 ghost use Rattle.search.specs.Search.{SearchedAtoms};
+ghost use Rattle.search.specs.Words.{Words};
 use crate::pairs::cut_by_pairs;
-use crate::pairs::others;
+use crate::silent::silenced;
+use crate::words::words_of;
 use round::list::many;
 use signs::SignSet;
 use table::Atoms;
@@ -18,16 +20,21 @@ pub struct OfAtoms {
     pub atoms: Atoms,
 }
 
-pub fn search_atoms(
+// The first atom of which a pair of the others finds something, if there is one; the words of the atoms are lent.
+fn search_atoms_by(
     coefficient: &[i32],
     monomial: &[u64],
     terms: &[u8],
     sign: &[u8],
+    masks: &[u64],
+    columns: &[u64],
+    falls: bool,
     board: Board,
     atoms: Atoms,
 ) -> OfAtoms
     requires { let t = lentTable coefficient monomial terms (board .variables) in
         ⌜ Ready t (setsOf board) atoms (now sign) × Filled (setsOf board) ⌝ }
+    requires { ⌜ Words (now coefficient) (now monomial) (now terms) (now sign) atoms (now masks) (now columns) falls ⌝ }
     ensures { λ r.
         let t = lentTable (coefficient .entry) (monomial .entry) (terms .entry) (board .variables) in
         ⌜ SearchedAtoms t board atoms r ⌝ }
@@ -38,12 +45,15 @@ pub fn search_atoms(
         let number = atoms.number[i];
         let set = atoms.set[i];
         let k = (number % 64) as usize;
-        let rest = others(atoms, i);
+        let rest = silenced(atoms, i);
         let cut = cut_by_pairs(
             coefficient,
             monomial,
             terms,
             sign,
+            masks,
+            columns,
+            falls,
             board,
             rest,
             k,
@@ -64,4 +74,49 @@ pub fn search_atoms(
         found: false,
         atoms,
     }
+}
+
+// The same. The words are worked out if some atom has two others.
+pub fn search_atoms(
+    coefficient: &[i32],
+    monomial: &[u64],
+    terms: &[u8],
+    sign: &[u8],
+    board: Board,
+    atoms: Atoms,
+) -> OfAtoms
+    requires { let t = lentTable coefficient monomial terms (board .variables) in
+        ⌜ Ready t (setsOf board) atoms (now sign) × Filled (setsOf board) ⌝ }
+    ensures { λ r.
+        let t = lentTable (coefficient .entry) (monomial .entry) (terms .entry) (board .variables) in
+        ⌜ SearchedAtoms t board atoms r ⌝ }
+{
+    if atoms.count < 3 {
+        return OfAtoms {
+            found: false,
+            atoms,
+        };
+    }
+    let mut masks = [0u64; 128];
+    let mut columns = [0u64; 130];
+    let falls = words_of(
+        coefficient,
+        monomial,
+        terms,
+        sign,
+        atoms,
+        &mut masks,
+        &mut columns,
+    );
+    search_atoms_by(
+        coefficient,
+        monomial,
+        terms,
+        sign,
+        &masks,
+        &columns,
+        falls,
+        board,
+        atoms,
+    )
 }

@@ -1,8 +1,8 @@
-// Whether the monomials of p's form and of the forms of a list's atoms fall, which crate sieve asks; once for the list.
+// Whether the monomials of the forms of a list's atoms fall, which crate sieve asks; and those of p's form too.
 ghost use mathlib.Core.Path.{_≡_};
 ghost use mathlib.Core.Bool.{true};
 ghost use Prim.Native.Nat.{_<_};
-ghost use Rattle.search.specs.Falling.{SlotPlaces, FallingSlot, FallingAtoms};
+ghost use Rattle.search.specs.Falling.{SlotPlaces, FallingSlot, FallingList};
 use round::list::many;
 use round::slots::places;
 use sieve::rows::falls;
@@ -17,12 +17,12 @@ fn slot_falls(monomial: &[u64], terms: &[u8], k: usize) -> bool
     falls(monomial, run)
 }
 
-pub fn all_fall(monomial: &[u64], terms: &[u8], atoms: Atoms, p: usize) -> bool
-    requires { ⌜ SlotPlaces (now monomial) (now terms) × (p < 80) ⌝ }
-    ensures { λ r. ⌜ (r ≡ true → FallingAtoms (now (monomial .entry)) (now (terms .entry)) atoms p) ⌝ }
+// Of all atoms of a list.
+pub fn all_fall(monomial: &[u64], terms: &[u8], atoms: Atoms) -> bool
+    requires { ⌜ SlotPlaces (now monomial) (now terms) ⌝ }
+    ensures { λ r. ⌜ (r ≡ true → FallingList (now (monomial .entry)) (now (terms .entry)) atoms) ⌝ }
 {
     let n = many(atoms.count);
-    let own = slot_falls(monomial, terms, p);
     let mut i = 0;
     while i < n {
         let number = atoms.number[i];
@@ -32,5 +32,16 @@ pub fn all_fall(monomial: &[u64], terms: &[u8], atoms: Atoms, p: usize) -> bool
             return false;
         }
     }
-    own
+    true
+}
+
+// Of a list, of which it is known, and of the form in slot p.
+pub fn falls_with(monomial: &[u64], terms: &[u8], list: bool, p: usize) -> bool
+    requires { ⌜ SlotPlaces (now monomial) (now terms) × (p < 80) ⌝ }
+    ensures { λ r. ⌜ (r ≡ true → (list ≡ true) × FallingSlot (now (monomial .entry)) (now (terms .entry)) p) ⌝ }
+{
+    if list {
+        return slot_falls(monomial, terms, p);
+    }
+    false
 }

@@ -14,6 +14,8 @@ use round::slots::sign_list;
 pub mod masked; // the words by which pairs are left out
 pub mod noted; // and their columns, by which many are left out at once
 pub mod falling; // whether the monomials of the forms fall
+pub mod words; // all of these, once for a list
+pub mod silent; // a list in which an atom has no tries
 pub mod pairs; // what all pairs of a list leave of a set
 pub mod variables; // the search over the variables
 pub mod atoms; // the search over the atoms

@@ -2,7 +2,7 @@
 // first that changes it. "each pair of non-variable atoms other than p, in list order": the first goes through the list, the second comes after it.
 ghost use mathlib.Core.Path.{_≡_};
 ghost use mathlib.Core.Bool.{true};
-ghost use Prim.Native.Nat.{_+_, _<_, _≤_};
+ghost use Prim.Native.Nat.{_+_, _<_};
 ghost use Rattle.rules.specs.TwoAtoms.{tries, triesWith};
 ghost use Rattle.terms.specs.View.{setsOf};
 ghost use Rattle.table.specs.Table.{formAt, atomAt, atomsOf, many as manyOf};
@@ -13,17 +13,14 @@ ghost use Rattle.search.specs.Falling.{FallingAtoms};
 ghost use Rattle.search.specs.Filled.{Filled};
 ghost use Rattle.search.specs.Masked.{SlotMask, MaskedAtoms};
 ghost use Rattle.search.specs.Noted.{NotedAtoms};
-ghost use Rattle.search.specs.Pairs.{OthersOf};
-use crate::falling::all_fall;
+ghost use Rattle.search.specs.Words.{Words};
+use crate::falling::falls_with;
 use crate::masked::mask_at;
-use crate::masked::mask_list;
 use crate::masked::mask_of_slot;
-use crate::noted::note_list;
 use columns::candidates;
 use columns::next;
 use columns::still;
 use masks::Mask;
-use round::list::joined;
 use round::list::many;
 use round::slots::places;
 use sieve::cutting::cut_by_sifted_pair;
@@ -32,21 +29,6 @@ use table::Atoms;
 use terms::Board;
 use two_atoms::pair::Pair;
 use two_atoms::pair::stops;
-
-// The atoms of a list but the one at i, if there is one.
-pub fn others(atoms: Atoms, i: usize) -> Atoms
-    requires { ⌜ i ≤ manyOf (atoms .count) ⌝ }
-    ensures { λ r. ⌜ OthersOf atoms i r ⌝ }
-{
-    let number = atoms.number;
-    let set = atoms.set;
-    let before = Atoms {
-        count: i,
-        number,
-        set,
-    };
-    joined(before, atoms, i + 1)
-}
 
 // A set of the polynomial in slot p, cut by the pairs of the atom at i and those after it.
 fn cut_with(
@@ -119,12 +101,15 @@ fn cut_with(
     sofar
 }
 
-// A set of the polynomial in slot p, cut by all pairs of the atoms.
+// A set of the polynomial in slot p, cut by all pairs of the atoms, whose words are lent.
 pub fn cut_by_pairs(
     coefficient: &[i32],
     monomial: &[u64],
     terms: &[u8],
     sign: &[u8],
+    masks: &[u64],
+    columns: &[u64],
+    falls: bool,
     board: Board,
     atoms: Atoms,
     p: usize,
@@ -135,17 +120,14 @@ pub fn cut_by_pairs(
         ⌜ Ready t (setsOf board) atoms (now sign) × Filled (setsOf board) ⌝ }
     requires { let t = lentTable coefficient monomial terms (board .variables) in
         ⌜ (p < 80) × SignedSlot t (setsOf board) (now sign) p ⌝ }
+    requires { ⌜ Words (now coefficient) (now monomial) (now terms) (now sign) atoms (now masks) (now columns) falls ⌝ }
     ensures { λ r.
         let t = lentTable (coefficient .entry) (monomial .entry) (terms .entry) (board .variables) in
         ⌜ r .0 ≡ cutIn all (set .0) (tries (setsOf board) (formAt t p) (atomsOf t atoms)) ⌝ }
 {
     let n = many(atoms.count);
     let mask = mask_of_slot(coefficient, monomial, terms, sign, p);
-    let mut masks = [0u64; 128];
-    mask_list(coefficient, monomial, terms, sign, atoms, &mut masks);
-    let mut columns = [0u64; 130];
-    note_list(atoms, &masks, &mut columns);
-    let falls = all_fall(monomial, terms, atoms, p);
+    let all_fall = falls_with(monomial, terms, falls, p);
     let mut sofar = set;
     let mut i = 0;
     while i < n {
@@ -154,14 +136,14 @@ pub fn cut_by_pairs(
             monomial,
             terms,
             sign,
-            &masks,
-            &columns,
+            masks,
+            columns,
             board,
             atoms,
             i,
             p,
             mask,
-            falls,
+            all_fall,
             sofar,
             all,
         );

@@ -10,8 +10,8 @@ use Rattle.rules.specs.Signs.{SignSet, full, intersect}
 use Rattle.rules.specs.Polynomial.{Polynomial, Atom, Board, byTerms, same, variable, which}
 use Rattle.rules.specs.TwoAtoms.{tries, cutByAll}
 use Rattle.rules.specs.Rounds.{State, orNext, listed, held, unlessSame, otherThan, saysIn}
-use Rattle.sign_laws.specs.Sets.{PartOf, part-trans, intersect-first, intersect-below}
-use Rattle.ending_laws.specs.Cuts.{cutBy-part, cutBy-below}
+use Rattle.sign_laws.specs.Sets.{PartOf, part-trans, intersect-first}
+use Rattle.ending_laws.specs.Cuts.{cutBy-part}
 use Rattle.level_laws.specs.Same.{same-equal, which-variable, which-below}
 use Rattle.removal_laws.specs.Settled.{Settled}
 use Rattle.removal_laws.specs.Listed.{listed-no-pairs, variable-no-pairs}
@@ -22,6 +22,7 @@ use Rattle.round.specs.declared.slots.Holds.{Holds}
 use Rattle.round.specs.declared.slots.Holds.the-variants.{Variable, Form}
 use Rattle.round.specs.Views.{variableOf, stateOf}
 use Rattle.settled.specs.Others.{OtherThan, PairsMatter, saysBeforePairs}
+use Rattle.settled.proofs.ByPairs.{says-low}
 
 -- ---- a polynomial that is listed has a first atom
 
@@ -56,10 +57,6 @@ stands p (a ∷ l) h = by (same p (a .polynomial)) refl (stands p l) h
 -- ---- what a settled state says
 
 module _ {n : ℕ} {st : State} (s : Settled n st) (p : Polynomial) where
-  low : saysBeforePairs n st p < 8
-  unfolding saysBeforePairs
-  low = cutBy-below (st .board) p (st .atoms) _ (intersect-below (held (which n p) st p) (byTerms (st .board) p))
-
   part : PartOf (saysBeforePairs n st p) (held (which n p) st p)
   unfolding saysBeforePairs
   part = part-trans (cutBy-part (st .board) p (st .atoms) _) (intersect-first (held (which n p) st p) (byTerms (st .board) p))
@@ -72,7 +69,7 @@ module _ {n : ℕ} {st : State} (s : Settled n st) (p : Polynomial) where
   unfolding held Idle
   variable-idle i e =
       let there : PartOf (saysBeforePairs n st p) (getD (st .board) i full) = subst (λ (o : Option ℕ). PartOf (saysBeforePairs n st p) (held o st p)) e part in
-      subst Idle (sym (which-variable n p i e)) (variable-no-pairs s i (which-below n p i e) (saysBeforePairs n st p) low there)
+      subst Idle (sym (which-variable n p i e)) (variable-no-pairs s i (which-below n p i e) (saysBeforePairs n st p) (says-low n st p) there)
 
   listed-idle : which n p ≡ none → length (otherThan p (st .atoms)) < length (st .atoms) → Idle p
   unfolding held Idle
@@ -81,7 +78,7 @@ module _ {n : ℕ} {st : State} (s : Settled n st) (p : Polynomial) where
       let said = saysBeforePairs n st p in
       let there : PartOf said (listed p (st .atoms)) = subst (λ (o : Option ℕ). PartOf said (held o st p)) e part in
       subst Idle (at .polynomial)
-      (listed-no-pairs s (at .before) (at .atom) (at .later) (at .is) said low (subst (PartOf said) (at .set) there))
+      (listed-no-pairs s (at .before) (at .atom) (at .later) (at .is) said (says-low n st p) (subst (PartOf said) (at .set) there))
 
   idle-says : Idle p → saysIn n st p ≡ saysBeforePairs n st p
   unfolding saysIn saysBeforePairs Idle

@@ -12,6 +12,7 @@ use Rattle.table.specs.Table.{Table, Forms, formAt, atomsOf, many}
 use Rattle.round.specs.declared.State.{State as Left}
 use Rattle.round.specs.Views.{stateOf}
 use Rattle.round.specs.Signing.{atomSlot}
+use Rattle.search.specs.Silent.{Quieted, Silenced}
 
 -- the slot is that of one of the list's atoms
 pub record SlotOf (list : Atoms) (slot : ℕ) : Type 0 where
@@ -23,6 +24,11 @@ pub record SlotOf (list : Atoms) (slot : ℕ) : Type 0 where
 pub record OtherThan (list : Atoms) (number : ℕ) (r : Atoms) : Type 0 where
   pub atoms : (t : Table) → Forms t → atomsOf t r ≡ otherThan (formAt t number) (atomsOf t list)
   pub slots : (j : ℕ) → j < many (r .count) → SlotOf list (atomSlot (r .number) j)
+
+-- r is the list, where the atoms of slot number have the full set: they say nothing, as if they were not there
+pub record SilencedSlot (list : Atoms) (number : ℕ) (r : Atoms) : Type 0 where
+  pub silenced : Silenced list r
+  pub quieted : (t : Table) → Forms t → Quieted (atomsOf t r) (otherThan (formAt t number) (atomsOf t list))
 
 -- What a state says of p, and what these atoms say of p with its sign by terms, before the pairs of atoms are asked.
 unfoldable pub saysBeforePairs : ℕ → State → Polynomial → SignSet

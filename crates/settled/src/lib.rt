@@ -11,6 +11,7 @@ ghost use Rattle.terms.specs.View.{setsOf};
 ghost use Rattle.table.specs.Table.{Table, Forms, formAt, atomsOf};
 ghost use Rattle.round.specs.Views.{lentTable, variableOf, Below, stateOf};
 ghost use Rattle.round.specs.Signing.{SignedSlot, SignedTable, Ready};
+ghost use Rattle.search.specs.Words.{Words};
 ghost use Rattle.rounds.specs.Run.{NonVariable};
 ghost use Rattle.settled.specs.Carried.{Carried, carriedSet, carriedNext};
 ghost use Rattle.settled.specs.Others.{OtherThan, PairsMatter, saysBeforePairs};
@@ -24,6 +25,7 @@ use round::round::cut_by;
 use round::slots::Holds;
 use round::slots::places;
 use round::slots::which;
+use search::words::words_of;
 use signs::SignSet;
 use table::Atoms;
 use terms::Board;
@@ -118,12 +120,16 @@ fn pairs_matter(
     }
 }
 
-// What a settled state says of the polynomial in slot number, where the signs of all slots are worked out for its board.
+// What a settled state says of the polynomial in slot number, where the signs of all slots are worked out for its board, and the words of its atoms
+// by these.
 pub fn says(
     coefficient: &[i32],
     monomial: &[u64],
     terms: &[u8],
     sign: &[u8],
+    masks: &[u64],
+    columns: &[u64],
+    falls: bool,
     variables: usize,
     state: State,
     number: usize,
@@ -131,6 +137,7 @@ pub fn says(
     requires { ⌜ Forms (lentTable coefficient monomial terms variables) × ((state .board .variables ≡ variables) × (number < 64)) ⌝ }
     requires { let t = lentTable coefficient monomial terms variables in
         ⌜ (length (now sign) ≡ 1280) × (SignedTable t (setsOf (state .board)) (now sign) × Settled variables (stateOf t state)) ⌝ }
+    requires { ⌜ Words (now coefficient) (now monomial) (now terms) (now sign) (state .atoms) (now masks) (now columns) falls ⌝ }
     ensures { λ r.
         let t = lentTable (coefficient .entry) (monomial .entry) (terms .entry) variables in
         ⌜ r .0 ≡ saysIn variables (stateOf t state) (formAt t number) ⌝ }
@@ -153,9 +160,12 @@ pub fn says(
             monomial,
             terms,
             sign,
+            masks,
+            columns,
+            falls,
             variables,
             board,
-            others,
+            atoms,
             number,
             said,
         );
@@ -164,6 +174,7 @@ pub fn says(
 }
 
 // Whether what a settled state says of the polynomial in slot number lies inside a set, where only the signs that this takes are worked out.
+// The words of its atoms are worked out only where pairs have to be asked.
 pub fn says_inside(
     coefficient: &[i32],
     monomial: &[u64],
@@ -185,6 +196,9 @@ pub fn says_inside(
     let board = state.board;
     let atoms = state.atoms;
     let said = says_before_pairs(coefficient, monomial, terms, sign, variables, state, number);
+    if said.inside(bound) {
+        return true;
+    }
     let others = other_than(atoms, number);
     if pairs_matter(
         coefficient,
@@ -195,20 +209,34 @@ pub fn says_inside(
         others,
         number,
     ) {
+        let mut masks = [0u64; 128];
+        let mut columns = [0u64; 130];
+        let falls = words_of(
+            coefficient,
+            monomial,
+            terms,
+            sign,
+            atoms,
+            &mut masks,
+            &mut columns,
+        );
         return lies_inside(
             coefficient,
             monomial,
             terms,
             sign,
+            &masks,
+            &columns,
+            falls,
             variables,
             board,
-            others,
+            atoms,
             number,
             said,
             bound,
         );
     }
-    said.inside(bound)
+    false
 }
 
 // ---- the sets that the atoms of a list carry after its rounds

@@ -1,15 +1,17 @@
-// What the atoms of other polynomials say of a polynomial two at once, where its set is cut by the deductions from single atoms already.
-// 02, #111: "What a list says of p includes these": the findings of all pairs of atoms other than p.
+// What the atoms of other polynomials say of a polynomial two at once, where its set is cut by the deductions from single atoms already. 02, #111:
+// "What a list says of p includes these": the findings of all pairs of atoms other than p. The words of the list's forms are lent (crate search).
 ghost use mathlib.Core.Path.{_≡_};
 ghost use Prim.Native.Nat.{_<_};
 ghost use Rattle.rules.specs.Signs.{inside};
 ghost use Rattle.rules.specs.TwoAtoms.{tries, cutByAll};
+ghost use Rattle.rules.specs.Rounds.{otherThan};
 ghost use Rattle.terms.specs.View.{setsOf};
 ghost use Rattle.table.specs.Table.{formAt, atomsOf};
 ghost use Rattle.round.specs.Views.{lentTable};
 ghost use Rattle.round.specs.Signing.{SignedSlot, Ready};
 ghost use Rattle.search.specs.Filled.{Filled};
-ghost use Rattle.settled.specs.Others.{OtherThan};
+ghost use Rattle.search.specs.Words.{Words};
+ghost use Rattle.settled.specs.Others.{OtherThan, SilencedSlot};
 use round::list::many;
 use search::pairs::cut_by_pairs;
 use signs::SignSet;
@@ -40,25 +42,48 @@ pub fn other_than(list: Atoms, number: usize) -> Atoms
     others
 }
 
+// The list, in which the atoms of the polynomial in slot number have the full set: these have no tries, and the list's words serve it as they are.
+fn silent(list: Atoms, number: usize) -> Atoms
+    requires { ⌜ number < 64 ⌝ }
+    ensures { λ r. ⌜ SilencedSlot list number r ⌝ }
+{
+    let mut quiet = list;
+    let mut i = many(list.count);
+    while i > 0 {
+        i -= 1;
+        let other = list.number[i];
+        let k = (other % 64) as usize;
+        if number == k {
+            quiet.set[i] = SignSet::FULL.0;
+        }
+    }
+    quiet
+}
+
 // A set of the polynomial in slot number, cut by all pairs of the others. An empty set stays empty.
 pub fn cut_by_others(
     coefficient: &[i32],
     monomial: &[u64],
     terms: &[u8],
     sign: &[u8],
+    masks: &[u64],
+    columns: &[u64],
+    falls: bool,
     variables: usize,
     board: Board,
-    others: Atoms,
+    list: Atoms,
     number: usize,
     set: SignSet,
 ) -> SignSet
     requires { let t = lentTable coefficient monomial terms variables in
-        ⌜ Ready t (setsOf board) others (now sign) × ((board .variables ≡ variables) × (number < 64)) ⌝ }
+        ⌜ Ready t (setsOf board) list (now sign) × ((board .variables ≡ variables) × (number < 64)) ⌝ }
     requires { let t = lentTable coefficient monomial terms variables in
         ⌜ SignedSlot t (setsOf board) (now sign) number × Filled (setsOf board) ⌝ }
+    requires { ⌜ Words (now coefficient) (now monomial) (now terms) (now sign) list (now masks) (now columns) falls ⌝ }
     ensures { λ r.
         let t = lentTable (coefficient .entry) (monomial .entry) (terms .entry) variables in
-        ⌜ r .0 ≡ cutByAll (set .0) (tries (setsOf board) (formAt t number) (atomsOf t others)) ⌝ }
+        let p = formAt t number in
+        ⌜ r .0 ≡ cutByAll (set .0) (tries (setsOf board) p (otherThan p (atomsOf t list))) ⌝ }
 {
     if set.0 == 0 {
         return set;
@@ -68,47 +93,57 @@ pub fn cut_by_others(
         monomial,
         terms,
         sign,
+        masks,
+        columns,
+        falls,
         board,
-        others,
+        silent(list, number),
         number,
         set,
         true,
     )
 }
 
-// Whether what the pairs leave of a set lies inside another: they only narrow it, so that none is tried where it does already.
+// Whether what the pairs leave of a set lies inside another: whether they leave nothing of what is outside of that, which alone they have to cut.
 pub fn lies_inside(
     coefficient: &[i32],
     monomial: &[u64],
     terms: &[u8],
     sign: &[u8],
+    masks: &[u64],
+    columns: &[u64],
+    falls: bool,
     variables: usize,
     board: Board,
-    others: Atoms,
+    list: Atoms,
     number: usize,
     set: SignSet,
     bound: SignSet,
 ) -> bool
     requires { let t = lentTable coefficient monomial terms variables in
-        ⌜ Ready t (setsOf board) others (now sign) × ((board .variables ≡ variables) × (number < 64)) ⌝ }
+        ⌜ Ready t (setsOf board) list (now sign) × ((board .variables ≡ variables) × (number < 64)) ⌝ }
     requires { let t = lentTable coefficient monomial terms variables in
         ⌜ SignedSlot t (setsOf board) (now sign) number × Filled (setsOf board) ⌝ }
+    requires { ⌜ Words (now coefficient) (now monomial) (now terms) (now sign) list (now masks) (now columns) falls × (set .0 < 8) ⌝ }
     ensures { λ r.
         let t = lentTable (coefficient .entry) (monomial .entry) (terms .entry) variables in
-        ⌜ r ≡ inside (cutByAll (set .0) (tries (setsOf board) (formAt t number) (atomsOf t others))) (bound .0) ⌝ }
+        let p = formAt t number in
+        ⌜ r ≡ inside (cutByAll (set .0) (tries (setsOf board) p (otherThan p (atomsOf t list)))) (bound .0) ⌝ }
 {
-    if set.inside(bound) {
-        return true;
-    }
-    cut_by_others(
+    let outside = set.intersect(bound.complement());
+    let left = cut_by_others(
         coefficient,
         monomial,
         terms,
         sign,
+        masks,
+        columns,
+        falls,
         variables,
         board,
-        others,
+        list,
         number,
-        set,
-    ).inside(bound)
+        outside,
+    );
+    left.0 == SignSet::EMPTY.0
 }

@@ -13,6 +13,7 @@ ghost use Rattle.terms.specs.View.{setsOf};
 ghost use Rattle.table.specs.Table.{Forms, formAt, atomsOf};
 ghost use Rattle.round.specs.Views.{lentTable, stateOf};
 ghost use Rattle.round.specs.Signing.{SignedSlot, Ready};
+ghost use Rattle.search.specs.Words.{Words};
 ghost use Rattle.rounds.specs.Afresh.{AfreshFrom};
 ghost use Rattle.settled.specs.Remaining.{CarriedFrom, KeptUnless, RemainingOf};
 use crate::says_inside;
@@ -30,6 +31,7 @@ use round::slots::sign_list;
 use round::slots::sign_slot;
 use rounds::counting::fresh_rounds;
 use rounds::narrow::afresh;
+use search::words::words_of;
 use signs::SignSet;
 use table::Atoms;
 
@@ -111,6 +113,9 @@ fn goes(
     monomial: &[u64],
     terms: &[u8],
     sign: &[u8],
+    masks: &[u64],
+    columns: &[u64],
+    falls: bool,
     variables: usize,
     state: State,
     others: Atoms,
@@ -122,6 +127,7 @@ fn goes(
         ⌜ Ready t (setsOf (state .board)) (state .atoms) (now sign) × ((state .board .variables ≡ variables) × (number < 64)) ⌝ }
     requires { let t = lentTable coefficient monomial terms variables in
         ⌜ SignedSlot t (setsOf (state .board)) (now sign) number × AfreshFrom t state (atomsOf t others) ⌝ }
+    requires { ⌜ Words (now coefficient) (now monomial) (now terms) (now sign) (state .atoms) (now masks) (now columns) falls ⌝ }
     ensures { λ r.
         let t = lentTable (coefficient .entry) (monomial .entry) (terms .entry) variables in
         let a : Atom = record { polynomial = formAt t number; set = set .0 } in
@@ -132,6 +138,9 @@ fn goes(
         monomial,
         terms,
         sign,
+        masks,
+        columns,
+        falls,
         variables,
         state,
         number,
@@ -170,12 +179,16 @@ fn kept_unless(out: bool, kept: Remaining, list: Atoms, i: usize) -> Remaining
     next
 }
 
-// Step 5 with the test first, where the signs of the state's atoms and of the list's are worked out for the state's board.
+// Step 5 with the test first, where the signs of the state's atoms and of the list's are worked out for the state's board, and the words of the
+// state's atoms by these.
 fn remove(
     coefficient: &[i32],
     monomial: &[u64],
     terms: &[u8],
     sign: &[u8],
+    masks: &[u64],
+    columns: &[u64],
+    falls: bool,
     variables: usize,
     list: Atoms,
     state: State,
@@ -185,6 +198,7 @@ fn remove(
         ⌜ Ready t (setsOf (state .board)) (state .atoms) (now sign) × CarriedFrom t state (atomsOf t list) ⌝ }
     requires { let t = lentTable coefficient monomial terms variables in
         ⌜ Ready t (setsOf (state .board)) list (now sign) ⌝ }
+    requires { ⌜ Words (now coefficient) (now monomial) (now terms) (now sign) (state .atoms) (now masks) (now columns) falls ⌝ }
     ensures { λ r.
         let t = lentTable (coefficient .entry) (monomial .entry) (terms .entry) variables in
         ⌜ RemainingOf t list (removeFaster variables (stateOf t state) []) (r .remaining)
@@ -213,6 +227,9 @@ fn remove(
             monomial,
             terms,
             sign,
+            masks,
+            columns,
+            falls,
             variables,
             state,
             others,
@@ -246,6 +263,9 @@ fn remove_counting(
     monomial: &[u64],
     terms: &[u8],
     sign: &[u8],
+    masks: &[u64],
+    columns: &[u64],
+    falls: bool,
     variables: usize,
     list: Atoms,
     state: State,
@@ -255,6 +275,7 @@ fn remove_counting(
         ⌜ Ready t (setsOf (state .board)) (state .atoms) (now sign) × CarriedFrom t state (atomsOf t list) ⌝ }
     requires { let t = lentTable coefficient monomial terms variables in
         ⌜ Ready t (setsOf (state .board)) list (now sign) ⌝ }
+    requires { ⌜ Words (now coefficient) (now monomial) (now terms) (now sign) (state .atoms) (now masks) (now columns) falls ⌝ }
     ensures { λ r.
         let t = lentTable (coefficient .entry) (monomial .entry) (terms .entry) variables in
         ⌜ RemainingOf t list (removeFaster variables (stateOf t state) []) (r .remaining)
@@ -286,6 +307,9 @@ fn remove_counting(
             monomial,
             terms,
             sign,
+            masks,
+            columns,
+            falls,
             variables,
             state,
             others,
@@ -340,12 +364,26 @@ pub fn remove_implied(
     let mut sign = [0u8; 1280];
     sign_list(board, monomial, terms, atoms, &mut sign);
     sign_list(board, monomial, terms, list, &mut sign);
+    let mut masks = [0u64; 128];
+    let mut columns = [0u64; 130];
+    let falls = words_of(
+        coefficient,
+        monomial,
+        terms,
+        &sign,
+        atoms,
+        &mut masks,
+        &mut columns,
+    );
     if 2 * (variables + many(list.count)) + 1 <= largest {
         return remove(
             coefficient,
             monomial,
             terms,
             &sign,
+            &masks,
+            &columns,
+            falls,
             variables,
             list,
             state,
@@ -357,6 +395,9 @@ pub fn remove_implied(
         monomial,
         terms,
         &sign,
+        &masks,
+        &columns,
+        falls,
         variables,
         list,
         state,

@@ -10,6 +10,7 @@ ghost use Rattle.terms.specs.View.{setsOf};
 ghost use Rattle.table.specs.Table.{formAt, atomsOf};
 ghost use Rattle.round.specs.Views.{lentTable, stateOf};
 ghost use Rattle.round.specs.Signing.{SignedSlot, Ready};
+ghost use Rattle.search.specs.Words.{Words};
 ghost use Rattle.settled.specs.Others.{saidBeforePairs};
 use crate::others::lies_inside;
 use crate::others::other_than;
@@ -65,6 +66,9 @@ fn said_inside(
     monomial: &[u64],
     terms: &[u8],
     sign: &[u8],
+    masks: &[u64],
+    columns: &[u64],
+    falls: bool,
     variables: usize,
     state: State,
     number: usize,
@@ -74,12 +78,14 @@ fn said_inside(
         ⌜ Ready t (setsOf (state .board)) (state .atoms) (now sign) × ((state .board .variables ≡ variables) × (number < 64)) ⌝ }
     requires { let t = lentTable coefficient monomial terms variables in
         ⌜ SignedSlot t (setsOf (state .board)) (now sign) number × Settled variables (stateOf t state) ⌝ }
+    requires { ⌜ Words (now coefficient) (now monomial) (now terms) (now sign) (state .atoms) (now masks) (now columns) falls ⌝ }
     ensures { λ r.
         let t = lentTable (coefficient .entry) (monomial .entry) (terms .entry) variables in
         ⌜ r ≡ inside (saidByOthers (stateOf t state) (formAt t number)) (set .0) ⌝ }
 {
     let board = state.board;
-    let others = other_than(state.atoms, number);
+    let atoms = state.atoms;
+    let others = other_than(atoms, number);
     let said = said_before_pairs(
         coefficient,
         monomial,
@@ -95,9 +101,12 @@ fn said_inside(
         monomial,
         terms,
         sign,
+        masks,
+        columns,
+        falls,
         variables,
         board,
-        others,
+        atoms,
         number,
         said,
         set,
@@ -110,6 +119,9 @@ pub fn stays(
     monomial: &[u64],
     terms: &[u8],
     sign: &[u8],
+    masks: &[u64],
+    columns: &[u64],
+    falls: bool,
     variables: usize,
     state: State,
     number: usize,
@@ -119,6 +131,7 @@ pub fn stays(
         ⌜ Ready t (setsOf (state .board)) (state .atoms) (now sign) × ((state .board .variables ≡ variables) × (number < 64)) ⌝ }
     requires { let t = lentTable coefficient monomial terms variables in
         ⌜ SignedSlot t (setsOf (state .board)) (now sign) number × Settled variables (stateOf t state) ⌝ }
+    requires { ⌜ Words (now coefficient) (now monomial) (now terms) (now sign) (state .atoms) (now masks) (now columns) falls ⌝ }
     ensures { λ r.
         let t = lentTable (coefficient .entry) (monomial .entry) (terms .entry) variables in
         ⌜ r ≡ staysBy variables (stateOf t state) (record { polynomial = formAt t number; set = set .0 }) ⌝ }
@@ -131,6 +144,9 @@ pub fn stays(
             monomial,
             terms,
             sign,
+            masks,
+            columns,
+            falls,
             variables,
             state,
             number,

@@ -22,14 +22,17 @@ use Rattle.tape.specs.Tape.{Children, laid, orsIn}
 use Rattle.tape.specs.Walked.{Stands, afterwards, load}
 use Rattle.round.specs.Views.{stateOf}
 use Rattle.round.specs.Signing.{SignedTable}
+use Rattle.search.specs.Words.{Words}
 
--- What asking the list needs: a state that rounds over the table settled in, and the signs of all slots of the table on the state's board.
-pub record Hears (t : Table) (state : State) (sign : List ℕ) : Type 0 where
+-- What asking the list needs: a state that rounds over the table settled in, the signs of all slots of the table on the state's board, and by these
+-- the words of its atoms.
+pub record Hears (t : Table) (state : State) (sign masks columns : List ℕ) (falls : Bool) : Type 0 where
   pub forms : Forms t
   pub variables : state .board .variables ≡ t .variables
   pub settles : Settled (t .variables) (stateOf t state)
   pub signed : SignedTable t (setsOf (state .board)) sign
   pub long : length sign ≡ 1280
+  pub words : Words (t .coefficient) (t .monomial) (t .terms) sign (state .atoms) masks columns falls
 
 -- What the list says of the polynomial of a token.
 abbrev pub said : Table → State → ℕ → SignSet

@@ -14,6 +14,7 @@ ghost use Rattle.tape.specs.Walked.{Stands};
 ghost use Rattle.steps.specs.Swept.{Hears, CutIs, PruneIs, EntersPruned, SweepIs};
 use round::State;
 use round::slots::sign_table;
+use search::words::words_of;
 use settled::says;
 use signs::SignSet;
 use tape::rows::Row;
@@ -48,11 +49,14 @@ fn cut_atom(
     monomial: &[u64],
     terms: &[u8],
     sign: &[u8],
+    masks: &[u64],
+    columns: &[u64],
+    falls: bool,
     variables: usize,
     state: State,
     token: u32,
 ) -> Cut
-    requires { ⌜ Hears (lentTable coefficient monomial terms variables) state (now sign) ⌝ }
+    requires { ⌜ Hears (lentTable coefficient monomial terms variables) state (now sign) (now masks) (now columns) falls ⌝ }
     ensures { λ r. let t = lentTable (coefficient .entry) (monomial .entry) (terms .entry) variables in ⌜ CutIs t state token r ⌝ }
 {
     let said = says(
@@ -60,6 +64,9 @@ fn cut_atom(
         monomial,
         terms,
         sign,
+        masks,
+        columns,
+        falls,
         variables,
         state,
         slot_of(token),
@@ -81,13 +88,17 @@ fn prune(
     monomial: &[u64],
     terms: &[u8],
     sign: &[u8],
+    masks: &[u64],
+    columns: &[u64],
+    falls: bool,
     variables: usize,
     state: State,
     row: &[u32],
     from: usize,
     to: usize,
 ) -> Pruned
-    requires { ⌜ Hears (lentTable coefficient monomial terms variables) state (now sign) × ((from ≤ to) × ((to ≤ length (now row)) × (to ≤ 256))) ⌝ }
+    requires { ⌜ Hears (lentTable coefficient monomial terms variables) state (now sign) (now masks) (now columns) falls
+        × ((from ≤ to) × ((to ≤ length (now row)) × (to ≤ 256))) ⌝ }
     ensures { λ r. let t = lentTable (coefficient .entry) (monomial .entry) (terms .entry) variables in ⌜ (r .list .count + from ≤ to) × ((k : ℕ) (l : List ℕ) → Lists (rowOf (now (row .entry)) k) l → to ≤ length l → PruneIs t state (take (to - from) (drop from l)) r) ⌝ }
 {
     let mut left = [0u32; 256];
@@ -96,7 +107,18 @@ fn prune(
     while i < to {
         let token = row[i];
         i += 1;
-        let cut = cut_atom(coefficient, monomial, terms, sign, variables, state, token);
+        let cut = cut_atom(
+            coefficient,
+            monomial,
+            terms,
+            sign,
+            masks,
+            columns,
+            falls,
+            variables,
+            state,
+            token,
+        );
         if cut.implied {
             return Pruned {
                 dropped: true,
@@ -126,6 +148,9 @@ fn enter_pruned(
     monomial: &[u64],
     terms: &[u8],
     sign: &[u8],
+    masks: &[u64],
+    columns: &[u64],
+    falls: bool,
     variables: usize,
     state: State,
     walked: Walked,
@@ -134,7 +159,9 @@ fn enter_pruned(
     atoms: usize,
     tokens: usize,
 ) -> Walked
-    requires { ⌜ Hears (lentTable coefficient monomial terms variables) state (now sign) × ((length (now row) ≡ 256) × ((place + atoms + tokens + 1 ≤ 256) × (walked .new .count + walked .ors .count + atoms + tokens + 1 ≤ 256))) ⌝ }
+    requires { ⌜ Hears (lentTable coefficient monomial terms variables) state (now sign) (now masks) (now columns) falls
+        × ((length (now row) ≡ 256)
+        × ((place + atoms + tokens + 1 ≤ 256) × (walked .new .count + walked .ors .count + atoms + tokens + 1 ≤ 256))) ⌝ }
     ensures { λ r. let t = lentTable (coefficient .entry) (monomial .entry) (terms .entry) variables in ⌜ ((k : ℕ) (walk : Walk) (all l : List ℕ) (own : Children) (rest : List ℕ) → Stands t walked walk → Lists (rowOf (now (row .entry)) k) all → ChildAt all place atoms tokens l own rest → EntersPruned t state walked walk l own r) ⌝ }
 {
     let inner = place + 1 + atoms;
@@ -143,6 +170,9 @@ fn enter_pruned(
         monomial,
         terms,
         sign,
+        masks,
+        columns,
+        falls,
         variables,
         state,
         row,
@@ -163,18 +193,21 @@ fn enter_pruned(
     )
 }
 
-// All children in the first n tokens of a list, with the signs of the table's monomials worked out.
+// All children in the first n tokens of a list, with the signs of the table's monomials and the words of the state's atoms worked out.
 fn walk_over(
     coefficient: &[i32],
     monomial: &[u64],
     terms: &[u8],
     sign: &[u8],
+    masks: &[u64],
+    columns: &[u64],
+    falls: bool,
     variables: usize,
     state: State,
     ors: &[u32],
     n: usize,
 ) -> Walked
-    requires { ⌜ Hears (lentTable coefficient monomial terms variables) state (now sign)
+    requires { ⌜ Hears (lentTable coefficient monomial terms variables) state (now sign) (now masks) (now columns) falls
         × ((length (now ors) ≡ 256) × ((n ≤ 256) × ((children : Children) × Lists (rowOf (now ors) n) (laid children)))) ⌝ }
     ensures { λ r. let t = lentTable (coefficient .entry) (monomial .entry) (terms .entry) variables in ⌜ ((children : Children) → Lists (rowOf (now (ors .entry)) n) (laid children) → SweepIs t state children r) ⌝ }
 {
@@ -189,6 +222,9 @@ fn walk_over(
             monomial,
             terms,
             sign,
+            masks,
+            columns,
+            falls,
             variables,
             state,
             walked,
@@ -202,7 +238,7 @@ fn walk_over(
     walked
 }
 
-// The signs are worked out once for the state's board, and serve each atom of each child.
+// The signs are worked out once for the state's board, and so are the words of its atoms; they serve each atom of each child.
 pub fn sweep(
     coefficient: &[i32],
     monomial: &[u64],
@@ -219,12 +255,27 @@ pub fn sweep(
 {
     let mut sign = [0u8; 1280];
     let board = state.board;
+    let atoms = state.atoms;
     sign_table(board, monomial, terms, &mut sign);
+    let mut masks = [0u64; 128];
+    let mut columns = [0u64; 130];
+    let falls = words_of(
+        coefficient,
+        monomial,
+        terms,
+        &sign,
+        atoms,
+        &mut masks,
+        &mut columns,
+    );
     walk_over(
         coefficient,
         monomial,
         terms,
         &sign,
+        &masks,
+        &columns,
+        falls,
         variables,
         state,
         ors,

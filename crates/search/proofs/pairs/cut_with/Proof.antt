@@ -106,8 +106,8 @@ cut-by-sifted-pair-requires c κs =
       ),
       λ e. record {
         p = falls-run (s .args .terms .now) (s .args .p) (p .0) (p .1) (falling e .own);
-        q1 = falls-run (s .args .terms .now) (slot i) (q1 .0) (q1 .1) (falling e .atoms i at);
-        q2 = falls-run (s .args .terms .now) (slot j) (q2 .0) (q2 .1) (falling e .atoms j next);
+        q1 = falls-run (s .args .terms .now) (slot i) (q1 .0) (q1 .1) (falling e .atoms .each i at);
+        q2 = falls-run (s .args .terms .now) (slot j) (q2 .0) (q2 .1) (falling e .atoms .each j next);
       },
     )
 

@@ -1,100 +1,42 @@
--- `search_board` meets its contract: nothing was found of the variables so far.
+-- `search_board` meets its contract: without a pair, and where each variable has its floor's set, nothing is found.
 use borrow.Author.Needs.{needs}
-use borrow.Author.Count.{below-more}
-use mathlib.Core.Path.{_≡_, refl, sym, _∙_, ap}
-use mathlib.Core.Bool.{true≢false}
-use mathlib.Core.Option.{Option, none, some}
-use Prim.Native.Nat.{ℕ, _<_, _≤_, _-_}
-use native.Mathlib.Omega.{arith}
-use lib.ListN.{length, getD}
-use Rattle.rules.specs.Signs.{SignSet, full}
-use Rattle.rules.specs.Polynomial.{variable}
-use Rattle.rules.specs.TwoAtoms.{tries, firstCut}
-use Rattle.terms.specs.declared.Board.{Board}
-use Rattle.terms.specs.View.{few, setsOf, length-numbers}
-use Rattle.table.specs.declared.Atoms.{Atoms}
-use Rattle.table.specs.Table.{Table, atomsOf}
-use Rattle.round.specs.Views.{tableOf, lentTable}
-use Rattle.round.specs.Boards.{set-at, changed-at}
-use Rattle.search.specs.Search.{whenFound}
-use Rattle.search.proofs.Firsts.{found-first, found-none, first-of-board, none-of-board}
+use borrow.Author.Tests.{not-true}
+use mathlib.Core.Path.{refl}
+use Rattle.table.specs.Table.{Table}
+use Rattle.round.specs.Views.{lentTable}
+use Rattle.round.specs.SignedSlots.{form-slots}
+use Rattle.search.proofs.Nothing.{no-pair, all-at-floor}
 use Rattle.search.proofs.variables.search_board.Statement.{statement}
 use Rattle.search.proofs.variables.search_board.Tie as tie
 
--- what is first found of variable j
-abbrev firstOf : Table → Board → Atoms → ℕ → Option SignSet
-firstOf t b a j = firstCut (getD (setsOf b) j full) (tries (setsOf b) (variable (b .variables) j) (atomsOf t a))
+abbrev table : tie.Start → Table
+table s = lentTable (s .args .coefficient) (s .args .monomial) (s .args .terms) (s .args .board .variables)
 
-abbrev Inv-loop : tie.InvT-loop
-Inv-loop coefficient monomial terms sign atoms floor board n i₀ i =
-    (j : ℕ) → j < i → firstOf (tableOf coefficient monomial terms (board .variables)) board atoms j ≡ none
-
-abbrev μ-loop : tie.MeasureT-loop
-μ-loop coefficient monomial terms sign atoms floor board n i₀ i = n - i
-
-abbrev table : tie.Start Inv-loop μ-loop → Table
-table s = lentTable (s .args .coefficient) (s .args .monomial) (s .args .terms) (s .args .t5 .variables)
-
-cut-variable-requires : tie.Need-cut-variable-requires Inv-loop μ-loop
-cut-variable-requires c κs =
-    let s = c .before .before .before .before .before .before in
-    (s .pre .0, (s .pre .1, omega arith))
-
-returns : tie.Need-returns Inv-loop μ-loop
-unfolding whenFound
+returns : tie.Need-returns
 returns c =
-    let s = c .before .before .before .before .before .before .before .before .before in
-    let b = s .args .t5 in
-    let l = c .before .before .before .before .before .loop in
-    let atoms = atomsOf (table s) (s .args .atoms) in
-    let findings = tries (setsOf b) (variable (b .variables) (l .i)) atoms in
-    let cut = c .before .before .cut-variable .ensures in
-    let next : l .i < b .variables = omega arith in
-    let low : l .i < few (b .variables) = omega (arith, s .pre .0 .0 .forms .variables) in
-    let sixteen : length (b .sets) ≡ 16 = search needs in
-    let within : l .i < length (b .sets) = omega arith in
-    let inside : l .i < length (setsOf b) = rw (length-numbers (b .sets) 0 (few (b .variables))) low in
-    let here : firstOf (table s) b (s .args .atoms) (l .i) ≡ some (c .before .before .cut-variable .result .0) =
-    rw (set-at (b .sets) (l .i) (few (b .variables)) low) (found-first (getD (b .sets) (l .i) 0) findings cut (c .if1 .taken)) in
-    record {
-      found =
-          ap some (changed-at (b .sets) (l .i) (few (b .variables)) low (c .before .before .cut-variable .result .0) within)
-          ∙ sym (first-of-board (b .variables) atoms (setsOf b) (b .variables) (setsOf b) (l .i) next inside (l .inv) here);
-      variables = refl;
-      itself = λ e. absurd (true≢false e);
-    }
-
-loop-again : tie.Need-loop-again Inv-loop μ-loop
-loop-again c =
-    let s = c .before .before .before .before .before .before .before .before .before in
-    let b = s .args .t5 in
-    let l = c .before .before .before .before .before .loop in
-    let atoms = atomsOf (table s) (s .args .atoms) in
-    let findings = tries (setsOf b) (variable (b .variables) (l .i)) atoms in
-    let cut = c .before .before .cut-variable .ensures in
-    let low : l .i < few (b .variables) = omega (arith, s .pre .0 .0 .forms .variables) in
-    let here : firstOf (table s) b (s .args .atoms) (l .i) ≡ none =
-    rw (set-at (b .sets) (l .i) (few (b .variables)) low) (found-none (getD (b .sets) (l .i) 0) findings cut (c .if1 .left)) in
-    below-more (λ (j : ℕ). firstOf (table s) b (s .args .atoms) j ≡ none) (l .i) (l .inv) here
-
-returns-2 : tie.Need-returns-2 Inv-loop μ-loop
-unfolding whenFound
-returns-2 c =
     let s = c .before .before .before .before .before in
-    let b = s .args .t5 in
-    let l = c .before .loop in
-    let atoms = atomsOf (table s) (s .args .atoms) in
-    let h : b .variables ≤ l .i = omega arith in
-    record {
-      found = sym (none-of-board (b .variables) atoms (setsOf b) (b .variables) (setsOf b) (λ j low. l .inv j (omega arith)));
-      variables = refl;
-      itself = λ e. refl;
-    }
+    no-pair (table s) (s .args .board) (s .args .atoms) (c .if1 .taken)
+
+returns-2 : tie.Need-returns-2
+returns-2 c =
+    let s = c .before .before .before .before .before .before .before in
+    let (idle, same) = s .pre .1 in
+    all-at-floor (s .args .board) (s .args .floor) (s .pre .0 .0 .forms .variables) same (table s) (s .args .atoms) refl idle
+    (c .before .above .ensures (not-true (c .before .above .result) (c .if2 .taken)))
+
+words-of-requires : tie.Need-words-of-requires
+words-of-requires c κs =
+    let s = c .before .before .before .before .before .before .before .before .before in
+    let (ready, filled) = s .pre .0 in
+    (form-slots (ready .forms) (ready .places), (ready .forms .coefficients, (refl, refl)))
+
+search-board-by-requires : tie.Need-search-board-by-requires
+search-board-by-requires c κs =
+    let s = c .before .before .before .before .before .before .before .before .before .before .before .before .before .before in
+    (s .pre .0, (s .pre .1, c .before .before .before .before .words-of .ensures))
 
 pub search-board-spec : {M : Type 1} → statement M
 search-board-spec =
     tie.close
-    (tie.spec Inv-loop μ-loop (λ c j h. absurd (omega arith))
-    (λ c. omega (arith, c .before .before .before .before .before .pre .0 .0 .forms .variables)) cut-variable-requires
-    (λ c. omega (arith, c .before .before .before .before .before .before .before .before .before .pre .0 .0 .forms .variables)) returns
-    (λ c. search needs) (λ c. search needs) loop-again returns-2)
+    (tie.spec returns (λ c κs. search needs) returns-2 (λ c. search needs) (λ c. search needs) words-of-requires (λ c. search needs)
+    (λ c. search needs) search-board-by-requires (λ c. c .search-board-by .ensures))

@@ -7,9 +7,9 @@ use Rattle.settled.proofs.removal.goes.Tie as tie
 
 stays-requires : tie.Need-stays-requires
 stays-requires c κs =
-    let s = c .before .before .before in
-    let from = s .pre .1 .1 in
-    (s .pre .0, (s .pre .1 .0, run-settles (s .args .variables) (from .given) (from .settles)))
+    let s = c .before .before .before .before .before in
+    let ((own, from), words) = s .pre .1 in
+    (s .pre .0, ((own, run-settles (s .args .variables) (from .given) (from .settles)), words))
 
 returns : tie.Need-returns
 returns c = rw (sym (c .before .stays .ensures), c .if1 .taken)

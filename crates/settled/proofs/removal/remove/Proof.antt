@@ -18,37 +18,37 @@ use Rattle.settled.proofs.removal.remove.Statement.{statement}
 use Rattle.settled.proofs.removal.remove.Tie as tie
 
 abbrev Inv-loop : tie.InvT-loop
-Inv-loop coefficient monomial terms sign variables state largest list end kept₀ order₀ rounds₀ i₀ kept order rounds i =
+Inv-loop coefficient monomial terms sign masks columns falls variables state largest list end kept₀ order₀ rounds₀ i₀ kept order rounds i =
     let t = tableOf coefficient monomial terms variables in
     (i ≤ end) × ((end ≡ many (list .count))
     × (Removing t (stateOf t state) list i kept × (Some (atomsOf t list) (atomsOf t (kept .atoms) ++ rest t list i)
     × Counting t (stateOf t state) list largest i kept rounds)))
 
 abbrev μ-loop : tie.MeasureT-loop
-μ-loop coefficient monomial terms sign variables state largest list end kept₀ order₀ rounds₀ i₀ kept order rounds i = end - i
+μ-loop coefficient monomial terms sign masks columns falls variables state largest list end kept₀ order₀ rounds₀ i₀ kept order rounds i = end - i
 
 abbrev table : tie.Start Inv-loop μ-loop → Table
 table s = lentTable (s .args .coefficient) (s .args .monomial) (s .args .terms) (s .args .variables)
 
 goes-requires : tie.Need-goes-requires Inv-loop μ-loop
 goes-requires c κs =
-    let s = c .before .before .before .before .before .before .before .before .before .before .before in
+    let s = c .before .before .before .before .before .before .before .before .before .before .before .before .before in
     let (ready, from) = s .pre .0 in
     let l = c .before .before .before .before .before .loop in
-    let afresh = afresh-others (s .args .t6) (atomsOf (table s) (l .kept .atoms)) from (omega (arith, l .inv .1 .0)) (l .inv .1 .1 .1 .0) (c .joined .ensures (table s)) in
-    ((ready, (from .variables, omega arith)), (s .pre .1 .atoms (l .i) (omega arith), afresh))
+    let afresh = afresh-others (s .args .t9) (atomsOf (table s) (l .kept .atoms)) from (omega (arith, l .inv .1 .0)) (l .inv .1 .1 .1 .0) (c .joined .ensures (table s)) in
+    ((ready, (from .variables, omega arith)), ((s .pre .1 .0 .atoms (l .i) (omega arith), afresh), s .pre .1 .1))
 
 fresh-rounds-requires : tie.Need-fresh-rounds-requires Inv-loop μ-loop
 fresh-rounds-requires c κs =
-    let s = c .before .before .before .before .before .before .before .before .before .before .before .before .before in
+    let s = c .before .before .before .before .before .before .before .before .before .before .before .before .before .before .before in
     let (ready, from) = s .pre .0 in
     let l = c .before .before .before .before .before .before .before .loop in
-    (ready .forms, afresh-others (s .args .t6) (atomsOf (table s) (l .kept .atoms)) from (omega (arith, l .inv .1 .0)) (l .inv .1 .1 .1 .0) (c .before .before .joined .ensures (table s)))
+    (ready .forms, afresh-others (s .args .t9) (atomsOf (table s) (l .kept .atoms)) from (omega (arith, l .inv .1 .0)) (l .inv .1 .1 .1 .0) (c .before .before .joined .ensures (table s)))
 
 loop-again : tie.Need-loop-again Inv-loop μ-loop
 loop-again c =
-    let s = c .before .before .before .before .before .before .before .before .before .before .before .before .before .before .before in
-    let a = s .args .t6 in
+    let s = c .before .before .before .before .before .before .before .before .before .before .before .before .before .before .before .before .before in
+    let a = s .args .t9 in
     let l = c .before .before .before .before .before .before .before .before .before .loop in
     let atom : Atom = atomAt (table s) (a .number) (a .set) (l .i) in
     let stays : Bool = staysBy (s .args .variables) (stateOf (table s) (s .args .state)) atom in

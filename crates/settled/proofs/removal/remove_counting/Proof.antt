@@ -19,29 +19,29 @@ use Rattle.settled.proofs.removal.remove_counting.Statement.{statement}
 use Rattle.settled.proofs.removal.remove_counting.Tie as tie
 
 abbrev Inv-loop : tie.InvT-loop
-Inv-loop coefficient monomial terms sign variables state largest list end kept₀ order₀ counting₀ i₀ kept order counting i =
+Inv-loop coefficient monomial terms sign masks columns falls variables state largest list end kept₀ order₀ counting₀ i₀ kept order counting i =
     let t = tableOf coefficient monomial terms variables in
     (i ≤ end) × ((end ≡ many (list .count))
     × (Removing t (stateOf t state) list i kept × (Some (atomsOf t list) (atomsOf t (kept .atoms) ++ rest t list i)
     × (Counting t (stateOf t state) list largest i kept (counting .rounds) × Known t state (atomsOf t (kept .atoms) ++ rest t list i) (counting .common)))))
 
 abbrev μ-loop : tie.MeasureT-loop
-μ-loop coefficient monomial terms sign variables state largest list end kept₀ order₀ counting₀ i₀ kept order counting i = end - i
+μ-loop coefficient monomial terms sign masks columns falls variables state largest list end kept₀ order₀ counting₀ i₀ kept order counting i = end - i
 
 abbrev table : tie.Start Inv-loop μ-loop → Table
 table s = lentTable (s .args .coefficient) (s .args .monomial) (s .args .terms) (s .args .variables)
 
 goes-requires : tie.Need-goes-requires Inv-loop μ-loop
 goes-requires c κs =
-    let s = c .before .before .before .before .before .before .before .before .before .before .before .before in
+    let s = c .before .before .before .before .before .before .before .before .before .before .before .before .before .before in
     let (ready, from) = s .pre .0 in
     let l = c .before .before .before .before .before .loop in
-    let afresh = afresh-others (s .args .t6) (atomsOf (table s) (l .kept .atoms)) from (omega (arith, l .inv .1 .0)) (l .inv .1 .1 .1 .0) (c .joined .ensures (table s)) in
-    ((ready, (from .variables, omega arith)), (s .pre .1 .atoms (l .i) (omega arith), afresh))
+    let afresh = afresh-others (s .args .t9) (atomsOf (table s) (l .kept .atoms)) from (omega (arith, l .inv .1 .0)) (l .inv .1 .1 .1 .0) (c .joined .ensures (table s)) in
+    ((ready, (from .variables, omega arith)), ((s .pre .1 .0 .atoms (l .i) (omega arith), afresh), s .pre .1 .1))
 
 counted-requires : tie.Need-counted-requires Inv-loop μ-loop
 counted-requires c κs =
-    let s = c .before .before .before .before .before .before .before .before .before .before .before .before .before .before in
+    let s = c .before .before .before .before .before .before .before .before .before .before .before .before .before .before .before .before in
     let (ready, from) = s .pre .0 in
     let l = c .before .before .before .before .before .before .before .loop in
     let more = c .before .before .before .before .before .before .loop-test .taken in (
@@ -50,7 +50,7 @@ counted-requires c κs =
         record {
           low = omega (arith, more, l .inv .1 .0);
           room = omega (arith, more, l .inv .1 .0, l .inv .1 .1 .0 .count);
-          afresh = afresh-remaining (s .args .t6) from (l .inv .1 .1 .1 .0);
+          afresh = afresh-remaining (s .args .t9) from (l .inv .1 .1 .1 .0);
           are = c .before .before .joined .ensures (table s);
         },
         l .inv .1 .1 .1 .1 .1,
@@ -59,8 +59,8 @@ counted-requires c κs =
 
 loop-again : tie.Need-loop-again Inv-loop μ-loop
 loop-again c =
-    let s = c .before .before .before .before .before .before .before .before .before .before .before .before .before .before .before .before in
-    let a = s .args .t6 in
+    let s = c .before .before .before .before .before .before .before .before .before .before .before .before .before .before .before .before .before .before in
+    let a = s .args .t9 in
     let l = c .before .before .before .before .before .before .before .before .before .loop in
     let atom : Atom = atomAt (table s) (a .number) (a .set) (l .i) in
     let stays : Bool = staysBy (s .args .variables) (stateOf (table s) (s .args .state)) atom in

@@ -12,12 +12,12 @@ use Rattle.steps.proofs.sweeping.prune.Statement.{statement}
 use Rattle.steps.proofs.sweeping.prune.Tie as tie
 
 abbrev Inv-loop : tie.InvT-loop
-Inv-loop coefficient monomial terms sign variables state row from to left₀ count₀ i₀ left count i =
+Inv-loop coefficient monomial terms sign masks columns falls variables state row from to left₀ count₀ i₀ left count i =
     (i ≤ to) × ((count + from ≤ i) × ((length left ≡ 256) × ((k : ℕ) (l : List ℕ) → Lists (rowOf row k) l → to ≤ length l
     → Pruning (tableOf coefficient monomial terms variables) state (take (to - from) (drop from l)) (rowOf left count) (take (to - i) (drop i l)))))
 
 abbrev μ-loop : tie.MeasureT-loop
-μ-loop coefficient monomial terms sign variables state row from to left₀ count₀ i₀ left count i = to - i
+μ-loop coefficient monomial terms sign masks columns falls variables state row from to left₀ count₀ i₀ left count i = to - i
 
 drops : tie.Need-returns Inv-loop μ-loop
 drops c =
@@ -39,7 +39,7 @@ keeps c =
           simp length-set (inv .1 .1 .0),
           λ n l h k.
               prune-keep (rw (part-next (loop .i) _ h test k) at (inv .1 .1 .1 n l h k)) _ (c .before .before .before .cut-atom .ensures) (c .before .before .if1 .left) (not-true _ (c .if2 .taken)) _
-              (stored (loop .left) (loop .count) _ (omega (arith, test, inv .1 .0, inv .1 .1 .0, c .before .before .before .before .before .before .before .before .before .before .before .pre .1 .1 .1))),
+              (stored (loop .left) (loop .count) _ (omega (arith, test, inv .1 .0, inv .1 .1 .0, c .before .before .before .before .before .before .before .before .before .before .before .before .before .pre .1 .1 .1))),
         ),
       ),
     )
@@ -69,8 +69,8 @@ pub prune-spec : {M : Type 1} → statement M
 prune-spec =
     tie.close
     (tie.spec Inv-loop μ-loop
-    (λ c. (c .before .before .before .before .pre .1 .0, (omega arith, (refl, λ n l h k. prune-start _ _ _ _ (record { is = refl; size = refl })))))
+    (λ c. (c .before .before .before .before .before .before .pre .1 .0, (omega arith, (refl, λ n l h k. prune-start _ _ _ _ (record { is = refl; size = refl })))))
     (λ c. omega arith) (λ c. omega arith) (λ c. omega arith)
-    (λ c κs. c .before .before .before .before .before .before .before .pre .0) drops
+    (λ c κs. c .before .before .before .before .before .before .before .before .before .pre .0) drops
     (λ c. omega arith) (λ c. omega arith) (λ c. omega arith)
     (λ c. omega (arith, c .before .before .before .before .before .loop-test .taken)) keeps (λ c. omega (arith, c .before .before .before .before .before .loop-test .taken)) gone returns)
