@@ -135,7 +135,7 @@ def run(words, given, limit=None):
 def one_call(words, block, limit=None):
     """Seconds of processor time for one call on the block, and the lines; none where one call takes longer than the limit.
 
-    It is the time of K calls less that of 1 call, over K - 1, the best of several runs; or of one run where a call takes more than 2 s."""
+    It is the time of K calls less that of 1 call, over K - 1, K at least 2, the best of several runs; or of one run where a call takes more than 2 s."""
 
     def calls(times):
         return run(words, times.to_bytes(4, "big") + block, limit)
@@ -148,7 +148,7 @@ def one_call(words, block, limit=None):
         times = max(2 * times, int(times * min(1000, 1.2 * SHORTEST_RUN / max(took, 0.0001))))
         took = calls(times)[0]
     if times == 1:
-        return min(took, calls(1)[0]), first[1]
+        times, took = 2, calls(2)[0]
     many = min([took] + [calls(times)[0] for _ in range(RUNS - 1)])
     once = min([first[0]] + [calls(1)[0] for _ in range(RUNS - 1)])
     return (many - once) / (times - 1), first[1]

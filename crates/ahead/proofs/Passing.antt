@@ -1,30 +1,24 @@
 -- A pass after the turns of i variables: what they have left of the first board, and what is told of it.
 -- `passing-first` is how it begins, `passing-next` a turn more, `passing-last` how it ends.
-use mathlib.Core.Path.{_≡_, refl, sym, _∙_, ap, subst}
+use mathlib.Core.Path.{_≡_, refl, sym, _∙_, subst}
 use mathlib.Core.Bool.{Bool, true, false}
 use mathlib.Core.List.{List}
 use Prim.Native.Nat.{ℕ, _+_, _-_, _<_, _≤_}
 use native.Mathlib.Decide.{decLt}
 use native.Mathlib.Omega.{arith}
 use lib.IntN.{ℤ}
-use lib.ListN.{getD}
 use Rattle.rules.specs.Signs.{SignSet}
-use Rattle.rules.specs.Polynomial.{variable}
 use Rattle.rules.specs.Polynomial.{Board as Sets}
-use Rattle.rules.specs.Rounds.{cutBy, turn}
-use Rattle.sign_laws.specs.Sets.{PartOf}
-use Rattle.ending_laws.specs.Cuts.{cut-floor}
 use Rattle.terms.specs.declared.Board.{Board}
-use Rattle.terms.specs.View.{few, setsOf}
+use Rattle.terms.specs.View.{setsOf}
 use Rattle.table.specs.declared.Atoms.{Atoms}
 use Rattle.table.specs.Table.{Table, atomsOf}
-use Rattle.turn_laws.specs.AfterTurns.{AfterTurns, no-turn, one-more, after-both, Idle, Floor}
+use Rattle.turn_laws.specs.AfterTurns.{AfterTurns, no-turn, one-more, after-both, Idle}
 use Rattle.round.specs.Views.{tableOf}
 use Rattle.round.specs.Signing.{Ready}
-use Rattle.round.specs.Boards.{set-at, turn-keeps}
 use Rattle.ahead.specs.declared.Order.{Order}
 use Rattle.ahead.specs.declared.Passed.{Passed}
-use Rattle.ahead.specs.Ahead.{placeOf, FloorAt, Stepped, Reached, After, Ahead}
+use Rattle.ahead.specs.Ahead.{placeOf, Stepped, Reached, After, Ahead}
 
 -- ---- the places
 
@@ -39,28 +33,12 @@ unfolding placeOf
 place-back true n i h = refl
 place-back false n i h = omega arith
 
--- ---- a variable that has the floor's set
-
-pub floor-keeps : (t : Table) (a : Atoms) (b floor : Board) (i : ℕ) → FloorAt t a b floor i → i < few (b .variables) → getD (b .sets) i 0 ≡ getD (floor .sets) i 0
-    → setsOf b ≡ turn (t .variables) (atomsOf t a) (setsOf b) i
-floor-keeps t a b floor i (small, part) low e =
-    let s = getD (b .sets) i 0 in
-    let cut = cut-floor (setsOf b) (variable (t .variables) i) (atomsOf t a) s (rw e small)
-    (subst (λ (x : SignSet). PartOf x (cutBy (setsOf b) (variable (t .variables) i) (atomsOf t a) s)) (sym e) part) in
-    turn-keeps (t .variables) (b .sets) i (few (b .variables)) low (atomsOf t a) (sym cut) refl
-
 -- ---- a board's own number of variables is the table's
 
 module _ (cs : List ℤ) (ms ts : List ℕ) {n m : ℕ} (same : n ≡ m) where
   pub stepped-over : {a : Atoms} {p : Passed} {i : ℕ} {r : Passed} {ss : List SignSet} → Stepped (tableOf cs ms ts n) a p i r ss
       → Stepped (tableOf cs ms ts m) a p i r ss
   stepped-over {a} {p} {i} {r} {ss} = subst (λ (k : ℕ). Stepped (tableOf cs ms ts k) a p i r ss) same
-
-  pub floor-at-over : (a : Atoms) (b floor : Board) (i : ℕ) → FloorAt (tableOf cs ms ts n) a b floor i → FloorAt (tableOf cs ms ts m) a b floor i
-  floor-at-over a b floor i = subst (λ (k : ℕ). FloorAt (tableOf cs ms ts k) a b floor i) same
-
-  pub floor-over : (a : Atoms) (b floor : Sets) → Floor n (atomsOf (tableOf cs ms ts n) a) b floor → Floor m (atomsOf (tableOf cs ms ts m) a) b floor
-  floor-over a b floor = subst (λ (k : ℕ). Floor k (atomsOf (tableOf cs ms ts k) a) b floor) same
 
   pub reached-over : (a : Atoms) (b r : Board) → Reached (tableOf cs ms ts n) a b r → Reached (tableOf cs ms ts m) a b r
   reached-over a b r = subst (λ (k : ℕ). Reached (tableOf cs ms ts k) a b r) same
@@ -106,9 +84,6 @@ module _ (t : Table) (a : Atoms) (first : Board) (up : Bool) where
       by-place k h here before (yes l) = before k l
       by-place k h here before (no l) = let e : i ≡ k = omega arith in rw e at here
 
-  pub passing-after : {i : ℕ} {p : Passed} {ss : List SignSet} → Passing i p ss → After t a first (p .board) ss
-  passing-after passing = record { variables = passing .variables; after = passing .after; ready = passing .ready }
-
   pub passing-last : {i : ℕ} {p : Passed} {ss : List SignSet} → Passing i p ss → t .variables ≤ i → Ahead t a first p ss
   passing-last {i} {p} passing all = record {
     variables = passing .variables;
@@ -147,11 +122,3 @@ pub after-last : {t : Table} {a : Atoms} {first at : Board} {r : Passed} {ss zs 
     → Ahead t a first r zs
 after-last before one =
     record { variables = one .variables; after = after-both (before .after) (one .after); ready = one .ready; idle = one .idle }
-
--- what the floor says of the board at hand
-pub floor-after : {t : Table} {a : Atoms} {first at : Board} {ss : List SignSet} (floor : Board) → After t a first at ss → t .variables ≤ 16
-    → floor .variables ≡ t .variables → Floor (t .variables) (atomsOf t a) (setsOf first) (setsOf floor) → (j : ℕ) → j < t .variables → FloorAt t a at floor j
-floor-after {at} floor before few-of same below j h =
-    let its = set-at (floor .sets) j (few (floor .variables)) (omega (arith, same)) in
-    let own = set-at (at .sets) j (few (at .variables)) (omega (arith, before .variables)) in
-    (rw its at (below .low j h), rw (its, own) at (below .below (before .after) j h))

@@ -4,11 +4,8 @@ use mathlib.Core.Path.{_≡_}
 use mathlib.Core.Bool.{Bool, true, false}
 use mathlib.Core.List.{List}
 use Prim.Native.Nat.{ℕ, _-_, _<_}
-use lib.ListN.{getD}
 use Rattle.rules.specs.Signs.{SignSet}
-use Rattle.rules.specs.Polynomial.{variable}
-use Rattle.rules.specs.Rounds.{cutBy, turn}
-use Rattle.sign_laws.specs.Sets.{PartOf}
+use Rattle.rules.specs.Rounds.{turn}
 use Rattle.terms.specs.declared.Board.{Board}
 use Rattle.terms.specs.View.{setsOf}
 use Rattle.table.specs.declared.Atoms.{Atoms}
@@ -21,11 +18,6 @@ use Rattle.ahead.specs.declared.Passed.{Passed}
 unfoldable pub placeOf : Bool → ℕ → ℕ → ℕ
 placeOf true n i = i
 placeOf false n i = n - 1 - i
-
--- variable i's turn does not go below the floor
-abbrev pub FloorAt : Table → Atoms → Board → Board → ℕ → Type 0
-FloorAt t a b floor i = (getD (floor .sets) i 0 < 8)
-    × PartOf (getD (floor .sets) i 0) (cutBy (setsOf b) (variable (t .variables) i) (atomsOf t a) (getD (b .sets) i 0))
 
 -- r is what variable i's turn leaves, and the signs are those of its board
 pub record Stepped (t : Table) (a : Atoms) (before : Passed) (i : ℕ) (r : Passed) (ss : List SignSet) : Type 0 where

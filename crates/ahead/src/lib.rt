@@ -12,7 +12,8 @@ ghost use Rattle.rules.specs.Deduce.{anyEmpty as anyEmptyOf, deduce as deduceOf
 ghost use Rattle.turn_laws.specs.AfterTurns.{Floor};
 ghost use Rattle.round.specs.Views.{lentTable};
 ghost use Rattle.round.specs.Signing.{Ready};
-ghost use Rattle.ahead.specs.Ahead.{placeOf, FloorAt, Stepped, Reached, Ahead};
+ghost use Rattle.round.specs.Floors.{FloorAt};
+ghost use Rattle.ahead.specs.Ahead.{placeOf, Stepped, Reached, Ahead};
 use deduce::any_empty;
 use engines::deduce_alone;
 use engines::deduce_from;

@@ -18,11 +18,11 @@ use Rattle.round.specs.Signing.{atomSlot}
 use Rattle.round.specs.Walks.{rest-cons}
 use Rattle.rounds.specs.Afresh.{AfreshFrom}
 use Rattle.common_run.specs.declared.run.Common.{Common}
-use Rattle.common_run.specs.Marks.{markedOf}
+use Rattle.common_run.specs.Marks.{markedSlot, markedOf}
 use Rattle.common_run.specs.Run.{CommonOf}
 use Rattle.common_run.specs.Known.{CommonRun, Known, Between, Without, Left, Lost}
 use Rattle.common_run.specs.Counting.{Remain}
-use Rattle.common_run.proofs.Apart.{marked-some}
+use Rattle.common_run.proofs.Apart.{those-some}
 
 -- a common run that was made just now; the board's own number of variables is the table's
 pub made-now : (cs : List ℤ) (ms ts : List ℕ) {n m : ℕ} → m ≡ n → {settled : State} {remaining over : List Atom} → over ≡ remaining
@@ -41,8 +41,9 @@ made-now cs ms ts {n} {m} same {settled} {remaining} e afresh begun is c ran kno
       afresh = afresh;
       some = all-there remaining;
       boards = refl;
-      marked = λ round. subst (λ (l : List Atom). Some l (markedOf (c .marks .first) round t a)) (ap (λ (su : Standing). su .atoms) started)
-          (marked-some (c .marks .first) round t (a .number) (a .set) 0 (many (a .count)));
+      marked = λ round. subst (λ (l : List Atom). Some l (markedOf (c .marks .resting .first) round t a)) (ap (λ (su : Standing). su .atoms) started)
+          (those-some (markedSlot (c .marks .resting .first) round) t (a .number) (a .set) 0 (many (a .count)));
+      whole = λ e. refl;
     }
 
 module _ {t : Table} {settled : State} {kept list : Atoms} {i : ℕ} {others : Atoms} (r : Remain t settled kept list i others) where

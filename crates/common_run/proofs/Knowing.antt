@@ -21,7 +21,7 @@ use Rattle.turn_laws.specs.Some.{Some, all-there, not-there, some-both, some-ap
 use Rattle.turn_laws.specs.Afresh.{afresh-start}
 use Rattle.count_laws.specs.Boards.{turnedRounds}
 use Rattle.count_laws.specs.Common.{same-start}
-use Rattle.count_laws.specs.Onward.{afterRounds, Moving, Resting, NoPair, rounds-stay-low, common-onward, common-rounds}
+use Rattle.count_laws.specs.Onward.{afterRounds, RestOn, Moving, Resting, NoPair, rounds-stay-low, common-onward, common-rounds}
 use Rattle.terms.specs.declared.Board.{Board as Sets}
 use Rattle.terms.specs.View.{few, setsOf, length-numbers}
 use Rattle.table.specs.Table.{Table, Forms, atomsOf, many}
@@ -29,13 +29,14 @@ use Rattle.round.specs.declared.State.{State}
 use Rattle.round.specs.Views.{tableOf, stateOf}
 use Rattle.rounds.specs.Bounded.{BoundedBy, bounded-settled}
 use Rattle.common_run.specs.declared.run.Common.{Common}
-use Rattle.common_run.specs.Marks.{markedBy, markedOf}
+use Rattle.common_run.specs.Marks.{markedBy, thoseOf, markedSlot, markedOf, otherThan, apartOf}
 use Rattle.common_run.specs.Boards.{boardAt}
-use Rattle.common_run.specs.Run.{RestsAt}
-use Rattle.common_run.specs.Known.{CommonRun, Known, Without, Left, Lost}
+use Rattle.common_run.specs.Run.{after, RestsAt, SparesAt}
+use Rattle.common_run.specs.Known.{CommonRun, Known, MarkOf, Without, Left, Lost}
 use Rattle.common_run.proofs.Marking.{marked-is, is-marked, none-marked}
 use Rattle.common_run.proofs.Above.{rounds-afresh}
-use Rattle.common_run.proofs.Apart.{marked-without}
+use Rattle.common_run.proofs.Apart.{those-some, those-without}
+use Rattle.common_run.proofs.Takings.{not-other}
 
 -- ---- an atom goes or stays
 
@@ -63,7 +64,8 @@ module _ {out : Bool} (k : ℕ) (c : Common) where
   pub left-staying : out ≡ false → Left out k c c
   left-staying e = record { knows = λ t state kept a later forms between known. stays t state c e kept a later known }
 
-  pub left-unmarked : k < 64 → out ≡ true → getD (c .marks .first) k 0 ≡ 0 → Left out k c c
+  pub left-unmarked : k < 64 → out ≡ true → getD (c .marks .resting .first) k 0 ≡ 0
+      → Left out k c (record { known = c .known; ended = c .ended; whole = false; rounds = c .rounds; boards = c .boards; marks = c .marks })
   left-unmarked low e z = record {
     knows = λ t state kept a later forms between known is. rw (e, gone-one kept a later) (
         let run = known is in
@@ -71,12 +73,21 @@ module _ {out : Bool} (k : ℕ) (c : Common) where
           over = run .over;
           first = run .first;
           is-start = run .is-start;
-          ran = run .ran;
+          ran = record {
+            some = run .ran .some;
+            most = run .ran .most;
+            moves = run .ran .moves;
+            boards = run .ran .boards;
+            rests = run .ran .rests;
+            spares = run .ran .spares;
+            last = run .ran .last;
+          };
           afresh = run .afresh;
           some = some-both (run .some) (fewer kept a later);
           boards = run .boards ∙ boards-same (t .variables) kept a later (between .no-variable);
-          marked = λ round. marked-without forms (c .marks .first) round k low (rw z (none-marked round)) kept a later (between .is) (between .no-variable)
-              (run .first .atoms .number) (run .first .atoms .set) 0 (many (run .first .atoms .count)) (run .marked round);
+          marked = λ round. those-without forms (markedSlot (c .marks .resting .first) round) k low (rw z (none-marked round)) kept a later
+              (between .is) (between .no-variable) (run .first .atoms .number) (run .first .atoms .set) 0 (many (run .first .atoms .count)) (run .marked round);
+          whole = λ w. absurd (false≢true w);
         });
   }
 
@@ -125,41 +136,77 @@ module _ {t : Table} (forms : Forms t) {c : Common} {k : ℕ} (low : k < 64) {st
   same-boards : start n (run .over) .board ≡ start n others .board
   same-boards = subst (λ (l : List Atom). start n (run .over) .board ≡ start n l .board) (sym (w .are)) (run .boards ∙ boards-same n (w .kept) (w .atom) (w .later) (w .between .no-variable))
 
-  resting : (j : ℕ) → ((i : ℕ) → i < j → RestsAt t (run .first) (c .marks .first) i) → markedBy (getD (c .marks .first) k 0) j ≡ false
+  -- the atoms of the run that pass a test that slot k fails are there without it
+  there : (test : ℕ → Bool) → test k ≡ false → Some (nonVariable n (w .kept ++ (w .atom ∷ w .later))) (thoseOf test t (run .first .atoms))
+      → Some (nonVariable n others) (thoseOf test t (run .first .atoms))
+  there test fails f = subst (λ (l : List Atom). Some (nonVariable n l) (thoseOf test t (run .first .atoms))) (sym (w .are))
+      (those-without forms test k low fails (w .kept) (w .atom) (w .later) (w .between .is) (w .between .no-variable)
+      (run .first .atoms .number) (run .first .atoms .set) 0 (many (run .first .atoms .count)) f)
+
+  -- all atoms that remain are those of a whole run
+  all-those : c .whole ≡ true → Some (nonVariable n (w .kept ++ (w .atom ∷ w .later))) (apartOf k t (run .first .atoms))
+  unfolding start
+  all-those whole =
+      let a = run .first .atoms in
+      subst (λ (l : List Atom). Some l (apartOf k t a)) (ap (λ (su : Standing). su .atoms) (run .is-start) ∙ ap (nonVariable n) (run .whole whole))
+      (those-some (otherThan k) t (a .number) (a .set) 0 (many (a .count)))
+
+  low-after : (i : ℕ) → LowBoard (after t (run .first) i)
+  low-after i = subst (λ (su : Standing). LowBoard (afterRounds n (su .atoms) i (su .board))) (sym (run .is-start))
+      (rounds-stay-low n (start n (run .over) .atoms) (start n (run .over) .board) (start-low n (run .over)) i)
+
+  -- the cuts of a round rest on atoms that are there without the one of slot k, if its mark is of none up to it
+  rest-on : {mark : ℕ} → MarkOf c k mark → (i : ℕ) → markedBy mark (suc i) ≡ false → RestsAt t (run .first) (c .marks .resting .first) i
+      → SparesAt t (run .first) (c .marks .needed .first) i
+      → RestOn n (atomsOf t (run .first .atoms)) (nonVariable n others) (after t (run .first) i)
+  rest-on {mark} is i e rests spares = by-whole (c .whole) refl
+    where
+      by-whole : (b : Bool) → c .whole ≡ b → RestOn n (atomsOf t (run .first .atoms)) (nonVariable n others) (after t (run .first) i)
+      by-whole true whole = record {
+        these = apartOf k t (run .first .atoms);
+        there = there (otherThan k) (not-other k) (all-those whole);
+        rests = spares (low-after i) k low (rw (is .whole whole) at e);
+      }
+      by-whole false gone = record {
+        these = markedOf (c .marks .resting .first) (suc i) t (run .first .atoms);
+        there = there (markedSlot (c .marks .resting .first) (suc i)) (rw (is .fewer gone) at e) (run .marked (suc i));
+        rests = rests;
+      }
+
+  resting : {mark : ℕ} → MarkOf c k mark → (j : ℕ) → ((i : ℕ) → i < j → RestsAt t (run .first) (c .marks .resting .first) i)
+      → ((i : ℕ) → i < j → SparesAt t (run .first) (c .marks .needed .first) i) → markedBy mark j ≡ false
       → Resting n (start n (run .over) .atoms) (start n others .atoms) j (start n (run .over) .board)
   unfolding start
-  resting j rests e = subst (λ (su : Standing). Resting n (su .atoms) (nonVariable n others) j (su .board)) (run .is-start) (λ i l.
-      let a = run .first .atoms in
-      record {
-        these = markedOf (c .marks .first) (suc i) t a;
-        there = subst (λ (l : List Atom). Some (nonVariable n l) (markedOf (c .marks .first) (suc i) t a)) (sym (w .are)) (marked-without forms (c .marks .first) (suc i) k low (not-yet (getD (c .marks .first) k 0) (suc i) j e (omega arith)) (w .kept) (w .atom) (w .later)
-            (w .between .is) (w .between .no-variable) (a .number) (a .set) 0 (many (a .count)) (run .marked (suc i)));
-        rests = rests i l;
-      })
+  resting {mark} is j rests spares e = subst (λ (su : Standing). Resting n (su .atoms) (nonVariable n others) j (su .board)) (run .is-start)
+      (λ i l. rest-on is i (not-yet mark (suc i) j e (omega arith)) (rests i l) (spares i l))
 
   moving : (j : ℕ) → j < c .rounds → Moving n (start n (run .over) .atoms) j (start n (run .over) .board)
   moving j h = subst (λ (su : Standing). Moving n (su .atoms) j (su .board)) (run .is-start) (λ i l. run .ran .moves i (omega arith))
 
-  pub rounds-without : getD (c .marks .first) k 0 ≡ 0 → c .ended ≡ true → c .rounds ≡ runCount n others
-  rounds-without z ended = from (c .rounds) refl (run .ran .some)
+  pub rounds-without : {mark : ℕ} → MarkOf c k mark → mark ≡ 0 → c .ended ≡ true → c .rounds ≡ runCount n others
+  rounds-without is z ended = from (c .rounds) refl (run .ran .some)
     where
       from : (m : ℕ) → m ≡ c .rounds → 0 < m → c .rounds ≡ runCount n others
       from zero e h = absurd (omega arith)
       from (suc j) e h =
           let last = run .ran .last ended j e in
           let at : suc j ≡ j + 1 = omega arith in
-          let rests = subst (λ (m : ℕ). (i : ℕ) → i < m → RestsAt t (run .first) (c .marks .first) i) (sym at)
-          (below-more (λ (i : ℕ). RestsAt t (run .first) (c .marks .first) i) j (λ (i : ℕ) (l : i < j). run .ran .rests i (omega arith)) (last .rests)) in
+          let rests = subst (λ (m : ℕ). (i : ℕ) → i < m → RestsAt t (run .first) (c .marks .resting .first) i) (sym at)
+          (below-more (λ (i : ℕ). RestsAt t (run .first) (c .marks .resting .first) i) j
+          (λ (i : ℕ) (l : i < j). run .ran .rests i (omega arith)) (last .rests)) in
+          let spares = subst (λ (m : ℕ). (i : ℕ) → i < m → SparesAt t (run .first) (c .marks .needed .first) i) (sym at)
+          (below-more (λ (i : ℕ). SparesAt t (run .first) (c .marks .needed .first) i) j
+          (λ (i : ℕ) (l : i < j). run .ran .spares i (omega arith)) (last .spares)) in
           sym e ∙ sym (common-rounds n (run .afresh .given) (run .afresh .settles) (run .over) others (run .afresh .some) over-some same-boards j
-          (resting (suc j) rests (mark-zero (suc j) z)) (moving j (omega arith))
+          (resting is (suc j) rests spares (mark-zero (suc j) z)) (moving j (omega arith))
           (subst (λ (su : Standing). sameSets (afterRounds n (su .atoms) j (su .board)) (afterRounds n (su .atoms) (suc j) (su .board)) ≡ true) (run .is-start) (last .still))
           (subst (λ (su : Standing). NoPair n (su .atoms) (afterRounds n (su .atoms) (suc j) (su .board))) (run .is-start) (last .no-pair)))
 
-  pub rounds-onward : (j : ℕ) → j < c .rounds → markedBy (getD (c .marks .first) k 0) j ≡ false
+  pub rounds-onward : {mark : ℕ} → MarkOf c k mark → (j : ℕ) → j < c .rounds → markedBy mark j ≡ false
       → runCount n others ≡ j + turnedRounds n (start n others .atoms) (enough (start n others)) (boardAt (c .boards .sets) j n)
-  rounds-onward j h e =
+  rounds-onward is j h e =
       common-onward n (run .afresh .given) (run .afresh .settles) (run .over) others (run .afresh .some) over-some same-boards j
-      (resting j (λ i l. run .ran .rests i (omega arith)) e) (moving j h)
+      (resting is j (λ i l. run .ran .rests i (omega arith)) (λ i l. run .ran .spares i (omega arith)) e) (moving j h)
       ∙ ap (λ (b : Board). j + turnedRounds n (start n others .atoms) (enough (start n others)) b)
       (ap (λ (su : Standing). afterRounds n (su .atoms) j (su .board)) (sym (run .is-start)) ∙ sym (run .ran .boards j h))
 

@@ -1,5 +1,7 @@
 pub mod Marking
 pub mod Cutting
+pub mod Sole
+pub mod Takings
 pub mod Turnings
 pub mod Storing
 pub mod Above

@@ -10,7 +10,8 @@ use lib.Dec.{T, leb, ltb, leb→le, le→leb, ltb→lt, lt→ltb}
 use lib.ListN.{length, getD, set}
 use lib.Seq.{getD-set-same, getD-set-other}
 use Rattle.sign_laws.specs.Booleans.{and-first, and-second}
-use Rattle.common_run.specs.Marks.{markedBy, Grows, MarkedAt}
+use Rattle.common_run.specs.declared.marks.BothMarks.{BothMarks}
+use Rattle.common_run.specs.Marks.{markedBy, Grows, GrowBoth, MarkedAt}
 
 is-true : (b : Bool) → T b → b ≡ true
 is-true true h = refl
@@ -41,6 +42,21 @@ grows-itself marks = record { keeps = λ k round e. e }
 
 pub grows-on : {marks more later : List ℕ} → Grows marks more → Grows more later → Grows marks later
 grows-on f g = record { keeps = λ k round e. g .keeps k round (f .keeps k round e) }
+
+-- what is not marked later was not before
+pub not-before : {marks more : List ℕ} → Grows marks more → (k round : ℕ) → markedBy (getD more k 0) round ≡ false
+    → markedBy (getD marks k 0) round ≡ false
+not-before {marks} g k round e = by-test (markedBy (getD marks k 0) round) refl
+  where
+    by-test : (b : Bool) → markedBy (getD marks k 0) round ≡ b → b ≡ false
+    by-test true m = absurd (false≢true (sym e ∙ g .keeps k round m))
+    by-test false m = refl
+
+pub both-itself : (marks : BothMarks) → GrowBoth marks marks
+both-itself marks = record { resting = grows-itself (marks .resting .first); needed = grows-itself (marks .needed .first) }
+
+pub both-on : {marks more later : BothMarks} → GrowBoth marks more → GrowBoth more later → GrowBoth marks later
+both-on f g = record { resting = grows-on (f .resting) (g .resting); needed = grows-on (f .needed) (g .needed) }
 
 -- a mark stored where none of a round up to this one was
 module _ (marks : List ℕ) (before after k round : ℕ) where

@@ -1,9 +1,10 @@
 -- What is known of a common run: it was made over the atoms that remained then, and since then only atoms have gone that no cut of it rests on.
 use mathlib.Core.Path.{_≡_}
-use mathlib.Core.Bool.{Bool, true}
+use mathlib.Core.Bool.{Bool, true, false}
 use mathlib.Core.List.{List, _∷_, _++_}
 use mathlib.Core.Option.{none}
 use Prim.Native.Nat.{ℕ}
+use lib.ListN.{getD}
 use Rattle.rules.specs.Polynomial.{Atom, which}
 use Rattle.rules.specs.Rounds.{start, nonVariable}
 use Rattle.rules.specs.Level.{keptUnless}
@@ -25,7 +26,8 @@ pub record CommonRun (t : Table) (state : State) (remaining : List Atom) (c : Co
   pub afresh : AfreshFrom t state over
   pub some : Some over remaining
   pub boards : start (t .variables) over .board ≡ start (t .variables) remaining .board
-  pub marked : (round : ℕ) → Some (nonVariable (t .variables) remaining) (markedOf (c .marks .first) round t (first .atoms))
+  pub marked : (round : ℕ) → Some (nonVariable (t .variables) remaining) (markedOf (c .marks .resting .first) round t (first .atoms))
+  pub whole : c .whole ≡ true → over ≡ remaining
 
 -- if it is known
 abbrev pub Known : Table → State → List Atom → Common → Type 0
@@ -35,6 +37,11 @@ Known t state remaining c = c .known ≡ true → CommonRun t state remaining c
 pub record Between (t : Table) (k : ℕ) (kept : List Atom) (a : Atom) (later : List Atom) : Type 0 where
   pub is : a .polynomial ≡ formAt t k
   pub no-variable : which (t .variables) (a .polynomial) ≡ none
+
+-- the mark of slot k that tells of the run without its atom: of what cuts need, if no atom has gone
+pub record MarkOf (c : Common) (k mark : ℕ) : Type 0 where
+  pub whole : c .whole ≡ true → mark ≡ getD (c .marks .needed .first) k 0
+  pub fewer : c .whole ≡ false → mark ≡ getD (c .marks .resting .first) k 0
 
 -- the others are those that remain but for the atom of slot k
 pub record Without (t : Table) (state : State) (c : Common) (k : ℕ) (others : List Atom) : Type 0 where

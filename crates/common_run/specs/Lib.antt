@@ -1,4 +1,5 @@
 pub mod Marks
+pub mod Takers
 pub mod Turning
 pub mod Boards
 pub mod Run

@@ -13,6 +13,19 @@ pub fn no_marks() -> Marks {
     Marks { first: [0; 64] }
 }
 
+// Of the atoms that the cuts rest on, which suffice for them; and of those that a cut needs: without the atom alone it would be another one.
+pub struct BothMarks {
+    pub resting: Marks,
+    pub needed: Marks,
+}
+
+pub fn no_marks_at_all() -> BothMarks {
+    BothMarks {
+        resting: no_marks(),
+        needed: no_marks(),
+    }
+}
+
 // Whether a mark is of one of the rounds 1 to round.
 fn noted(mark: u8, round: u8) -> bool
     ensures { λ r. ⌜ r ≡ markedBy mark round ⌝ }

@@ -7,12 +7,13 @@ ghost use Rattle.table.specs.Table.{Forms, atomsOf};
 ghost use Rattle.round.specs.Views.{lentTable};
 ghost use Rattle.round.specs.Signing.{Ready};
 ghost use Rattle.rounds.specs.Afresh.{AboveFloor};
+ghost use Rattle.common_run.specs.Turning.{Floored};
 ghost use Rattle.common_run.specs.Run.{CommonOf};
 use crate::boards::Boards;
 use crate::boards::no_boards;
 use crate::boards::stored;
-use crate::marks::Marks;
-use crate::marks::no_marks;
+use crate::marks::BothMarks;
+use crate::marks::no_marks_at_all;
 use crate::turning::turns_marking;
 use round::State;
 use round::slots::sign_list;
@@ -23,13 +24,15 @@ use table::Atoms;
 use terms::Board;
 use terms::few;
 
-// How many rounds were begun, the board at the start of each, and which atoms their cuts rest on, if the run is known; and whether it has ended.
+// How many rounds were begun, the board at the start of each, and which atoms their cuts rest on and need, if the run is known; whether it has ended,
+// and whether it is one over all atoms that remain: none has gone since it was made.
 pub struct Common {
     pub known: bool,
     pub ended: bool,
+    pub whole: bool,
     pub rounds: usize,
     pub boards: Boards,
-    pub marks: Marks,
+    pub marks: BothMarks,
 }
 
 // No run is known.
@@ -39,9 +42,10 @@ pub fn unknown() -> Common
     Common {
         known: false,
         ended: false,
+        whole: false,
         rounds: 0,
         boards: no_boards(),
-        marks: no_marks(),
+        marks: no_marks_at_all(),
     }
 }
 
@@ -76,7 +80,8 @@ pub fn marking_run(
     floor: Board,
     largest: usize,
 ) -> Common
-    requires { let t = lentTable coefficient monomial terms (start .board .variables) in ⌜ Forms t × AboveFloor t start floor ⌝ }
+    requires { let t = lentTable coefficient monomial terms (start .board .variables) in
+        ⌜ Forms t × (AboveFloor t start floor × Floored t (start .atoms) (start .board) floor) ⌝ }
     ensures { λ r.
         let t = lentTable (coefficient .entry) (monomial .entry) (terms .entry) (start .board .variables) in
         ⌜ (r .known ≡ true → CommonOf t start r) ⌝ }
@@ -87,7 +92,7 @@ pub fn marking_run(
     sign_list(board, monomial, terms, atoms, &mut sign);
     let mut stood = board;
     let mut boards = no_boards();
-    let mut marks = no_marks();
+    let mut marks = no_marks_at_all();
     let mut round = 0u8;
     while round < 40 {
         boards = stored(boards, stood, round as usize);
@@ -95,6 +100,7 @@ pub fn marking_run(
             return Common {
                 known: true,
                 ended: false,
+                whole: true,
                 rounds: round as usize + 1,
                 boards,
                 marks,
@@ -110,6 +116,7 @@ pub fn marking_run(
             atoms,
             marks,
             round,
+            floor,
         );
         let next = turned.board;
         marks = turned.marks;
@@ -121,6 +128,7 @@ pub fn marking_run(
             return Common {
                 known: true,
                 ended,
+                whole: true,
                 rounds: round as usize,
                 boards,
                 marks,

@@ -1,12 +1,16 @@
-// A round that cuts no atom and marks the atoms that its cuts rest on: each that narrows a set by what those before it leave.
+// A round that cuts no atom and marks the atoms that its cuts rest on, each that narrows a set by what those before it leave, and those that a cut
+// needs.
 ghost use Prim.Native.Nat.{_<_};
 ghost use lib.ListN.{getD};
 ghost use Rattle.terms.specs.View.{setsOf};
 ghost use Rattle.round.specs.Views.{lentTable};
 ghost use Rattle.round.specs.Signing.{Ready};
-ghost use Rattle.common_run.specs.Turning.{CutMarking, TurnMarking, TurnsMarking};
-use crate::marks::Marks;
+ghost use Rattle.common_run.specs.Turning.{CutMarking, Floored, TurnMarking, TurnsMarking};
+use crate::marks::BothMarks;
 use crate::marks::marked;
+use crate::takers::needed_marked;
+use crate::takers::no_takers;
+use crate::takers::taken;
 use round::list::many;
 use round::round::cut_by;
 use round::slots::sign_list;
@@ -17,16 +21,16 @@ use terms::Board;
 // What is left of a set, and the marks.
 pub struct Cutting {
     pub set: u8,
-    pub marks: Marks,
+    pub marks: BothMarks,
 }
 
 // The board that turns have left, and the marks.
 pub struct Turning {
     pub board: Board,
-    pub marks: Marks,
+    pub marks: BothMarks,
 }
 
-// Variable i's set, cut by one atom after the other.
+// Variable i's set, cut by one atom after the other; what each of them takes out is looked at by itself.
 fn cut_marking(
     coefficient: &[i32],
     monomial: &[u64],
@@ -35,18 +39,20 @@ fn cut_marking(
     board: Board,
     atoms: Atoms,
     i: usize,
-    marks: Marks,
+    marks: BothMarks,
     round: u8,
 ) -> Cutting
     requires { let t = lentTable coefficient monomial terms (board .variables) in
         ⌜ Ready t (setsOf board) atoms (now sign) × ((i < board .variables) × (0 < round)) ⌝ }
     ensures { λ r.
         let t = lentTable (coefficient .entry) (monomial .entry) (terms .entry) (board .variables) in
-        ⌜ CutMarking t atoms (setsOf board) i (getD (board .sets) i 0) round (marks .first) (r .set) (r .marks .first) ⌝ }
+        ⌜ CutMarking t atoms (setsOf board) i (getD (board .sets) i 0) round marks (r .set) (r .marks) ⌝ }
 {
     let n = many(atoms.count);
-    let mut sofar = board.sets[i];
-    let mut more = marks;
+    let old = board.sets[i];
+    let mut sofar = SignSet(old);
+    let mut resting = marks.resting;
+    let mut takers = no_takers();
     let mut j = 0;
     while j < n {
         let number = atoms.number[j];
@@ -61,19 +67,22 @@ fn cut_marking(
             j,
             j + 1,
             64 + i,
-            SignSet(sofar),
+            SignSet(old),
         );
-        more = marked(more, sofar, cut.0, k, round);
-        sofar = cut.0;
+        let left = sofar.intersect(cut);
+        resting = marked(resting, sofar.0, left.0, k, round);
+        takers = taken(takers, old, cut.0, k);
+        sofar = left;
         j += 1;
     }
+    let needed = needed_marked(marks.needed, takers, round);
     Cutting {
-        set: sofar,
-        marks: more,
+        set: sofar.0,
+        marks: BothMarks { resting, needed },
     }
 }
 
-// Variable i's turn.
+// Variable i's turn. No turn goes below the floor, so that one that has the floor's set needs none.
 fn turn_marking(
     coefficient: &[i32],
     monomial: &[u64],
@@ -82,16 +91,21 @@ fn turn_marking(
     board: Board,
     atoms: Atoms,
     i: usize,
-    marks: Marks,
+    marks: BothMarks,
     round: u8,
+    floor: Board,
 ) -> Turning
     requires { let t = lentTable coefficient monomial terms (board .variables) in
-        ⌜ Ready t (setsOf board) atoms (now sign) × ((i < board .variables) × (0 < round)) ⌝ }
+        ⌜ Ready t (setsOf board) atoms (now sign) × ((i < board .variables) × ((0 < round) × Floored t atoms board floor)) ⌝ }
     ensures { λ r.
         let t = lentTable (coefficient .entry) (monomial .entry) (terms .entry) (board .variables) in
-        ⌜ TurnMarking t atoms (setsOf board) i round (marks .first) (r .board) (r .marks .first) (now (sign .exit)) ⌝ }
+        ⌜ TurnMarking t atoms (setsOf board) i round marks (r .board) (r .marks) (now (sign .exit)) ⌝ }
 {
     let old = board.sets[i];
+    let low = floor.sets[i];
+    if old == low {
+        return Turning { board, marks };
+    }
     let cut = cut_marking(
         coefficient,
         monomial,
@@ -124,14 +138,15 @@ pub fn turns_marking(
     sign: &mut [u8],
     board: Board,
     atoms: Atoms,
-    marks: Marks,
+    marks: BothMarks,
     round: u8,
+    floor: Board,
 ) -> Turning
     requires { let t = lentTable coefficient monomial terms (board .variables) in
-        ⌜ Ready t (setsOf board) atoms (now sign) × (0 < round) ⌝ }
+        ⌜ Ready t (setsOf board) atoms (now sign) × ((0 < round) × Floored t atoms board floor) ⌝ }
     ensures { λ r.
         let t = lentTable (coefficient .entry) (monomial .entry) (terms .entry) (board .variables) in
-        ⌜ TurnsMarking t atoms (setsOf board) round (marks .first) (r .board) (r .marks .first) (now (sign .exit)) ⌝ }
+        ⌜ TurnsMarking t atoms (setsOf board) round marks (r .board) (r .marks) (now (sign .exit)) ⌝ }
 {
     let n = board.variables;
     let mut passed = Turning { board, marks };
@@ -149,6 +164,7 @@ pub fn turns_marking(
             i,
             so_far,
             round,
+            floor,
         );
         i += 1;
     }

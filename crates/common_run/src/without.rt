@@ -1,5 +1,5 @@
-// The run without an atom, by the common run: it has the rounds in common with it before the first whose cuts rest on the atom,
-// and is made from there.
+// The run without an atom, by the common run: it has the rounds in common with it before the first whose cuts need the atom, or rest on it where
+// other atoms have gone, and is made from there.
 ghost use mathlib.Core.Path.{_≡_};
 ghost use mathlib.Core.Bool.{true, false};
 ghost use Prim.Native.Nat.{_<_, max};
@@ -7,7 +7,7 @@ ghost use Rattle.rules.specs.Count.{runCount};
 ghost use Rattle.table.specs.Table.{Forms, atomsOf};
 ghost use Rattle.round.specs.Views.{lentTable};
 ghost use Rattle.common_run.specs.Marks.{markedBy};
-ghost use Rattle.common_run.specs.Known.{Without, Left, Lost};
+ghost use Rattle.common_run.specs.Known.{MarkOf, Without, Left, Lost};
 use crate::boards::restored;
 use crate::run::Common;
 use crate::run::unknown;
@@ -17,7 +17,21 @@ use rounds::start::start;
 use rounds::turned::turned_largest;
 use table::Atoms;
 
-// Whether the run without an atom takes as many rounds as the common run: no cut rests on the atom, and the common run has ended.
+// The mark of slot k that tells: only a run over all atoms that remain is known to go on without one that no cut needs.
+fn mark_of(common: Common, k: usize) -> u8
+    requires { ⌜ k < 64 ⌝ }
+    ensures { λ r. ⌜ MarkOf common k r ⌝ }
+{
+    let marks = common.marks;
+    if common.whole {
+        let needed = marks.needed;
+        return needed.first[k];
+    }
+    let resting = marks.resting;
+    resting.first[k]
+}
+
+// Whether the run without an atom takes as many rounds as the common run: it has no mark, and the common run has ended.
 fn as_many(mark: u8, ended: bool) -> bool
     ensures { λ r. ⌜ (r ≡ true → (mark ≡ 0) × (ended ≡ true)) ⌝ }
 {
@@ -60,8 +74,7 @@ pub fn without(
         let t = lentTable (coefficient .entry) (monomial .entry) (terms .entry) variables in
         ⌜ r ≡ max largest (runCount variables (atomsOf t others)) ⌝ }
 {
-    let marks = common.marks;
-    let mark = marks.first[k];
+    let mark = mark_of(common, k);
     if as_many(mark, common.ended) {
         return larger(largest, common.rounds);
     }
@@ -83,7 +96,7 @@ pub fn without(
     )
 }
 
-// What is known of the common run after the atom of slot k, no variable's, which is out or not: as much, if no cut rests on it.
+// What is known of the common run after the atom of slot k, no variable's, which is out or not: as much but for what cuts need, if none rests on it.
 pub fn left(common: Common, out: bool, k: usize) -> Common
     requires { ⌜ k < 64 ⌝ }
     ensures { λ r. ⌜ Left out k common r ⌝ }
@@ -92,11 +105,14 @@ pub fn left(common: Common, out: bool, k: usize) -> Common
         return common;
     }
     let marks = common.marks;
-    let mark = marks.first[k];
+    let resting = marks.resting;
+    let mark = resting.first[k];
     if 0 < mark {
         return unknown();
     }
-    common
+    let mut fewer = common;
+    fewer.whole = false;
+    fewer
 }
 
 // What is known of it after any atom.

@@ -6,4 +6,3 @@ pub mod Sharper
 pub mod Bound
 pub mod Removal
 pub mod AtMost
-pub mod KnownRounds

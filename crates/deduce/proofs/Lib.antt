@@ -4,3 +4,4 @@ pub mod Nothing
 pub mod Lasts
 pub mod LastWalks
 pub mod Board
+pub mod LoneTerms

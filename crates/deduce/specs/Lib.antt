@@ -1,3 +1,4 @@
 pub mod Runs
 pub mod Merge
 pub mod Last
+pub mod Alone

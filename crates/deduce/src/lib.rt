@@ -2,12 +2,14 @@
 // p and q are runs of places of lent slices; the sign of each monomial on the board is lent beside them.
 pub mod last; // one t that is left of L and U
 pub mod merge; // L, U and where the strict monomials vanish, from the monomials of p or q
+mod alone; // p of one term that q does not have, and that leaves no t
 mod found; // what is found from all of them
 
 ghost use mathlib.Core.Path.{_≡_};
 ghost use Rattle.rules.specs.Deduce.{anyEmpty, deduce as deduceFrom};
 ghost use Rattle.terms.specs.View.{setsOf};
 ghost use Rattle.deduce.specs.Runs.{polynomialOf, atomOf, HeldAt, Within, Deduced};
+use crate::alone::stands_alone;
 use crate::found::found;
 use signs::SignSet;
 use terms::Board;
@@ -56,6 +58,9 @@ pub fn deduce_from(
         return SignSet::FULL;
     }
     if 7 <= k {
+        return SignSet::FULL;
+    }
+    if stands_alone(coefficient, monomial, sign, p, q) {
         return SignSet::FULL;
     }
     found(coefficient, monomial, sign, p, q, k)

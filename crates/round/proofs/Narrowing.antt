@@ -1,6 +1,6 @@
 -- The one board between two turns: what the turns so far have left of it, and what those that are left make of that.
 -- `narrowing` is how it begins, `narrowed` a turn more, `narrowed-all` how it ends.
-use mathlib.Core.Path.{_≡_, refl, sym, _∙_}
+use mathlib.Core.Path.{_≡_, refl, sym, _∙_, subst}
 use mathlib.Core.List.{List}
 use Prim.Native.Nat.{ℕ, _+_, _-_, _<_, _≤_}
 use native.Mathlib.Nat.{sub-zero}
@@ -9,6 +9,7 @@ use lib.IntN.{ℤ}
 use lib.ListN.{length}
 use Rattle.rules.specs.Signs.{SignSet}
 use Rattle.rules.specs.Rounds.{turn, turns}
+use Rattle.turn_laws.specs.AfterTurns.{AfterTurns, no-turn, one-more, Floor}
 use Rattle.terms.specs.declared.Board.{Board}
 use Rattle.terms.specs.View.{setsOf}
 use Rattle.table.specs.declared.Atoms.{Atoms}
@@ -16,7 +17,8 @@ use Rattle.table.specs.Table.{Table, atomsOf}
 use Rattle.round.specs.Views.{tableOf}
 use Rattle.round.specs.Signing.{Ready}
 use Rattle.round.specs.Round.{Turned}
-use Rattle.round.specs.Over.{ready-over, turned-over}
+use Rattle.round.specs.Floors.{FloorAt, floor-at}
+use Rattle.round.specs.Over.{ready-over, floor-at-over, turned-over}
 use Rattle.round.specs.Boards.{turns-step, turns-end}
 
 module _ (cs : List ℤ) (ms ts : List ℕ) (l : Atoms) (first : Board) (signs : List SignSet) where
@@ -32,6 +34,7 @@ module _ (cs : List ℤ) (ms ts : List ℕ) (l : Atoms) (first : Board) (signs :
     pub variables : board .variables ≡ first .variables
     pub places : length sign ≡ length signs
     pub ready : Ready t (setsOf board) l sign
+    pub after : AfterTurns (first .variables) (atomsOf t l) (setsOf first) (setsOf board)
     pub rest : turns (first .variables) (atomsOf t l) (setsOf board) i (first .variables - i)
         ≡ turns (first .variables) (atomsOf t l) (setsOf first) 0 (first .variables)
 
@@ -44,6 +47,7 @@ module _ (cs : List ℤ) (ms ts : List ℕ) (l : Atoms) (first : Board) (signs :
     variables = refl;
     places = refl;
     ready = ready;
+    after = no-turn;
     rest = rw sub-zero;
   }
 
@@ -53,9 +57,13 @@ module _ (cs : List ℤ) (ms ts : List ℕ) (l : Atoms) (first : Board) (signs :
 
   module _ (u : Narrowing) where
     -- what the next turn asks, and the board after it
-    pub asked : u .i < first .variables
-        → Ready (at-hand u) (setsOf (u .board)) l (u .sign) × (u .i < u .board .variables)
-    asked h = (ready-over cs ms ts (sym (u .variables)) (u .ready), omega (arith, u .variables))
+    pub asked : (floor : Board) → (floor .variables ≡ first .variables) × Floor (first .variables) (atomsOf t l) (setsOf first) (setsOf floor)
+        → u .i < first .variables
+        → (Ready (at-hand u) (setsOf (u .board)) l (u .sign) × (u .i < u .board .variables)) × FloorAt (at-hand u) l (u .board) floor (u .i)
+    asked floor (same, below) h =
+        let its = floor-at t l first (u .board) floor (u .after) (u .variables) (u .ready .forms .variables) same below (u .i) h in
+        let own = sym (u .variables) in
+        ((ready-over cs ms ts own (u .ready), omega (arith, u .variables)), floor-at-over cs ms ts own l (u .board) floor (u .i) its)
 
     abbrev pub narrowed : (r : Board) (zs : List SignSet) → u .i < first .variables → length zs ≡ length (u .sign)
         → Turned (at-hand u) l (turn (u .board .variables) (atomsOf (at-hand u) l) (setsOf (u .board)) (u .i)) r zs → Narrowing
@@ -69,6 +77,7 @@ module _ (cs : List ℤ) (ms ts : List ℕ) (l : Atoms) (first : Board) (signs :
           variables = a .variables;
           places = e ∙ u .places;
           ready = a .ready;
+          after = subst (AfterTurns (first .variables) (atomsOf t l) (setsOf first)) (sym (a .sets)) (one-more (u .i) h (u .after));
           rest = rw (a .sets) (sym (turns-step _ _ _ _ _ h) ∙ u .rest);
         }
 

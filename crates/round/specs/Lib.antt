@@ -6,3 +6,4 @@ pub mod SignedSlots
 pub mod Walks
 pub mod Boards
 pub mod Over
+pub mod Floors

@@ -7,6 +7,7 @@ use lib.IntN.{ℤ}
 use Rattle.rules.specs.Signs.{SignSet}
 use Rattle.rules.specs.Polynomial.{Board}
 use Rattle.rules.specs.Rounds.{cutBy, turn, cutAtoms}
+use Rattle.turn_laws.specs.AfterTurns.{Floor}
 use Rattle.terms.specs.declared.Board.{Board as Sets}
 use Rattle.table.specs.declared.Atoms.{Atoms}
 use Rattle.table.specs.Table.{Forms, formAt, atomsFrom, atomsOf}
@@ -14,6 +15,7 @@ use Rattle.round.specs.declared.State.{State}
 use Rattle.round.specs.declared.slots.Holds.{Holds}
 use Rattle.round.specs.Views.{tableOf, Below}
 use Rattle.round.specs.Signing.{Ready}
+use Rattle.round.specs.Floors.{FloorAt}
 use Rattle.round.specs.Round.{Turned, Cut, Rounded}
 
 pub below-over : {n m : ℕ} → n ≡ m → (holds : Holds) → Below n holds → Below m holds
@@ -36,6 +38,13 @@ module _ (cs : List ℤ) (ms ts : List ℕ) {n m : ℕ} (same : n ≡ m) where
       → Turned (tableOf cs ms ts n) a (turn n (atomsOf (tableOf cs ms ts n) a) board i) b ss
       → Turned (tableOf cs ms ts m) a (turn m (atomsOf (tableOf cs ms ts m) a) board i) b ss
   turned-over {a} board i {b} {ss} = subst (λ (k : ℕ). Turned (tableOf cs ms ts k) a (turn k (atomsOf (tableOf cs ms ts k) a) board i) b ss) same
+
+  pub floor-at-over : (a : Atoms) (b floor : Sets) (i : ℕ) → FloorAt (tableOf cs ms ts n) a b floor i → FloorAt (tableOf cs ms ts m) a b floor i
+  floor-at-over a b floor i = subst (λ (k : ℕ). FloorAt (tableOf cs ms ts k) a b floor i) same
+
+  pub floor-over : (a : Atoms) (first floor : Board) → Floor n (atomsOf (tableOf cs ms ts n) a) first floor
+      → Floor m (atomsOf (tableOf cs ms ts m) a) first floor
+  floor-over a first floor = subst (λ (k : ℕ). Floor k (atomsOf (tableOf cs ms ts k) a) first floor) same
 
   pub cut-over : {a : Atoms} (board : Board) {r : Atoms} → Cut (tableOf cs ms ts n) a (cutAtoms board [] (atomsOf (tableOf cs ms ts n) a)) r
       → Cut (tableOf cs ms ts m) a (cutAtoms board [] (atomsOf (tableOf cs ms ts m) a)) r

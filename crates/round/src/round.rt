@@ -9,6 +9,7 @@ ghost use Rattle.terms.specs.View.{setsOf};
 ghost use Rattle.table.specs.Table.{Forms, formAt, atomsFrom, atomsOf, many as manyOf};
 ghost use Rattle.round.specs.Views.{lentTable, cutSet};
 ghost use Rattle.round.specs.Signing.{SignedSlot, Ready};
+ghost use Rattle.round.specs.Floors.{FloorAt};
 ghost use Rattle.round.specs.Round.{Turned, Cut, Rounded};
 use crate::State;
 use crate::lent::after_turns;
@@ -114,7 +115,8 @@ pub fn cut_by(
     )
 }
 
-// Variable i's turn, by value. A turn that leaves the variable's set as it was leaves the signs too.
+// Variable i's turn, by value. It does not go below the floor, so that a variable that has the floor's set needs none, and a turn that comes to it is
+// over. One that leaves the variable's set as it was leaves the signs too.
 pub fn turned(
     coefficient: &[i32],
     monomial: &[u64],
@@ -123,16 +125,21 @@ pub fn turned(
     board: Board,
     atoms: Atoms,
     i: usize,
+    floor: Board,
 ) -> Board
     requires { let t = lentTable coefficient monomial terms (board .variables) in
-        ⌜ Ready t (setsOf board) atoms (now sign) × (i < board .variables) ⌝ }
+        ⌜ (Ready t (setsOf board) atoms (now sign) × (i < board .variables)) × FloorAt t atoms board floor i ⌝ }
     ensures { λ r.
         let t = lentTable (coefficient .entry) (monomial .entry) (terms .entry) (board .variables) in
         ⌜ Turned t atoms (turnOf (board .variables) (atomsOf t atoms) (setsOf board) i) r (now (sign .exit)) ⌝ }
 {
-    let n = many(atoms.count);
     let old = board.sets[i];
-    let new = cut_by(
+    let low = floor.sets[i];
+    if old == low {
+        return board;
+    }
+    let n = many(atoms.count);
+    let new = cut_down(
         coefficient,
         monomial,
         terms,
@@ -143,6 +150,7 @@ pub fn turned(
         n,
         64 + i,
         SignSet(old),
+        SignSet(low),
     );
     if new.0 == old {
         return board;
@@ -227,6 +235,7 @@ fn cut_atoms(
     cut
 }
 
+// A round. It knows no floor: the turns are given one of empty sets.
 pub fn round(coefficient: &[i32], monomial: &[u64], terms: &[u8], state: State) -> State
     requires { let t = lentTable coefficient monomial terms (state .board .variables) in
         ⌜ Forms t ⌝ }
@@ -238,7 +247,19 @@ pub fn round(coefficient: &[i32], monomial: &[u64], terms: &[u8], state: State) 
     let atoms = state.atoms;
     let mut sign = [0u8; 1280];
     sign_list(board, monomial, terms, atoms, &mut sign);
-    let turned = after_turns(coefficient, monomial, terms, &mut sign, board, atoms);
+    let nowhere = Board {
+        variables: board.variables,
+        sets: [0; 16],
+    };
+    let turned = after_turns(
+        coefficient,
+        monomial,
+        terms,
+        &mut sign,
+        board,
+        atoms,
+        nowhere,
+    );
     let cut = cut_atoms(coefficient, monomial, terms, &sign, turned, atoms);
     State {
         board: turned,

@@ -3,26 +3,23 @@
 use mathlib.Core.Path.{_≡_, sym, _∙_, ap, subst}
 use mathlib.Core.Bool.{true, false}
 use mathlib.Core.List.{List}
-use Prim.Native.Nat.{ℕ, _≤_}
-use native.Mathlib.Omega.{arith}
+use Prim.Native.Nat.{ℕ}
 use lib.IntN.{ℤ}
-use lib.ListN.{replicate, getD-replicate}
-use Rattle.rules.specs.Signs.{SignSet, empty}
+use Rattle.rules.specs.Signs.{SignSet}
 use Rattle.rules.specs.Polynomial.{Atom, Board as Sets}
 use Rattle.rules.specs.Rounds.{start, rounds, enough, run, settled}
 use Rattle.rules.specs.Rounds.{State as Standing}
 use Rattle.removal_laws.specs.Rounds.{LowBoard}
 use Rattle.removal_laws.specs.Settled.{start-low}
 use Rattle.ending_laws.specs.Rounds.{start-length}
-use Rattle.turn_laws.specs.AfterTurns.{AfterTurns, after-low, end, same-end, Idle, Floor, floor-empty}
+use Rattle.turn_laws.specs.AfterTurns.{AfterTurns, after-low, end, same-end, Idle, Floor}
 use Rattle.turn_laws.specs.Afresh.{Afresh, afresh-start, PairsIdle, floor-settled, run-by-turns}
 use Rattle.terms.specs.declared.Board.{Board}
-use Rattle.terms.specs.View.{few, numbersFrom, setsOf}
+use Rattle.terms.specs.View.{setsOf}
 use Rattle.table.specs.declared.Atoms.{Atoms}
 use Rattle.table.specs.Table.{Table, atomsOf, many}
 use Rattle.round.specs.declared.State.{State}
 use Rattle.round.specs.Views.{tableOf, stateOf}
-use Rattle.round.specs.Boards.{set-at}
 use Rattle.ahead.specs.declared.Passed.{Passed}
 use Rattle.ahead.specs.Ahead.{Ahead}
 use Rattle.rounds.specs.declared.Counted.{Counted}
@@ -100,12 +97,7 @@ settled-start cs ms ts {n} same {first} list is-start {r} passed =
       pairs-idle = λ e i h. subst (λ (st : Standing). PairsIdle n (record { board = setsOf (r .board); atoms = st .atoms }) i) is-start (a .pairs-idle e i h);
     }
 
--- a board of empty sets is a floor
-pub nothing-below : (n : ℕ) → n ≤ 16 → (atoms : List Atom) (first : Sets) → Floor n atoms first (numbersFrom (replicate 16 0) 0 (few n))
-nothing-below n h atoms first = floor-empty (λ i low.
-    set-at (replicate 16 0) i (few n) (omega arith) ∙ getD-replicate 16 i 0 0 (omega arith))
-
--- and so are the settled sets, of fresh rounds
+-- the settled sets are a floor of fresh rounds
 pub settled-below : {t : Table} {state : State} {others : List Atom} → AfreshFrom t state others
     → Floor (t .variables) (start (t .variables) others .atoms) (start (t .variables) others .board) (setsOf (state .board))
 settled-below {t} from = floor-settled (afresh-start (t .variables) (from .given) (from .settles) (from .some))

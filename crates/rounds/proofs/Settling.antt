@@ -30,10 +30,6 @@ pub ahead-over : (cs : List ℤ) (ms ts : List ℕ) {n m : ℕ} → n ≡ m → 
     → Ahead (tableOf cs ms ts m) a b r ss
 ahead-over cs ms ts same {a} {b} {r} {ss} = subst (λ (k : ℕ). Ahead (tableOf cs ms ts k) a b r ss) same
 
-pub floor-over : (cs : List ℤ) (ms ts : List ℕ) {n m : ℕ} → n ≡ m → (a : Atoms) (first floor : List SignSet) → Floor n (atomsOf (tableOf cs ms ts n) a) first floor
-    → Floor m (atomsOf (tableOf cs ms ts m) a) first floor
-floor-over cs ms ts same a first floor = subst (λ (k : ℕ). Floor k (atomsOf (tableOf cs ms ts k) a) first floor) same
-
 -- what has been left of the first board so far
 pub record Narrowing (t : Table) (a : Atoms) (first board : Board) : Type 0 where
   pub variables : board .variables ≡ t .variables

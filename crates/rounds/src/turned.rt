@@ -24,7 +24,8 @@ use table::Atoms;
 use terms::Board;
 use terms::few;
 
-// A round of turns: the board that it left, if it changed anything; else what a pair finds of a variable on it, if one does.
+// A round of turns, none of which goes below the floor: the board that it left, if it changed anything; else what a pair finds of a variable on it,
+// if one does.
 fn turned_round(
     coefficient: &[i32],
     monomial: &[u64],
@@ -40,7 +41,7 @@ fn turned_round(
         let t = lentTable (coefficient .entry) (monomial .entry) (terms .entry) (board .variables) in
         ⌜ TurnedOn t atoms board floor r (now (sign .exit)) ⌝ }
 {
-    let next = after_turns(coefficient, monomial, terms, sign, board, atoms);
+    let next = after_turns(coefficient, monomial, terms, sign, board, atoms, floor);
     let old = board.sets;
     let new = next.sets;
     if !same_sets(&old, &new, few(board.variables)) {

@@ -8,10 +8,10 @@ use Rattle.terms.specs.View.{setsOf}
 use Rattle.table.specs.Table.{Table}
 use Rattle.turn_laws.specs.AfterTurns.{no-turn, floor-later}
 use Rattle.round.specs.Views.{tableOf, lentTable}
-use Rattle.round.specs.Over.{forms-over, ready-over}
+use Rattle.round.specs.Over.{forms-over, ready-over, floor-over}
 use Rattle.round.specs.SignedSlots.{form-slots, list-ready}
 use Rattle.ahead.specs.Ahead.{After}
-use Rattle.ahead.proofs.Passing.{floor-over, after-over, ahead-over, reached-after, after-pass, after-last}
+use Rattle.ahead.proofs.Passing.{after-over, ahead-over, reached-after, after-pass, after-last}
 use Rattle.ahead.proofs.ahead.Statement.{statement}
 use Rattle.ahead.proofs.ahead.Tie as tie
 

@@ -1,17 +1,13 @@
 -- `pass` meets its contract: each variable has its turn at its place, and what is told so far is told of all at the end.
-use mathlib.Core.Path.{_≡_, refl, sym, _∙_, ap, subst}
-use Prim.Native.Nat.{ℕ, _-_, _≤_}
+use mathlib.Core.Path.{_≡_, refl, sym, _∙_}
+use Prim.Native.Nat.{_-_, _≤_}
 use native.Mathlib.Omega.{arith}
-use lib.ListN.{length, getD}
-use Rattle.rules.specs.Signs.{full}
-use Rattle.terms.specs.View.{few, setsOf}
-use Rattle.table.specs.Table.{atomsOf}
-use Rattle.turn_laws.specs.AfterTurns.{Floor}
+use lib.ListN.{length}
+use Rattle.table.specs.Table.{Table}
 use Rattle.round.specs.Views.{tableOf, lentTable}
-use Rattle.round.specs.Boards.{set-at}
-use Rattle.round.specs.Over.{ready-over}
-use Rattle.ahead.specs.Ahead.{placeOf, FloorAt}
-use Rattle.ahead.proofs.Passing.{place-below, stepped-over, floor-at-over, floor-after, Passing, passing-after, passing-first, passing-next, passing-last}
+use Rattle.round.specs.Floors.{floor-at}
+use Rattle.round.specs.Over.{ready-over, floor-at-over}
+use Rattle.ahead.proofs.Passing.{place-below, stepped-over, Passing, passing-first, passing-next, passing-last}
 use Rattle.ahead.proofs.pass.Statement.{statement}
 use Rattle.ahead.proofs.pass.Tie as tie
 
@@ -29,6 +25,9 @@ loop-holds c = (refl, (omega arith, passing-first _ _ _ _ _ refl (c .before .bef
 place-requires : tie.Need-place-requires Inv-loop μ-loop
 place-requires c κs = omega arith
 
+abbrev table : tie.Start Inv-loop μ-loop → Table
+table s = lentTable (s .args .coefficient) (s .args .monomial) (s .args .terms) (s .args .board .variables)
+
 step-requires : tie.Need-step-requires Inv-loop μ-loop
 step-requires c κs =
     let s = c .before .before .before .before .before .before .before in
@@ -42,7 +41,8 @@ step-requires c κs =
       rw is (
         omega (arith, low, passing .variables),
         floor-at-over _ _ _ (sym (passing .variables)) (s .args .atoms) (l .passed .board) (s .args .floor) _
-            (floor-after (s .args .floor) (passing-after _ _ _ _ passing) (ready .forms .variables) same below _ low),
+            (floor-at (table s) (s .args .atoms) (s .args .board) (l .passed .board) (s .args .floor) (passing .after) (passing .variables)
+            (ready .forms .variables) same below _ low),
       ),
     )
 

@@ -11,9 +11,9 @@ use Rattle.rules.specs.Rounds.{cutBy}
 use Rattle.terms.specs.View.{few, setsOf}
 use Rattle.table.specs.Table.{Table, atomsOf}
 use Rattle.round.specs.Views.{lentTable}
+use Rattle.round.specs.Floors.{floor-keeps}
 use Rattle.round.specs.SignedSlots.{form-slots, list-ready}
 use Rattle.round.specs.Boards.{turn-changes, turn-keeps}
-use Rattle.ahead.proofs.Passing.{floor-keeps}
 use Rattle.ahead.proofs.step.Statement.{statement}
 use Rattle.ahead.proofs.step.Tie as tie
 

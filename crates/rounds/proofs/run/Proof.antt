@@ -1,9 +1,10 @@
 -- `run` meets its contract: the rounds from the narrowed start.
 use borrow.Author.Needs.{needs}
 use mathlib.Core.Path.{refl, sym}
+use Rattle.round.specs.Floors.{nothing-below}
 use Rattle.round.specs.Over.{forms-over}
 use Rattle.rounds.proofs.Ends.{ended-over}
-use Rattle.rounds.proofs.Beginnings.{nothing-below, narrowed-low, run-narrowed}
+use Rattle.rounds.proofs.Beginnings.{narrowed-low, run-narrowed}
 use Rattle.rounds.proofs.run.Statement.{statement}
 use Rattle.rounds.proofs.run.Tie as tie
 

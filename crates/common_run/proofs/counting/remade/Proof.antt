@@ -5,7 +5,8 @@ use Rattle.rules.specs.Rounds.{start as startOf}
 use Rattle.table.specs.Table.{Table}
 use Rattle.round.specs.Views.{lentTable}
 use Rattle.round.specs.Over.{forms-over}
-use Rattle.common_run.proofs.Above.{above-start, above-over}
+use Rattle.common_run.proofs.Above.{above-start, floored-start, above-over}
+use Rattle.common_run.proofs.Turnings.{floored-over}
 use Rattle.common_run.proofs.Counts.{made-now}
 use Rattle.common_run.proofs.counting.remade.Statement.{statement}
 use Rattle.common_run.proofs.counting.remade.Tie as tie
@@ -18,8 +19,10 @@ marking-run-requires c κs =
     let s = c .before .before .before .before .before .before in
     let begun = c .before .start in
     let own = sym (begun .ensures .0) in
-    let above = above-start (s .pre .1 .0 .afresh) (begun .result) (begun .ensures .1 ∙ ap (startOf (s .args .variables)) (c .before .before .joined .ensures (table s))) in
-    (forms-over _ _ _ own (s .pre .0), above-over _ _ _ own above)
+    let started = begun .ensures .1 ∙ ap (startOf (s .args .variables)) (c .before .before .joined .ensures (table s)) in
+    let above = above-start (s .pre .1 .0 .afresh) (begun .result) started in
+    let floored = floored-start (s .pre .1 .0 .afresh) (begun .result) started in
+    (forms-over _ _ _ own (s .pre .0), (above-over _ _ _ own above, floored-over _ _ _ own floored))
 
 returns-2 : tie.Need-returns-2
 returns-2 c =

@@ -9,7 +9,8 @@ use Rattle.round.specs.declared.State.{State}
 use Rattle.round.specs.Views.{tableOf, lentTable}
 use Rattle.round.specs.Over.{ready-over}
 use Rattle.round.specs.SignedSlots.{list-ready}
-use Rattle.common_run.proofs.Above.{above-after, above-over, no-pair-over}
+use Rattle.common_run.proofs.Above.{above-after, floored-after, above-over, no-pair-over}
+use Rattle.common_run.proofs.Turnings.{floored-over}
 use Rattle.common_run.proofs.Running.{turns-over, same-boards, Running, running-first, running-left, next-sets, running-on, running-last}
 use Rattle.common_run.proofs.run.marking_run.Statement.{statement}
 use Rattle.common_run.proofs.run.marking_run.Tie as tie
@@ -17,7 +18,7 @@ use Rattle.common_run.proofs.run.marking_run.Tie as tie
 abbrev Inv-loop : tie.InvT-loop
 Inv-loop coefficient monomial terms floor largest atoms sign₀ stood₀ boards₀ marks₀ round₀ sign stood boards marks round =
     let first : State = record { board = stood₀; atoms = atoms } in
-    Running (tableOf coefficient monomial terms (stood₀ .variables)) first round stood (boards .sets) (marks .first) sign × ((length (stood .sets) ≡ 16) × (round ≤ 40))
+    Running (tableOf coefficient monomial terms (stood₀ .variables)) first round stood (boards .sets) marks sign × ((length (stood .sets) ≡ 16) × (round ≤ 40))
 
 abbrev μ-loop : tie.MeasureT-loop
 μ-loop coefficient monomial terms floor largest atoms sign₀ stood₀ boards₀ marks₀ round₀ sign stood boards marks round = 40 - round
@@ -25,18 +26,27 @@ abbrev μ-loop : tie.MeasureT-loop
 abbrev table : tie.Start Inv-loop μ-loop → Table
 table s = lentTable (s .args .coefficient) (s .args .monomial) (s .args .terms) (s .args .start .board .variables)
 
+-- the first board has sixteen sets
+sixteen-first : (s : tie.Start Inv-loop μ-loop) → length (s .args .start .board .sets) ≡ 16
+sixteen-first s = search (needs, s .good .1 .1 .1 .0)
+
 loop-holds : tie.Need-loop-holds Inv-loop μ-loop
 loop-holds c =
     let s = c .before .before .before .before .before .before .before .before .before in (
       running-first (s .args .start) _ _ refl (rw (c .before .before .before .sign-list .ensures) (list-ready {t = table s} (s .args .start .board) (s .args .start .atoms) _ (s .pre .0) refl (length-replicate {A = ℕ} 1280 0))),
-      (search (needs, s .good .1 .1 .1 .0), omega arith),
+      (sixteen-first s, omega arith),
     )
 
 returns : tie.Need-returns Inv-loop μ-loop
 returns c e = running-left (c .before .before .before .before .loop .inv .0) (c .before .before .stored .ensures) (c .before .before .before .loop-test .taken)
 
 turns-marking-requires : tie.Need-turns-marking-requires Inv-loop μ-loop
-turns-marking-requires c κs = let loop = c .before .before .before .before .before .loop in (ready-over _ _ _ (sym (loop .inv .0 .variables)) (loop .inv .0 .ready), omega arith)
+turns-marking-requires c κs =
+    let loop = c .before .before .before .before .before .loop in
+    let s = c .before .before .before .before .before .before .before .before .before .before .before .before .before .before .before in
+    let own = sym (loop .inv .0 .variables) in
+    let floored = floored-after (s .pre .1 .1) _ (loop .stood) (loop .inv .0 .sets) in
+    (ready-over _ _ _ own (loop .inv .0 .ready), (omega arith, floored-over _ _ _ own floored))
 
 -- the board that the turns leave has sixteen sets
 sixteen : (c : tie.After-turns-marking Inv-loop μ-loop) → length (c .turns-marking .result .board .sets) ≡ 16
@@ -57,7 +67,7 @@ no-pair-requires c κs =
     let loop = c .before .before .before .before .before .before .before .before .before .before .before .before .before .before .before .before .before .loop in
     let m = turns-over _ _ _ (loop .inv .0 .variables) (c .before .before .before .before .before .before .before .before .before .before .before .turns-marking .ensures) in
     let own = sym (m .turned .variables) in
-    let above = above-after (s .pre .1) _ (c .before .before .before .before .before .before .before .before .before .before .before .turns-marking .result .board) (next-sets (loop .inv .0) (c .before .before .before .before .before .before .before .before .before .before .before .before .before .before .before .stored .ensures) m) in
+    let above = above-after (s .pre .1 .0) _ (c .before .before .before .before .before .before .before .before .before .before .before .turns-marking .result .board) (next-sets (loop .inv .0) (c .before .before .before .before .before .before .before .before .before .before .before .before .before .before .before .stored .ensures) m) in
     (ready-over _ _ _ own (m .turned .ready), above-over _ _ _ own above)
 
 returns-2 : tie.Need-returns-2 Inv-loop μ-loop

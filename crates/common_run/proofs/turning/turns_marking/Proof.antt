@@ -6,17 +6,17 @@ use lib.ListN.{length}
 use Rattle.terms.specs.View.{setsOf}
 use Rattle.round.specs.Views.{tableOf}
 use Rattle.round.specs.Over.{ready-over}
-use Rattle.common_run.proofs.Turnings.{Turnings, turnings-first, turnings-next, turnings-last, turn-over}
+use Rattle.common_run.proofs.Turnings.{Turnings, turnings-first, turnings-next, turnings-last, turn-over, floored-later, floored-over}
 use Rattle.common_run.proofs.turning.turns_marking.Statement.{statement}
 use Rattle.common_run.proofs.turning.turns_marking.Tie as tie
 
 abbrev Inv-loop : tie.InvT-loop
-Inv-loop coefficient monomial terms sign₀ atoms round n passed₀ i₀ sign passed i =
+Inv-loop coefficient monomial terms sign₀ atoms round floor n passed₀ i₀ sign passed i =
     let t = tableOf coefficient monomial terms n in
-    (length sign ≡ length sign₀) × ((i ≤ n) × Turnings t atoms (setsOf (passed₀ .board)) round (passed₀ .marks .first) i (passed .board) (passed .marks .first) sign)
+    (length sign ≡ length sign₀) × ((i ≤ n) × Turnings t atoms (setsOf (passed₀ .board)) round (passed₀ .marks) i (passed .board) (passed .marks) sign)
 
 abbrev μ-loop : tie.MeasureT-loop
-μ-loop coefficient monomial terms sign₀ atoms round n passed₀ i₀ sign passed i = n - i
+μ-loop coefficient monomial terms sign₀ atoms round floor n passed₀ i₀ sign passed i = n - i
 
 loop-holds : tie.Need-loop-holds Inv-loop μ-loop
 loop-holds c = (refl, (omega arith, turnings-first _ _ _ refl (c .before .before .before .pre .0)))
@@ -27,7 +27,7 @@ turn-marking-requires c κs =
     let s = c .before .before .before .before .before .before .before .before in
     let more = c .before .before .before .loop-test .taken in
     let turnings = l .inv .1 .1 in
-    (ready-over _ _ _ (sym (turnings .variables)) (turnings .ready), (omega (arith, more, turnings .variables), s .pre .1))
+    (ready-over _ _ _ (sym (turnings .variables)) (turnings .ready), (omega (arith, more, turnings .variables), (s .pre .1 .0, floored-over _ _ _ (sym (turnings .variables)) (floored-later (s .pre .1 .1) (turnings .after)))))
 
 loop-again : tie.Need-loop-again Inv-loop μ-loop
 loop-again c =

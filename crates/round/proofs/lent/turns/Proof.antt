@@ -54,9 +54,11 @@ use denote.Triple.Walked.{Walks, ends-at, walked, walk-meets}
 use denote.Triple.Clauses.{Lasts, ensured, lasts}
 use denote.Exit.{yes}
 use Rattle.rules.specs.Rounds.{turn as turnOf}
+use Rattle.turn_laws.specs.AfterTurns.{Floor}
 use Rattle.terms.specs.declared.Board.{Board}
 use Rattle.terms.specs.View.{setsOf}
 use Rattle.terms.proofs.Board as B
+use Rattle.terms.proofs.Board.Laws as B′
 use Rattle.table.specs.declared.Atoms.{Atoms}
 use Rattle.table.specs.Table.{atomsOf}
 use Rattle.table.proofs.Atoms as L
@@ -67,7 +69,8 @@ use Rattle.round.proofs.Lending.{Lent, lent, lfts-before, shares-before
 use Rattle.round.proofs.Lending.{own, own-before, own-out, own-in, own-twice, tokens, tokens-before, tokens-out, tokens-in}
 use Rattle.round.proofs.Lending.{past-table, after-table, dropped, goes-read}
 use Rattle.round.proofs.Locals.{type-of, has, bare, gets, here, held, yields, passing, sets, takes, free, free-bare}
-use Rattle.round.proofs.LentBoard.{board-vals, atom-vals, IsAtoms, cell, variables-fit, atoms-typed, owns-number, owns-atoms, opens-board}
+use Rattle.round.proofs.LentBoard.{board-vals, atom-vals, IsBoard, IsAtoms, cell, variables-fit, board-typed, atoms-typed}
+use Rattle.round.proofs.LentBoard.{owns-number, owns-atoms, owns-board, opens-board}
 use Rattle.round.proofs.Again.{LentAgain, lends-again, comes-back}
 use Rattle.round.proofs.Narrowing.{Narrowing, narrowing, asked, narrowed, narrowed-all}
 use Rattle.round.proofs.lent.turn as turn
@@ -92,17 +95,22 @@ body = mapBody (spell written.table) written.by-name-turn-1
 
 -- at exit the signs and the board's borrow are still owned
 abbrev stayed : Stays (turns.ended .signature .params) (turns.ended .kept)
-stayed = (dropped, (dropped, (dropped, (stay-slice (3 ∷ []) tt bytes, (stay-ref (4 ∷ []) tt boards, (dropped, tt))))))
+stayed = (dropped, (dropped, (dropped, (stay-slice (3 ∷ []) tt bytes, (stay-ref (4 ∷ []) tt boards, (dropped, (dropped, tt)))))))
 
 -- the contract that the proof cites
 abbrev Turn : {M : Type 1} (𝓤 : URA M) (H : Heap 𝓤) (A : Ghosts 𝓤) (at-mem : Memory → SProp 𝓤) (run : Routine → Fun 𝓤) → Contract 𝓤
 Turn 𝓤 H A at-mem run = tripleOf 𝓤 H A turn.signature (turn.spec 𝓤 H A at-mem run)
 
 module _ {M : Type 1} (𝓤 : URA M) (H : Heap 𝓤) (A : Ghosts 𝓤) (W : Given 𝓤 H A) (at-mem : Memory → SProp 𝓤) (run : Routine → Fun 𝓤)
-    (t : Lent) (κ₃ κ : Lft) (q₃ q : Share) (y : RefT (List ℕ)) (b o : ℕ) (γ : GName) (h : Board) (l : Atoms) (gl : IsAtoms l) where
+    (t : Lent) (κ₃ κ : Lft) (q₃ q : Share) (y : RefT (List ℕ)) (b o : ℕ) (γ : GName) (h : Board) (l : Atoms) (f : Board)
+    (gl : IsAtoms l) (gf : IsBoard f (board-vals f)) where
   -- what a turn of the loop begins from
   abbrev Sofar : Type 0
   Sofar = Narrowing (t .coefficient .now) (t .monomial .now) (t .terms .now) l h (y .now)
+
+  -- what is asked of the floor
+  abbrev Lowest : Type 0
+  Lowest = (f .variables ≡ h .variables) × Floor (h .variables) (atomsOf (tableOf t (h .variables)) l) (setsOf h) (setsOf f)
 
   -- the borrows of the signs and of the board, under the name δ
   abbrev signs-at : GName → List ℕ → RefT (List ℕ)
@@ -125,10 +133,10 @@ module _ {M : Type 1} (𝓤 : URA M) (H : Heap 𝓤) (A : Ghosts 𝓤) (W : Give
   shares = shares-before t (q₃, (q, tt))
 
   abbrev args : Args turns.signature lfts
-  args = args-before t (y, (board-at γ h, (l, tt)))
+  args = args-before t (y, (board-at γ h, (l, (f, tt))))
 
   abbrev passed : Vals turns.signature lfts
-  passed = vals-before t (slice-vals y, (vptr b o ∷ [], (atom-vals l, tt)))
+  passed = vals-before t (slice-vals y, (vptr b o ∷ [], (atom-vals l, (board-vals f, tt))))
 
   abbrev Post : Val → SProp 𝓤
   Post = walkOf 𝓤 H A turns.ended stayed (turns.clauses 𝓤 H A at-mem run) .post ((lfts, shares, tt, args, passed), tt)
@@ -141,10 +149,11 @@ module _ {M : Type 1} (𝓤 : URA M) (H : Heap 𝓤) (A : Ghosts 𝓤) (W : Give
   exits u over =
       qed W (Had u []) ∵
       suffices ! _ (ends-at 𝓤 H A turns.ended stayed (turns.clauses 𝓤 H A at-mem run) W ((lfts, shares, tt, args, passed), tt) vunit tt
-      (tt, (tt, (tt, (u .sign, (u .board, (tt, tt)))))) (tt, (tt, (tt, (u .places, (tt, (tt, tt))))))) $ says ! (narrowed-all _ _ _ _ _ _ u over) $
+      (tt, (tt, (tt, (u .sign, (u .board, (tt, (tt, tt))))))) (tt, (tt, (tt, (u .places, (tt, (tt, (tt, tt)))))))) $
+      says ! (narrowed-all _ _ _ _ _ _ u over) $
       nothing ! $ move ! (2 ∷ 0 ∷ []) $ join ! $ move ! (3 ∷ 0 ∷ []) $ join ! $ move ! (3 ∷ 0 ∷ []) $ tokens-in ! t $ frame ! $
       -- [the board's borrow; the signs]
-      nothing ! $ nothing ! $ fjoin ! $ move ! (1 ∷ 0 ∷ []) $ fjoin ! $ move ! (1 ∷ 0 ∷ []) $ fjoin ! $ after-table ! $
+      nothing ! $ nothing ! $ fjoin ! $ nothing ! $ fjoin ! $ move ! (1 ∷ 0 ∷ []) $ fjoin ! $ move ! (1 ∷ 0 ∷ []) $ fjoin ! $ after-table ! $
       feqI ! (List Val) (vunit ∷ []) (vunit ∷ []) refl $ move ! (1 ∷ 0 ∷ []) $ done !
 
   -- what `turn` is given: the signs, lent again for ν, and the board, lent again for ν′
@@ -155,8 +164,8 @@ module _ {M : Type 1} (𝓤 : URA M) (H : Heap 𝓤) (A : Ghosts 𝓤) (W : Give
         lfts-before t (ν ∷ [], (ν′ ∷ [], tt)),
         shares-before t (fullShare, (fullShare, tt)),
         tt,
-        args-before t (signs-at δ (u .sign), (board-at δ′ (u .board), (l, (u .i, tt)))),
-        vals-before t (slice-vals y, (vptr b o ∷ [], (atom-vals l, (vint w64 (u .i) ∷ [], tt)))),
+        args-before t (signs-at δ (u .sign), (board-at δ′ (u .board), (l, (u .i, (f, tt))))),
+        vals-before t (slice-vals y, (vptr b o ∷ [], (atom-vals l, (vint w64 (u .i) ∷ [], (board-vals f, tt))))),
       ),
       tt,
     )
@@ -166,11 +175,11 @@ module _ {M : Type 1} (𝓤 : URA M) (H : Heap 𝓤) (A : Ghosts 𝓤) (W : Give
         tokens t ∷ ‵ (flft (ν ∷ []) fullShare) ∷ ‵ (flft (ν′ ∷ []) fullShare) ∷ ‵ (own t)
         ∷ ‵ (signs (ν ∷ []) δ (u .sign)) ∷ ‵ (board (ν′ ∷ []) δ′ (u .board)) ∷ []
 
-    goes : u .i < h .variables → u .i < 2 ^ 64 → ent 𝓤 (⋆ 𝓤 H A Given-on) (Turn 𝓤 H A at-mem run .pre to-turn)
-    goes less fits =
-        qed W Given-on ∵ says ! (asked _ _ _ _ _ _ u less) $
+    goes : Lowest → u .i < h .variables → u .i < 2 ^ 64 → ent 𝓤 (⋆ 𝓤 H A Given-on) (Turn 𝓤 H A at-mem run .pre to-turn)
+    goes below less fits =
+        qed W Given-on ∵ says ! (asked _ _ _ _ _ _ u f below less) $
         nothing ! $ move ! (3 ∷ 0 ∷ []) $ join ! $ move ! (2 ∷ 0 ∷ []) $ join ! $ move ! (1 ∷ 0 ∷ []) $ tokens-in ! t $ frame ! $
-        nothing ! $ owns-number ! (u .i) fits $ fjoin ! $ owns-atoms ! l gl $ fjoin ! $
+        nothing ! $ owns-board ! f gf $ fjoin ! $ owns-number ! (u .i) fits $ fjoin ! $ owns-atoms ! l gl $ fjoin ! $
         move ! (3 ∷ 0 ∷ []) $ fjoin ! $ move ! (2 ∷ 0 ∷ []) $ fjoin ! $ move ! (1 ∷ 0 ∷ []) $ own-in ! t $ done !
 
     -- what `turn` gives back, and what it says of the board r and the signs zs that are left
@@ -199,20 +208,21 @@ module _ {M : Type 1} (𝓤 : URA M) (H : Heap 𝓤) (A : Ghosts 𝓤) (W : Give
   Nearer-wf : WellFounded Nearer
   Nearer-wf = InvImage·wf (λ (u : Sofar). h .variables - u .i) (Nat·lt-wfRel .wf)
 
-  module _ (𝓣 : Tables 𝓤 H) (known : Triple 𝓤 (𝓣 .C #turn) (Turn 𝓤 H A at-mem run)) (roomy : Roomy t) (room : Room u8 (length (y .now))) where
+  module _ (𝓣 : Tables 𝓤 H) (known : Triple 𝓤 (𝓣 .C #turn) (Turn 𝓤 H A at-mem run)) (roomy : Roomy t) (room : Room u8 (length (y .now)))
+      (below : Lowest) where
     abbrev C : Calls 𝓤 H
     C = 𝓣 .C
 
     abbrev Λ : Loops 𝓤 H
     Λ = 𝓣 .Λ
 
-    module _ (gn : h .variables < 2 ^ 64) (l₀ l₁ l₂ l₃ l₄ l₅ l₆ l₇ l₈ l₉ l₁₀ l₁₁ l₁₂ l₁₃ : ℕ) where
+    module _ (gn : h .variables < 2 ^ 64) (l₀ l₁ l₂ l₃ l₄ l₅ l₆ l₇ l₈ l₉ l₁₀ l₁₁ l₁₂ l₁₃ l₁₄ : ℕ) where
       abbrev ty : ℕ → Ty
       ty k = type-of (code.function .locals) k
 
       abbrev En : Env 𝓤 H
       En = (ty 0, l₀) ∷ (ty 1, l₁) ∷ (ty 2, l₂) ∷ (ty 3, l₃) ∷ (ty 4, l₄) ∷ (ty 5, l₅) ∷ (ty 6, l₆) ∷ (ty 7, l₇) ∷ (ty 8, l₈) ∷ (ty 9, l₉)
-          ∷ (ty 10, l₁₀) ∷ (ty 11, l₁₁) ∷ (ty 12, l₁₂) ∷ (ty 13, l₁₃) ∷ []
+          ∷ (ty 10, l₁₀) ∷ (ty 11, l₁₁) ∷ (ty 12, l₁₂) ∷ (ty 13, l₁₃) ∷ (ty 14, l₁₄) ∷ []
 
       abbrev on : ℕ → ℕ → Val → List (Item 𝓤) → List (Item 𝓤)
       on k a v Γ = has (code.function .locals) k a v Γ
@@ -223,9 +233,10 @@ module _ {M : Type 1} (𝓤 : URA M) (H : Heap 𝓤) (A : Ghosts 𝓤) (W : Give
       -- the invariant
       abbrev At : Sofar → List (Item 𝓤)
       At u = Had u (‵ (own t)
-          ∷ off 13 l₁₃ (off 12 l₁₂ (off 11 l₁₁ (off 10 l₁₀ (off 9 l₉ (on 8 l₈ (vint w64 (u .i)) (on 7 l₇ (vint w64 (h .variables))
-          (on 6 l₆ (only (atom-vals l)) (on 5 l₅ (vptr b o) (on 4 l₄ (only (slice-vals y)) (on 3 l₃ (only (slice-vals (t .terms)))
-          (on 2 l₂ (only (slice-vals (t .monomial))) (on 1 l₁ (only (slice-vals (t .coefficient))) (off 0 l₀ []))))))))))))))
+          ∷ off 14 l₁₄ (off 13 l₁₃ (off 12 l₁₂ (off 11 l₁₁ (off 10 l₁₀ (on 9 l₉ (vint w64 (u .i)) (on 8 l₈ (vint w64 (h .variables))
+          (on 7 l₇ (only (board-vals f)) (on 6 l₆ (only (atom-vals l)) (on 5 l₅ (vptr b o) (on 4 l₄ (only (slice-vals y))
+          (on 3 l₃ (only (slice-vals (t .terms))) (on 2 l₂ (only (slice-vals (t .monomial)))
+          (on 1 l₁ (only (slice-vals (t .coefficient))) (off 0 l₀ [])))))))))))))))
 
       -- a turn's postcondition: it ends nearer to the last variable, or the loop is left and the rest of the body runs
       abbrev Next : Sofar → Out → SProp 𝓤
@@ -241,12 +252,12 @@ module _ {M : Type 1} (𝓤 : URA M) (H : Heap 𝓤) (A : Ghosts 𝓤) (W : Give
       unfolding afterTurn
       more u e =
           sets ! 6 (bin ! (held ! 6 refl) (held ! 6 refl) tt) refl (tt, tt) $
-          rewrite ! 14 (λ (z : Bool). ‵ (fat fullShare tyBool l₉ 0 (vbool z))) e refl $ stays ! (held ! 6 refl) $
-          sets ! 6 (addr ! (from ! (fld ! refl (hop ! (look-in ! 24 (sub ! 0 refl (whole !))) (stop !))))) refl (tt, tt) $
+          rewrite ! 14 (λ (z : Bool). ‵ (fat fullShare tyBool l₁₀ 0 (vbool z))) e refl $ stays ! (held ! 6 refl) $
+          sets ! 6 (addr ! (from ! (fld ! refl (hop ! (look-in ! 26 (sub ! 0 refl (whole !))) (stop !))))) refl (tt, tt) $
           sets ! 6
-          (agg ! (and-then ! (held ! 6 refl) (and-then ! (load ! (from ! (fld ! refl (stop !))) (look-in ! 24 (sub ! 1 refl (whole !)))) (no-more !))))
+          (agg ! (and-then ! (held ! 6 refl) (and-then ! (load ! (from ! (fld ! refl (stop !))) (look-in ! 26 (sub ! 1 refl (whole !)))) (no-more !))))
           refl (tt, (tt, (record { fits = room .0 }, tt))) $
-          sets ! 6 (addr ! (from ! (hop ! (look ! 22 refl) (stop !)))) refl (tt, tt) $
+          sets ! 6 (addr ! (from ! (hop ! (look ! 24 refl) (stop !)))) refl (tt, tt) $
           -- the signs are lent again for ν, and the board for ν′
           move ! (5 ∷ []) $ own-twice ! t $ lft-new ! tt (λ ν. move ! (5 ∷ 6 ∷ []) $
           use2 W (later (some (λ (δ : GName). ‵ (signs (ν ∷ []) δ (u .sign)) ⊛ ‵ (SignsLent ν δ (u .sign)))))
@@ -256,10 +267,11 @@ module _ {M : Type 1} (𝓤 : URA M) (H : Heap 𝓤) (A : Ghosts 𝓤) (W : Give
           (lends-board 𝓤 H A W B.the-row (named 4) κ (ν′ ∷ []) q γ b o (named 4) (u .board)) $ await ! tt $ pick ! (λ δ′. split ! $
           -- [the board; what is kept of it; ν′; the signs; what is kept of them; ν; what the slices own, twice; tokens; the locals]
           move ! (8 ∷ 5 ∷ 2 ∷ 6 ∷ 3 ∷ 0 ∷ []) $ group ! 6 $
-          use1 W (raw (Turn 𝓤 H A at-mem run .pre (to-turn u ν ν′ δ δ′))) (goes u ν ν′ δ δ′ less (fits u)) $
+          use1 W (raw (Turn 𝓤 H A at-mem run .pre (to-turn u ν ν′ δ δ′))) (goes u ν ν′ δ δ′ below less (fits u)) $
           calls-at ! (fmOf 𝓤 H (W .laws) 𝓣) (Turn 𝓤 H A at-mem run) known (to-turn u ν ν′ δ δ′)
           (passing ! (and-then ! (held ! 4 refl) (and-then ! (held ! 4 refl) (and-then ! (held ! 4 refl) (and-then ! (held ! 4 refl)
-          (and-then ! (held ! 4 refl) (and-then ! (held ! 4 refl) (and-then ! (held ! 4 refl) (no-more !)))))))) refl) (λ v.
+          (and-then ! (held ! 4 refl) (and-then ! (held ! 4 refl) (and-then ! (held ! 4 refl) (and-then ! (held ! 4 refl) (no-more !)))))))))
+          refl) (λ v.
           use1 W (later (some (λ (r : Unit {0}). Answer u ν ν′ δ δ′ r v))) (id⊢ 𝓤 _) $ await ! tt $ pick ! (λ done. split ! $ move ! (1 ∷ []) $
           use1 W (some (Left u ν ν′ δ δ′)) (id⊢ 𝓤 _) $ pick ! (λ ws.
           let zs = ws .1 .1 .1 .0 in
@@ -293,11 +305,11 @@ module _ {M : Type 1} (𝓤 : URA M) (H : Heap 𝓤) (A : Ghosts 𝓤) (W : Give
       unfolding afterTurn
       ends u e =
           sets ! 6 (bin ! (held ! 6 refl) (held ! 6 refl) tt) refl (tt, tt) $
-          rewrite ! 14 (λ (z : Bool). ‵ (fat fullShare tyBool l₉ 0 (vbool z))) e refl $ leaves-loop ! (held ! 6 refl) $
-          exec ! C Λ En written.t-4 (atRet En Post) $ sets ! 6 (of-opd ! (unit-lit !)) refl (tt, tt) $ returns ! (look ! 32 refl) $
+          rewrite ! 14 (λ (z : Bool). ‵ (fat fullShare tyBool l₁₀ 0 (vbool z))) e refl $ leaves-loop ! (held ! 6 refl) $
+          exec ! C Λ En written.t-4 (atRet En Post) $ sets ! 6 (of-opd ! (unit-lit !)) refl (tt, tt) $ returns ! (look ! 34 refl) $
           free ! 6 refl refl $ free ! 6 refl refl $ free ! 6 refl refl $ free ! 6 refl refl $ free ! 6 refl refl $ free ! 6 refl refl $
-          free ! 6 refl refl $ free ! 6 refl refl $ free ! 6 refl refl $ free ! 6 refl refl $ free-bare ! 6 refl refl $ free-bare ! 6 refl refl $
-          free-bare ! 6 refl refl $ free-bare ! 6 refl refl $ free0 ! $
+          free ! 6 refl refl $ free ! 6 refl refl $ free ! 6 refl refl $ free ! 6 refl refl $ free ! 6 refl refl $ free-bare ! 6 refl refl $
+          free-bare ! 6 refl refl $ free-bare ! 6 refl refl $ free-bare ! 6 refl refl $ free0 ! $
           keep ! (0 ∷ 1 ∷ 2 ∷ 3 ∷ 4 ∷ []) $ by ! (exits u over)
         where
           over : h .variables ≤ u .i
@@ -310,10 +322,11 @@ module _ {M : Type 1} (𝓤 : URA M) (H : Heap 𝓤) (A : Ghosts 𝓤) (W : Give
     -- ---- the walk up to the loop
 
     abbrev after : Fml
-    after = owns (MutSlice (named 3) κ₃ u8 ∷ MutRef (named 4) κ B.the-row ∷ L.the-row ∷ []) (args .1 .1 .1) (passed .1 .1 .1)
+    after = owns (MutSlice (named 3) κ₃ u8 ∷ MutRef (named 4) κ B.the-row ∷ L.the-row ∷ B.the-row ∷ []) (args .1 .1 .1) (passed .1 .1 .1)
 
     abbrev values : List Val
-    values = only (passed .0) ∷ only (passed .1 .0) ∷ only (passed .1 .1 .0) ∷ only (slice-vals y) ∷ vptr b o ∷ only (atom-vals l) ∷ []
+    values = only (passed .0) ∷ only (passed .1 .0) ∷ only (passed .1 .1 .0) ∷ only (slice-vals y) ∷ vptr b o ∷ only (atom-vals l)
+        ∷ only (board-vals f) ∷ []
 
     -- the number of variables is read from the board
     walk : Ready (tableOf t (h .variables)) (setsOf h) l (y .now)
@@ -325,22 +338,23 @@ module _ {M : Type 1} (𝓤 : URA M) (H : Heap 𝓤) (A : Ghosts 𝓤) (W : Give
         -- [obs; the borrow; its token; what the signs own; their token; tokens; what the slices own]
         enter ! C Λ code.function values _ $
         alloc1 ! (λ l₀. alloc1 ! (λ l₁. alloc1 ! (λ l₂. alloc1 ! (λ l₃. alloc1 ! (λ l₄. alloc1 ! (λ l₅. alloc1 ! (λ l₆.
-        alloc1 ! (λ l₇. alloc1 ! (λ l₈. alloc1 ! (λ l₉. alloc1 ! (λ l₁₀. alloc1 ! (λ l₁₁. alloc1 ! (λ l₁₂. alloc1 ! (λ l₁₃. alloc0 ! $ params1 ! $
+        alloc1 ! (λ l₇. alloc1 ! (λ l₈. alloc1 ! (λ l₉. alloc1 ! (λ l₁₀. alloc1 ! (λ l₁₁. alloc1 ! (λ l₁₂. alloc1 ! (λ l₁₃.
+        alloc1 ! (λ l₁₄. alloc0 ! $ params1 ! $
         gets ! refl (tt, (tt, (record { fits = roomy .coefficient .0 }, tt))) $ gets ! refl (tt, (tt, (record { fits = roomy .monomial .0 }, tt))) $
         gets ! refl (tt, (tt, (record { fits = roomy .terms .0 }, tt))) $ gets ! refl (tt, (tt, (record { fits = room .0 }, tt))) $
-        gets ! refl (tt, tt) $ gets ! refl (atoms-typed 𝓤 H A W l gl) $ pass0 ! $
-        move ! (28 ∷ 29 ∷ 30 ∷ []) $ opens-board ! tt h b o (λ gh.
+        gets ! refl (tt, tt) $ gets ! refl (atoms-typed 𝓤 H A W l gl) $ gets ! refl (board-typed 𝓤 H A W f _ gf) $ pass0 ! $
+        move ! (30 ∷ 31 ∷ 32 ∷ []) $ opens-board ! tt h b o (λ gh.
         let gn = variables-fit h gh in
         -- [the board's cell; what it owns; the open borrow; obs; auth; the locals]
         use1 W (‵ (fat fullShare cell b o (only (board-vals h)))) (W .laws .raw-at fullShare cell b o (only (board-vals h))) $
-        sets ! 5 (of-opd ! (load ! (from ! (hop ! (look ! 21 refl) (fld ! refl (stop !)))) (look-in ! 0 (sub ! 0 refl (whole !)))))
+        sets ! 5 (of-opd ! (load ! (from ! (hop ! (look ! 23 refl) (fld ! refl (stop !)))) (look-in ! 0 (sub ! 0 refl (whole !)))))
         refl (tt, record { fits = gn }) $
         use1 W (‵ (cellAt fullShare (B.the-row .mir) (board-vals h) b o)) (W .laws .at-raw fullShare cell b o (only (board-vals h))) $
         closes ! tt B.the-row h (board-vals h) b o $ feqI ! (List Val) (vptr b o ∷ []) (vptr b o ∷ []) refl $ fjoin3 ! $
         sets ! 2 (yields ! (vint w64 0) (of-opd ! (lit ! tt)) refl) refl (tt, record { fits = lit< tt }) $
-        move ! (0 ∷ 1 ∷ 30 ∷ 31 ∷ 32 ∷ 33 ∷ []) $ first ! $ blocks ! $
-        loops ! 𝓣 Nearer Nearer-wf (At gn l₀ l₁ l₂ l₃ l₄ l₅ l₆ l₇ l₈ l₉ l₁₀ l₁₁ l₁₂ l₁₃)
-        (λ u. turn-of gn l₀ l₁ l₂ l₃ l₄ l₅ l₆ l₇ l₈ l₉ l₁₀ l₁₁ l₁₂ l₁₃ u _ refl) (narrowing _ _ _ _ _ _ ready))))))))))))))))
+        move ! (0 ∷ 1 ∷ 32 ∷ 33 ∷ 34 ∷ 35 ∷ []) $ first ! $ blocks ! $
+        loops ! 𝓣 Nearer Nearer-wf (At gn l₀ l₁ l₂ l₃ l₄ l₅ l₆ l₇ l₈ l₉ l₁₀ l₁₁ l₁₂ l₁₃ l₁₄)
+        (λ u. turn-of gn l₀ l₁ l₂ l₃ l₄ l₅ l₆ l₇ l₈ l₉ l₁₀ l₁₁ l₁₂ l₁₃ l₁₄ u _ refl) (narrowing _ _ _ _ _ _ ready)))))))))))))))))
 
 -- ---- from the walk to the contract
 
@@ -349,25 +363,27 @@ module _ {M : Type 1} (𝓤 : URA M) (H : Heap 𝓤) (A : Ghosts 𝓤) (W : Give
       → Walks 𝓤 H A turns.ended stayed (WpFn 𝓤 H (𝓣 .C) (𝓣 .Λ) code.function) (turns.clauses 𝓤 H A at-mem run)
   turns-walks 𝓣 known =
       walked 𝓤 H A turns.ended stayed (turns.clauses 𝓤 H A at-mem run) (WpFn 𝓤 H (𝓣 .C) (𝓣 .Λ) code.function)
-      (λ κs. (slice-vals, (slice-vals, (slice-vals, (slice-vals, (ptr-vals, (atom-vals, tt)))))))
+      (λ κs. (slice-vals, (slice-vals, (slice-vals, (slice-vals, (ptr-vals, (atom-vals, (board-vals, tt))))))))
       (λ κs. tells-before (κs .0) (κs .1 .0) (κs .1 .1 .0) (
         mut-slice-tells (named 3) (κs .1 .1 .1 .0) u8,
-        (mut-tells (named 4) (κs .1 .1 .1 .1 .0) B.the-row, (LL.tells L.the-type L′.the-laws, tt)),
+        (mut-tells (named 4) (κs .1 .1 .1 .1 .0) B.the-row, (LL.tells L.the-type L′.the-laws, (LL.tells B.the-type B′.the-laws, tt))),
       ))
       (λ κs qs bounds a g are.
       let κ = κs .1 .1 .1 in
       let q = qs .1 .1 .1 in
-      let (y, (x, (l, _))) = a .1 .1 .1 in
-      let (is-y, (is-x, (is-l, _))) = are .1 .1 .1 in
-      needs 𝓤 _ _ (walk 𝓤 H A W at-mem run (lent κs qs a) (κ .0) (κ .1 .0) (q .0) (q .1 .0) y (x .ptr .0) (x .ptr .1) (x .name) (x .now) l is-l
-      𝓣 known (record { coefficient = are .0 .0 .1; monomial = are .1 .0 .0 .1; terms = are .1 .1 .0 .0 .1 }) (is-y .0 .1)))
+      let (y, (x, (l, (f, _)))) = a .1 .1 .1 in
+      let (is-y, (is-x, (is-l, (is-f, _)))) = are .1 .1 .1 in
+      needs 𝓤 _ _ (λ ask. walk 𝓤 H A W at-mem run (lent κs qs a) (κ .0) (κ .1 .0) (q .0) (q .1 .0) y (x .ptr .0) (x .ptr .1) (x .name) (x .now)
+      l f is-l is-f 𝓣 known
+      (record { coefficient = are .0 .0 .1; monomial = are .1 .0 .0 .1; terms = are .1 .1 .0 .0 .1 }) (is-y .0 .1) (ask .1) (ask .0)))
 
   all-go : AllGo 𝓤 H A W 5 (turns.signature .params) (turns.ended .kept) stayed
   all-go =
       let read = goes-read 𝓤 H A W 5 in
       let signs-go = goes-slice 𝓤 H A W 5 3 tt bytes in
       let atoms-go = goes-dropped 𝓤 H A W 5 (plain (λ _. L.the-row)) yes (λ κs x f. refl) in
-      (read 0 tt i32, (read 1 tt u64, (read 2 tt u8, (signs-go, (goes-ref 𝓤 H A W 5 4 tt boards, (atoms-go, tt))))))
+      let floor-goes = goes-dropped 𝓤 H A W 5 (plain (λ _. B.the-row)) yes (λ κs x f. refl) in
+      (read 0 tt i32, (read 1 tt u64, (read 2 tt u8, (signs-go, (goes-ref 𝓤 H A W 5 4 tt boards, (atoms-go, (floor-goes, tt)))))))
 
 turns-meets : {M : Type 1} (𝓤 : URA M) (H : Heap 𝓤) (A : Ghosts 𝓤) (W : Given 𝓤 H A) (at-mem : Memory → SProp 𝓤) (run : Routine → Fun 𝓤)
     (𝓣 : Tables 𝓤 H) → Triple 𝓤 (𝓣 .C #turn) (Turn 𝓤 H A at-mem run)

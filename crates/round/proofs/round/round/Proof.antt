@@ -6,6 +6,7 @@ use Prim.Native.Nat.{ℕ}
 use lib.ListN.{length-replicate}
 use Rattle.rules.specs.Rounds.{round as roundOf}
 use Rattle.terms.specs.View.{setsOf}
+use Rattle.round.specs.Floors.{nothing-below}
 use Rattle.round.specs.SignedSlots.{list-ready}
 use Rattle.round.specs.Over.{ready-over, cut-over}
 use Rattle.round.proofs.round.round.Statement.{statement}
@@ -13,8 +14,11 @@ use Rattle.round.proofs.round.round.Tie as tie
 
 after-turns-requires : tie.Need-after-turns-requires
 after-turns-requires c κs =
-    let s = c .before .before .before .before .before .before .before .before in
-    rw (c .before .before .sign-list .ensures) (list-ready (s .args .state .board) (s .args .state .atoms) _ (s .pre) refl (length-replicate {A = ℕ} 1280 0))
+    let s = c .before .before .before .before .before .before .before .before in (
+      rw (c .before .before .sign-list .ensures)
+          (list-ready (s .args .state .board) (s .args .state .atoms) _ (s .pre) refl (length-replicate {A = ℕ} 1280 0)),
+      (refl, nothing-below (s .args .state .board .variables) (s .pre .variables) _ _),
+    )
 
 cut-atoms-requires : tie.Need-cut-atoms-requires
 cut-atoms-requires c κs = let turned = c .before .before .after-turns .ensures in ready-over _ _ _ (sym (turned .variables)) (turned .ready)

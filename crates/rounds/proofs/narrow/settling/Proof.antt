@@ -7,12 +7,12 @@ use lib.ListN.{length}
 use Rattle.terms.specs.View.{setsOf}
 use Rattle.table.specs.Table.{Table}
 use Rattle.round.specs.Views.{tableOf, lentTable}
-use Rattle.round.specs.Over.{forms-over, ready-over}
+use Rattle.round.specs.Over.{forms-over, ready-over, floor-over}
 use Rattle.ahead.specs.Ahead.{Ahead}
 use Rattle.search.specs.Search.{SearchedBoard}
 use Rattle.rounds.specs.Afresh.{afresh-filled}
 use Rattle.rounds.proofs.Standing.{above-over, searched-over}
-use Rattle.rounds.proofs.Settling.{ahead-over, floor-over, Narrowing, narrow-first, narrow-above, narrow-floor, narrow-turns, narrow-found, ends-moving, ends-still, ends-early}
+use Rattle.rounds.proofs.Settling.{ahead-over, Narrowing, narrow-first, narrow-above, narrow-floor, narrow-turns, narrow-found, ends-moving, ends-still, ends-early}
 use Rattle.rounds.proofs.narrow.settling.Statement.{statement}
 use Rattle.rounds.proofs.narrow.settling.Tie as tie
 

@@ -19,6 +19,11 @@ use Rattle.rounds.proofs.turned.turned_round.Tie as tie
 abbrev table : tie.Start → Table
 table s = lentTable (s .args .coefficient) (s .args .monomial) (s .args .terms) (s .args .board .variables)
 
+after-turns-requires : tie.Need-after-turns-requires
+after-turns-requires c κs =
+    let s = c .before .before .before .before in
+    (s .pre .0, (s .pre .1 .above .variables, s .pre .1 .turns _ (s .pre .1 .above .afresh .boards)))
+
 new-long : (c : tie.After-after-turns) → length (c .after-turns .result .sets) ≡ 16
 new-long c = search needs
 
@@ -64,4 +69,4 @@ sign-list-requires c κs =
 pub turned-round-spec : {M : Type 1} → statement M
 turned-round-spec =
     tie.close
-    (tie.spec (λ c κs. search needs) (λ c. search needs) (λ c. search needs) (λ c κs. search needs) same-sets-requires (λ c. search needs) returns search-board-requires sign-list-requires (λ c. search needs) returns-2)
+    (tie.spec after-turns-requires (λ c. search needs) (λ c. search needs) (λ c κs. search needs) same-sets-requires (λ c. search needs) returns search-board-requires sign-list-requires (λ c. search needs) returns-2)
