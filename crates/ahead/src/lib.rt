@@ -1,6 +1,9 @@
 // Turns of the variables ahead of the rounds: all of them in one direction, then in the other, until a pass changes nothing.
 // What the rounds come to does not depend on the order of the turns (crate turn_laws). What x_1 learns of x_9 by way of the variables between them
 // takes a round for each in document 01's order, and here one pass.
+
+#![tactic(auto)]
+
 ghost use Rattle.std.specs.Prelude.{◌≡◌, ◌+◌, ◌<◌, ◌≤◌, length, false};
 ghost use Rattle.terms.specs.View.{sets_of};
 ghost use Rattle.table.specs.Table.{Forms, atom_at, atoms_of, many as many_of};
@@ -22,7 +25,7 @@ use table::Atoms;
 use terms::Board;
 
 // Variables in the order of their turns, each with the slot of an atom that narrowed its set. It may be any: no promise goes by it, the cost alone.
-#[derive(Drop)]
+#[derive(Clone, Copy)]
 pub struct Order {
     pub count: usize,
     pub variable: [u8; 64],
@@ -30,7 +33,7 @@ pub struct Order {
 }
 
 // The board that turns have left, whether they left every set as it was, and the variables whose turns did not.
-#[derive(Drop)]
+#[derive(Clone, Copy)]
 pub struct Passed {
     pub board: Board,
     pub still: bool,

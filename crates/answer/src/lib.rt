@@ -1,5 +1,8 @@
 // The answer to a block that was read: its arrays made normal, simplified, collected and written; the verdict, the length and the counts.
 // 01, "Refusal numbers": "An answer returns a verdict (formula, always, unsatisfiable) and a length".
+
+#![tactic(auto)]
+
 ghost use Rattle.std.specs.Prelude.{◌≡◌, List, ℕ, ◌≤◌, length};
 ghost use Rattle.rules.specs.Signs.{bit};
 ghost use Rattle.block.specs.Held.{held_by};
@@ -14,7 +17,7 @@ use used::{atoms, collect, forms_used};
 use writer::write;
 
 // "one of the words FORMULA, ALWAYS, UNSATISFIABLE"
-#[derive(Drop)]
+#[derive(Clone, Copy)]
 pub enum Verdict {
     Formula,
     Always,
@@ -23,7 +26,7 @@ pub enum Verdict {
 
 // "atoms in, atoms out, polynomials in, polynomials out": polynomials in are the different non-constant normal forms that the given tree uses,
 // polynomials out the new table's.
-#[derive(Drop)]
+#[derive(Clone, Copy)]
 pub struct Counts {
     pub atoms_in: usize,
     pub atoms_out: usize,
@@ -32,7 +35,7 @@ pub struct Counts {
 }
 
 // A refusal's number, or the verdict, the new block's length in bytes and the counts.
-#[derive(Drop)]
+#[derive(Clone, Copy)]
 pub enum Answer {
     Refused(u8),
     Answered {
@@ -43,7 +46,7 @@ pub enum Answer {
 }
 
 // The answer, and the largest number of rounds so far, its runs counted (02, #108).
-#[derive(Drop)]
+#[derive(Clone, Copy)]
 pub struct WithRounds {
     pub answer: Answer,
     pub rounds: usize,

@@ -1,5 +1,8 @@
 // A file that stands for the memory that a block is loaded into: what the programs `placardpan_start` and `placardpan_load` share.
 // What a file holds and takes is no promise of ours; the check at the start and the order of the writes are crate `loading`'s.
+
+#![tactic(auto)]
+
 ghost use Rattle.std.specs.Prelude.{◌≡◌, ◌≤◌, length};
 
 use libc::STDOUT_FILENO;

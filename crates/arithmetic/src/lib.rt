@@ -1,5 +1,8 @@
 // Request #102, "Arithmetic is in 64 signed bits": the value of a polynomial at readings, term by term, product by product.
 // A number is a sign and a magnitude, so that overflow is found without wider numbers: a magnitude is compared with what the limit leaves.
+
+#![tactic(auto)]
+
 ghost use Rattle.std.specs.Prelude.{◌≡◌, ◌≤◌, ℤ, length};
 ghost use Rattle.std.proofs.Math.Option.{some};
 ghost use Rattle.rules.specs.Signs.{sign_of, has};
@@ -10,7 +13,7 @@ ghost use Rattle.arithmetic.specs.Numbers.{differ as differ_of, both as both_of,
 use writer::{magnitude_of, minus_of};
 
 // A number of 64 signed bits; none where it does not fit them, and then the rest says nothing.
-#[derive(Drop)]
+#[derive(Clone, Copy)]
 pub struct Number {
     pub fits: bool,
     pub negative: bool,

@@ -1,5 +1,8 @@
 // 01, "The block": "Bit fields, most significant bit first, no gaps." A field is read or stored anywhere in a run of bytes.
 // A run of bytes is seen as its bits (`unpack`). A field is read out of eight bytes at once, and stored byte by byte, in at most nine turns.
+
+#![tactic(auto)]
+
 ghost use Rattle.std.specs.Prelude.{◌≡◌, min, ◌+◌, ◌-◌, ◌*◌, ◌^◌, ◌≤◌, ◌<◌, length, take, drop};
 ghost use Rattle.std.proofs.lemmas.List.Edits.{sets};
 ghost use Rattle.rules.specs.Bits.{field, value, unpack};

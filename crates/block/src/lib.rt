@@ -1,5 +1,8 @@
 // 01, "The block" and "Refusal numbers": the reader, from bytes to arrays or to the first refusal.
 // Each function reads what the definition of the same name in the book does, and tries the refusals in its order.
+
+#![tactic(auto)]
+
 ghost use Rattle.std.specs.Prelude.{◌||◌, ◌≡◌, ◌+◌, ◌-◌, ◌*◌, ◌^◌, ◌≤◌, ◌<◌, ltb, length};
 ghost use Rattle.rules.specs.Block.{Block, edition1, edition2, edition_number, edition_of, head_edition, signed, read_term as read_term_of, read_terms as read_terms_of};
 ghost use Rattle.rules.specs.Block.{read_polynomial as read_polynomial_of, read_table as read_table_of, read_node, read_parts, read_end as read_end_of, read_block};
@@ -11,7 +14,7 @@ use bits::get;
 use pairs::{Told, tell};
 
 // What a block holds, in arrays that are 0 wherever nothing is stored.
-#[derive(Drop)]
+#[derive(Clone, Copy)]
 pub struct Held {
     pub variables: usize,
     pub polynomials: usize,
@@ -29,14 +32,14 @@ pub struct Held {
 }
 
 // What reading gives: a refusal's number and nothing held, or 0 and what the block holds.
-#[derive(Drop)]
+#[derive(Clone, Copy)]
 pub struct Outcome {
     pub refusal: u8,
     pub held: Held,
 }
 
 // What reading into lent arrays gives: a refusal's number, or the four numbers that `Held` has beside its arrays.
-#[derive(Drop)]
+#[derive(Clone, Copy)]
 pub enum Contents {
     Refused(u8),
     Numbers {
@@ -48,14 +51,14 @@ pub enum Contents {
 }
 
 // Where the reader stands: the next bit, and how many nodes the head still allows.
-#[derive(Drop)]
+#[derive(Clone, Copy)]
 struct Place {
     at: usize,
     allowed: usize,
 }
 
 // What a step finds: a refusal's number, or the place behind what it read.
-#[derive(Drop)]
+#[derive(Clone, Copy)]
 enum Step {
     Refused(u8),
     Read(Place),
@@ -90,7 +93,7 @@ fn falls(exponents: u64, first: bool, above: u64) -> bool
 }
 
 // A term of edition 1: its minus bit and magnitude as one number, and its exponents.
-#[derive(Drop)]
+#[derive(Clone, Copy)]
 struct Fields {
     word: u64,
     exponents: u64,
@@ -149,7 +152,7 @@ fn read_term(
 }
 
 // What the pairs of a term are: a refusal's number, or the exponents as one number and the bit behind the pairs.
-#[derive(Drop)]
+#[derive(Clone, Copy)]
 enum Exponents {
     Refused(u8),
     Number { exponents: u64, behind: usize },
@@ -373,7 +376,7 @@ fn read_table(
 // ---- the tree
 
 // What a node begins with: a refusal's number, an atom, or the kind and the number of children of an AND or OR.
-#[derive(Drop)]
+#[derive(Clone, Copy)]
 enum Opening {
     Refused(u8),
     Atom { number: u64, set: u64 },
@@ -515,7 +518,7 @@ fn read_end(src: &[u8], place: Place) -> Step
 }
 
 // What reading the tree finds: a refusal's number, or the kind of the root.
-#[derive(Drop)]
+#[derive(Clone, Copy)]
 enum Root {
     Refused(u8),
     Kind(u8),
@@ -556,7 +559,7 @@ pub fn edition(src: &[u8]) -> u64
 }
 
 // What the head holds: a refusal's number, or the edition, the variable count, the polynomial count and the node count.
-#[derive(Drop)]
+#[derive(Clone, Copy)]
 enum Head {
     Refused(u8),
     Numbers {
@@ -709,7 +712,7 @@ pub fn read_into(
 }
 
 // What reading a block of few polynomials gives: that it has more, or what reading into lent arrays gives.
-#[derive(Drop)]
+#[derive(Clone, Copy)]
 pub enum Few {
     More,
     Read(Contents),

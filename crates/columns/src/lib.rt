@@ -1,5 +1,8 @@
 // All atoms of a list at once: the words of their forms (crate masks), column by column. For p and q1 one word has the atoms that may pass as q2;
 // where a bit is 0, all tries of that pair leave p's set as it is.
+
+#![tactic(auto)]
+
 ghost use Rattle.std.specs.Prelude.{◌≡◌, ◌&&◌, true, ◌+◌, ◌<◌, ◌≤◌, length};
 ghost use Rattle.rules.specs.Signs.{SignSet, kind};
 ghost use Rattle.rules.specs.TwoAtoms.{non_positive as non_positive_of, non_negative as non_negative_of};

@@ -6,7 +6,7 @@ ghost use Rattle.common_run.specs.Boards.{StoredAt, board_at};
 use terms::Board;
 
 // The sets of forty boards, sixteen of each.
-#[derive(Drop)]
+#[derive(Clone, Copy)]
 pub struct Boards {
     pub sets: [u8; 640],
 }

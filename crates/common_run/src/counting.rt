@@ -21,7 +21,7 @@ use rounds::start::start;
 use table::Atoms;
 
 // The largest number of rounds so far, and what is known of a common run.
-#[derive(Drop)]
+#[derive(Clone, Copy)]
 pub struct Counting {
     pub rounds: usize,
     pub common: Common,

@@ -3,7 +3,7 @@ ghost use Rattle.std.specs.Prelude.{◌≡◌, ◌<◌};
 ghost use Rattle.common_run.specs.Marks.{marked_by, MarkedAt};
 
 // The first round, from 1, in which a cut rests on the atom of each slot; 0 where none does.
-#[derive(Drop)]
+#[derive(Clone, Copy)]
 pub struct Marks {
     pub first: [u8; 64],
 }
@@ -14,7 +14,7 @@ pub fn no_marks() -> Marks {
 }
 
 // Of the atoms that the cuts rest on, which suffice for them; and of those that a cut needs: without the atom alone it would be another one.
-#[derive(Drop)]
+#[derive(Clone, Copy)]
 pub struct BothMarks {
     pub resting: Marks,
     pub needed: Marks,

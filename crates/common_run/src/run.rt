@@ -22,7 +22,7 @@ use terms::{Board, few};
 
 // How many rounds were begun, the board at the start of each, and which atoms their cuts rest on and need, if the run is known; whether it has ended,
 // and whether it is one over all atoms that remain: none has gone since it was made.
-#[derive(Drop)]
+#[derive(Clone, Copy)]
 pub struct Common {
     pub known: bool,
     pub ended: bool,

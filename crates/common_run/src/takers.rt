@@ -6,7 +6,7 @@ ghost use Rattle.common_run.specs.Takers.{taker_of, Taker, Taken, SoleMarked, Ne
 use crate::marks::{Marks, marked};
 
 // Of each sign: 0 where no atom takes it out, k + 1 where those of slot k alone do, 65 where those of several slots do.
-#[derive(Drop)]
+#[derive(Clone, Copy)]
 pub struct Takers {
     pub negative: u8,
     pub nought: u8,

@@ -16,14 +16,14 @@ use table::Atoms;
 use terms::Board;
 
 // What is left of a set, and the marks.
-#[derive(Drop)]
+#[derive(Clone, Copy)]
 pub struct Cutting {
     pub set: u8,
     pub marks: BothMarks,
 }
 
 // The board that turns have left, and the marks.
-#[derive(Drop)]
+#[derive(Clone, Copy)]
 pub struct Turning {
     pub board: Board,
     pub marks: BothMarks,

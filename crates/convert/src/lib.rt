@@ -1,5 +1,8 @@
 // 02, #109: "a converter each way": a block of either edition is read, and what it holds is written in the edition that is asked for.
 // "the converter gives 1 after all others, if the output is shorter than the finished block": a refusal leaves before anything is written.
+
+#![tactic(auto)]
+
 ghost use Rattle.std.specs.Prelude.{◌≡◌, length};
 ghost use Rattle.rules.specs.Block.{Block, edition1, edition2, edition_number, edition_of, write_block};
 ghost use Rattle.block.specs.Held.{held_by, BlockRoom};
@@ -13,7 +16,7 @@ use writer::write;
 mod exported; // the entries for C
 
 // A refusal's number, or the length of the finished block.
-#[derive(Drop)]
+#[derive(Clone, Copy)]
 pub enum Converted {
     Refused(u8),
     Finished(usize),

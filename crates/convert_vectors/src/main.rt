@@ -1,6 +1,9 @@
 // Runs the converters over a stream: each frame has the room in 2 bytes, most significant first, and a block behind them.
 // Prints for each the conversion to edition 1 and then that to edition 2: the finished block in hex, or REFUSED and the number. The frames and the
 // expected lines come from the independent reading.
+
+#![tactic(auto)]
+
 ghost use Rattle.std.specs.Prelude.{◌≤◌};
 
 use convert::{Converted, to_edition1, to_edition2};

@@ -1,11 +1,14 @@
 // Cuts of loads, through the real check at the start: a stream of frames, an area and then a block for each load.
 // For each write, and each of the 256 values in its place, it is told whether the old block starts, the new one, none, or another; then the same
 // after loads that were begun again on a torn image and cut a second time.
+
+#![tactic(auto)]
+
 use libc::STDOUT_FILENO;
 use loading::{Loaded, first_write, place, start, step};
 
 // How many images started the old block, none, the new one, or another.
-#[derive(Drop)]
+#[derive(Clone, Copy)]
 struct Tally {
     old: u64,
     refused: u64,

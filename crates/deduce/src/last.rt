@@ -13,7 +13,7 @@ use interval::vanishing::{Vanishing, is_strict};
 use signs::SignSet;
 
 // The t, whether it is still in L and in U, and whether some monomial with set > or < does not vanish at it.
-#[derive(Drop)]
+#[derive(Clone, Copy)]
 pub struct Last {
     pub t: End,
     pub l: bool,

@@ -1,5 +1,8 @@
 // Deducing p from q, 01 "Deducing p from q": what an atom of q says of p, on a board of the variables' sign sets.
 // p and q are runs of places of lent slices; the sign of each monomial on the board is lent beside them.
+
+#![tactic(auto)]
+
 pub mod last; // one t that is left of L and U
 pub mod merge; // L, U and where the strict monomials vanish, from the monomials of p or q
 mod alone; // p of one term that q does not have, and that leaves no t
@@ -16,7 +19,7 @@ use signs::SignSet;
 use terms::{Board, few};
 
 // The terms of a polynomial: the places from..to.
-#[derive(Drop)]
+#[derive(Clone, Copy)]
 pub struct Run {
     pub from: usize,
     pub to: usize,

@@ -12,7 +12,7 @@ use interval::interval::{End, Interval};
 use interval::vanishing::Vanishing;
 
 // L and U so far, and where the monomials with set > or < vanish.
-#[derive(Drop)]
+#[derive(Clone, Copy)]
 pub struct Cuts {
     pub l: Interval,
     pub u: Interval,
@@ -20,7 +20,7 @@ pub struct Cuts {
 }
 
 // A monomial of p or q: its coefficients in p and in q, its sign set, and where the terms after it begin.
-#[derive(Drop)]
+#[derive(Clone, Copy)]
 pub struct Step {
     pub a: i32,
     pub b: i32,

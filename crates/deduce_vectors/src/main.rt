@@ -1,5 +1,8 @@
 // Works out one deduction for each block of a stream and prints its finding as a number.
 // Polynomial 0 is p, polynomial 1 is q; the tokens are an AND, an atom of p, an atom of q, and an atom of each variable with its set on the board.
+
+#![tactic(auto)]
+
 use block::Held;
 use deduce::Run;
 use frames::Kind;

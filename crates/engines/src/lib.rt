@@ -1,5 +1,8 @@
 // The two engines for "deducing p from q", and the choice between them, 02 #110: "the program takes either".
 // They have the same contract, and so has the choice: whoever calls it need not know which one finds.
+
+#![tactic(auto)]
+
 ghost use Rattle.std.specs.Prelude.{◌<◌, length};
 ghost use Rattle.deduce.specs.Runs.{Within, Deduced};
 

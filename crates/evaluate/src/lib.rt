@@ -1,5 +1,8 @@
 // Request #102, "Condition evaluator for the cab unit": a block and readings of 32 signed bits, permit or deny. Nothing is written.
 // "A node is evaluated by evaluating its children. All children are evaluated, also after the result is known."
+
+#![tactic(auto)]
+
 ghost use Rattle.std.specs.Prelude.{List, ◌≡◌, ℕ, ◌<◌, ◌≤◌, ◌/◌, ◌%◌, length};
 ghost use Rattle.rules.specs.Formula.{Node};
 ghost use Rattle.rules.specs.Block.{NumberedAtom};
@@ -14,14 +17,14 @@ use block::{Contents, Few, read_few_into, read_into};
 const JOIN: u32 = 16777216;
 
 // Whether all products and sums fit, and if they do, whether the atom holds.
-#[derive(Drop)]
+#[derive(Clone, Copy)]
 pub struct Truth {
     pub fits: bool,
     pub holds: bool,
 }
 
 // The same of a node, and the place after the node.
-#[derive(Drop)]
+#[derive(Clone, Copy)]
 pub struct Seen {
     pub next: usize,
     pub fits: bool,
@@ -111,7 +114,7 @@ fn node(
 }
 
 // "answers permit or deny", or a refusal: the reader's 2 to 15 and 21 to 23, 16 for another number of readings, 17 for an overflow.
-#[derive(Drop)]
+#[derive(Clone, Copy)]
 pub enum Evaluation {
     Refused(u8),
     Deny,

@@ -1,5 +1,8 @@
 // Runs blocks on readings: each frame of the stream has a line of readings, as `placardpan_evaluate` takes them, and a block behind it.
 // Prints for each PERMIT, DENY, or REFUSED and the number. The frames and the expected lines come from the independent reading.
+
+#![tactic(auto)]
+
 use frames::Kind;
 use libc::STDOUT_FILENO;
 use readings::{begin, over, word_taken};

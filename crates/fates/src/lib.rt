@@ -1,4 +1,7 @@
 // 02, #106: what becomes of the atoms of an AND: the whole is false by some of them, or step 5 keeps each or removes it on account of others.
+
+#![tactic(auto)]
+
 ghost use Rattle.std.specs.Prelude.{List, ℕ, ◌≤◌};
 ghost use Rattle.table.specs.Table.{Forms};
 ghost use Rattle.round.specs.Views.{lent_table};
@@ -16,7 +19,7 @@ const MOST_ROUNDS: usize = 161;
 
 // The merged atoms, full ones among them; those that carry their sets, and the state that they carry them from; those of them that stay.
 // If the whole is false, `carried` has the atoms by which it is.
-#[derive(Drop)]
+#[derive(Clone, Copy)]
 pub struct Fates {
     pub joined: Row,
     pub carried: Row,

@@ -1,5 +1,8 @@
 // The working table of a block, 01 "Normal form": its polynomials in normal form, numbered so that equal forms share a number.
 // An atom then names a form by its slot, and two polynomials are the same exactly if their numbers are.
+
+#![tactic(auto)]
+
 ghost use Rattle.std.specs.Prelude.{◌≡◌, false, ◌<◌, ◌≤◌, length};
 ghost use Rattle.normal.specs.Normal.{turned_set as turned_set_of};
 ghost use Rattle.forms.specs.Working.{TableRead, working_by, blank, is_plain, Worked};
@@ -10,7 +13,7 @@ use signs::SignSet;
 mod slots;
 
 // Eighty slots of sixteen places. Slots 0 to 63: the normal forms, each where its first polynomial stands, fillers in between. From 64 on: the variables.
-#[derive(Drop)]
+#[derive(Clone, Copy)]
 pub struct WorkingTable {
     pub coefficient: [i32; 1280],
     pub monomial: [u64; 1280],

@@ -1,18 +1,21 @@
 // A stream of blocks on standard input, each after its length in 2 bytes, most significant first. Of a block at most 32,768 bytes are taken.
 // What standard input gives is no promise of ours: the programs over this library hand each block to a proved function.
+
+#![tactic(auto)]
+
 ghost use Rattle.std.specs.Prelude.{◌≡◌, ◌≤◌, length};
 
 use libc::STDIN_FILENO;
 
 // What comes next: a whole block, a frame that ends too early, or nothing more.
-#[derive(Drop)]
+#[derive(Clone, Copy)]
 pub enum Kind {
     Block,
     CutOff,
     End,
 }
 
-#[derive(Drop)]
+#[derive(Clone, Copy)]
 pub struct Frame {
     pub kind: Kind,
     // how many bytes are taken of the block; 0 if there is none

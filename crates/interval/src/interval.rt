@@ -11,14 +11,14 @@ ghost use Rattle.interval.specs.Ends.{end_at, end_of, interval_of, higher_end, l
 use signs::SignSet;
 
 // The fraction -a/b; no end on this side if b is 0.
-#[derive(Drop)]
+#[derive(Clone, Copy)]
 pub struct End {
     pub a: i32,
     pub b: i32,
 }
 
 // The t from the low end to the high one; none if it is void.
-#[derive(Drop)]
+#[derive(Clone, Copy)]
 pub struct Interval {
     pub low: End,
     pub high: End,

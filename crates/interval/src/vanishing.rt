@@ -9,7 +9,7 @@ ghost use Rattle.interval.specs.Ends.{end_of, interval_of, vanishing_of};
 use crate::interval::{End, Interval, cross, sign_between};
 
 // No such monomial, or only such as vanish at every t, if a and b are 0.
-#[derive(Drop)]
+#[derive(Clone, Copy)]
 pub struct Vanishing {
     pub a: i32,
     pub b: i32,

@@ -1,5 +1,8 @@
 // 02, #106: "go through them in order, and leave out each without which the rest still says enough".
 // Enough is monotone, so the longest beginning that goes is searched for by steps that double and halve.
+
+#![tactic(auto)]
+
 ghost use Rattle.std.specs.Prelude.{◌≡◌, List, ◌++◌, ℕ, ◌+◌, ◌<◌, ◌≤◌, take, drop};
 ghost use Rattle.rules.specs.Rounds.{run as run_of};
 ghost use Rattle.rules.specs.Level.{plain, plains, implied};
@@ -21,7 +24,7 @@ use tape::rows::{Row, append, empty, push};
 use tape::tokens::{set_of, slot_of};
 
 // What the atoms are to be enough for: a contradiction, or that what they say of an atom lies inside its set, where they carry the sets of a state.
-#[derive(Drop)]
+#[derive(Clone, Copy)]
 pub struct Question {
     pub state: State,
     pub token: u32,

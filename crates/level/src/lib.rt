@@ -1,5 +1,8 @@
 // 01, "A level": a tree of atoms simplified by the AND rule and the OR rule, on tapes of tokens.
 // The table of normal forms is lent as three slices and the number of variables. A node settles in two lists that it lends; what it hands up is a value.
+
+#![tactic(auto)]
+
 ghost use Rattle.std.specs.Prelude.{ℕ};
 ghost use Rattle.rules.specs.Formula.{Node};
 ghost use Rattle.table.specs.Table.{Forms};
@@ -17,7 +20,7 @@ use tape::walks::begin;
 use writing::{Tree, tree_of};
 
 // A tree simplified, and the largest number of rounds so far, its runs counted.
-#[derive(Drop)]
+#[derive(Clone, Copy)]
 pub struct Shortened {
     pub tree: Tree,
     pub rounds: usize,

@@ -11,7 +11,7 @@ use tape::tokens::{NODE, opposite};
 use tape::walks::{Level, add, begin};
 
 // What a rule makes of the node at a place, the place after the node, and the largest number of rounds so far, its runs and those below counted.
-#[derive(Drop)]
+#[derive(Clone, Copy)]
 pub struct Found {
     pub at: usize,
     pub level: Level,

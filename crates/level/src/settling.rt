@@ -17,7 +17,7 @@ use tape::walks::{Level, Walked};
 
 // How many atoms a node has and how many tokens of OR children, in two lists that are lent, between two turns or when the last turn is over;
 // and the largest number of rounds so far.
-#[derive(Drop)]
+#[derive(Clone, Copy)]
 pub struct Stage {
     pub atoms: usize,
     pub ors: usize,
@@ -26,7 +26,7 @@ pub struct Stage {
 }
 
 // What steps 2 to 6 make of a node, and the largest number of rounds so far, its runs counted.
-#[derive(Drop)]
+#[derive(Clone, Copy)]
 pub struct Finished {
     pub level: Level,
     pub rounds: usize,

@@ -14,7 +14,7 @@ use tape::tokens::{NODE, opposite};
 use tape::walks::Level;
 
 // A tree: its root's kind (0 is an atom, 1 is AND, 2 is OR) and its tokens.
-#[derive(Drop)]
+#[derive(Clone, Copy)]
 pub struct Tree {
     pub root: u8,
     pub tokens: Row,

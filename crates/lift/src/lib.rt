@@ -1,5 +1,8 @@
 // The public entries: a lift condition block is read, simplified and written again; `report` tells the program's lines of it.
 // 01, "Refusal numbers": a refusal leaves before anything is written.
+
+#![tactic(auto)]
+
 ghost use Rattle.std.specs.Prelude.{◌≡◌, ◌≤◌, length};
 ghost use Rattle.rules.specs.Block.{read_block};
 ghost use Rattle.rules.specs.Answer.{answer};

@@ -1,5 +1,8 @@
 // 01, "The program": the runs of bytes that the report line and the hex line are made of, stored in lent bytes.
 // Each function stores, from a place on, what the definition of its name in `rules/specs/Report.antt` is, and returns the place behind it.
+
+#![tactic(auto)]
+
 ghost use Rattle.std.specs.Prelude.{◌≡◌, [], ◌∷◌, ◌+◌, ◌-◌, ◌*◌, ◌<◌, ◌≤◌, length};
 ghost use Rattle.rules.specs.Report.{digit, decimal, hex_digit as hex_digit_of, hex_pair, hex_rest, hex_text, space};
 ghost use Rattle.lines.specs.Written.{Wrote};

@@ -1,5 +1,8 @@
 // Loading that a power cut cannot hurt: the check at the start, the order of the byte writes for drivers, and a whole load.
 // Crate loading_laws says what each cut leaves. Every area and every block may be lent: nothing relies on a caller having checked.
+
+#![tactic(auto)]
+
 ghost use Rattle.std.specs.Prelude.{◌≡◌, eqb, length, ◌+◌, ◌≤◌, ◌<◌};
 ghost use Rattle.rules.specs.Block.{read_block};
 ghost use Rattle.loading_laws.specs.Loading.{start_from, start_of, started_part, load_answer, first_write, image_after};
@@ -11,7 +14,7 @@ use block::{Contents, read_into};
 mod exported; // the entries for C
 
 // What the check at the start finds, or what a load comes to: a refusal's number, or the length of the block.
-#[derive(Drop)]
+#[derive(Clone, Copy)]
 pub enum Loaded {
     Refused(u8),
     Starts(usize),

@@ -1,5 +1,8 @@
 // Which tries of two atoms can pass (02, #111): a form has one word for its parts that can be negative, and one for those that can be positive.
 // If a monomial has a part of the wrong sign in p, u·q1 or v·q2 and none of the three the opposite one, all tries with factors of these signs fail.
+
+#![tactic(auto)]
+
 ghost use Rattle.std.specs.Prelude.{◌≡◌, ◌^◌, ◌<◌};
 ghost use Rattle.rules.specs.Signs.{negative, positive, sign_of, has};
 ghost use Rattle.deduce.specs.Runs.{Within};
@@ -11,7 +14,7 @@ use deduce::Run;
 pub mod cutting; // whether the tries of a pair may cut a set
 
 // The words of a form on a board. Each of its monomials has a bit for either sign that it can have.
-#[derive(Drop)]
+#[derive(Clone, Copy)]
 pub struct Mask {
     pub negative: u64,
     pub positive: u64,

@@ -1,5 +1,8 @@
 // 02, #106, "the merged list": all atoms through step 2's merging, nothing cut short; then full sets are taken out.
 // The tokens name normal forms already, and carry their places.
+
+#![tactic(auto)]
+
 ghost use Rattle.std.specs.Prelude.{◌≡◌, List, ℕ, ◌+◌, ◌%◌, ◌<◌, ◌≤◌};
 ghost use Rattle.rules.specs.Signs.{inside};
 ghost use Rattle.table.specs.Table.{Table, Forms};
@@ -13,7 +16,7 @@ use tape::tokens::{set_of, slot_of, with_set};
 use terms::sign_of;
 
 // "A constant polynomial makes its atom true or false"; every other polynomial leaves it open.
-#[derive(Drop)]
+#[derive(Clone, Copy)]
 enum Truth {
     Open,
     True,

@@ -1,5 +1,8 @@
 // 01, "Normal form", of one polynomial, whose terms stand at a run of places of lent slices.
 // Its coefficients are divided and negated; its monomials stay as they are.
+
+#![tactic(auto)]
+
 ghost use Rattle.std.specs.Prelude.{◌≡◌, ◌^◌, ◌<◌, ◌≤◌, nat_abs, length};
 ghost use Rattle.rules.specs.Polynomial.{gcd as gcd_of, content as content_of, first_is_negative as first_is_negative_of};
 ghost use Rattle.normal.specs.Normal.{Bounded, coefficients, divided_run, negated_run, is_turned, normal_run};

@@ -1,12 +1,15 @@
 // 02, #109: the pairs of a term in edition 2, "variable number (4 bits, strictly rising, below n) and exponent (4 bits, 1 to 15)".
 // They are gone through once: whether the numbers rise, whether an exponent is 0, and the exponents as one number.
+
+#![tactic(auto)]
+
 ghost use Rattle.std.specs.Prelude.{◌&&◌, ◌≡◌, ◌*◌, ◌^◌, ◌≤◌, ◌<◌, ltb};
 ghost use Rattle.pairs.specs.Pairs.{pairs_at, PairsInside, pairs_told};
 
 use bits::get;
 
 // What the pairs of a term are: numbers that do not rise or are not below n, else an exponent 0, else the exponents of all n variables as one number.
-#[derive(Drop)]
+#[derive(Clone, Copy)]
 pub enum Told {
     NotRising,
     SomeZero,

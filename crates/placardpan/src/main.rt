@@ -2,6 +2,9 @@
 // Thin over `lift::report_by`. With the argument `places` it prints one line more, the places of the answer's atoms (02, #105), by `lift::placed_by`; with
 // `rounds` the largest number of rounds that one run took (#108), by `lift::with_rounds`. With the argument `plain` it takes the plain engine (#110);
 // what it prints is the same.
+
+#![tactic(auto)]
+
 use libc::STDIN_FILENO;
 use printing::{asked_for, print_asked};
 

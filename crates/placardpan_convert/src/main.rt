@@ -1,5 +1,8 @@
 // `placardpan_convert [1 | 2]`: a block on standard input, the same block in the other edition, or in the one that the argument names, as bytes on
 // standard output; CONVERTED and both sizes on standard error. On refusal REFUSED and the number there, and nothing on standard output.
+
+#![tactic(auto)]
+
 use block::edition;
 use convert::{Converted, to_edition1, to_edition2};
 use libc::{STDERR_FILENO, STDIN_FILENO, STDOUT_FILENO};

@@ -1,6 +1,9 @@
 // The program of request #102. `placardpan_evaluate 120 -35 ..` takes the block on standard input and the readings as arguments;
 // `placardpan_evaluate FILE`, an argument that is no whole number, takes the block from a file and lines of readings on standard input.
 // Prints PERMIT, DENY, or REFUSED and the number. Thin over `evaluate::evaluate`.
+
+#![tactic(auto)]
+
 use libc::STDIN_FILENO;
 use readings::{Line, begin, is_whole, over, taken, word_taken};
 use verdicts::answer;
@@ -54,7 +57,7 @@ fn lines(block: &[u8], bytes: &[u8], line: Line, numbers: &mut [i32]) -> Line {
 }
 
 // What a part of it leaves: whether there may be more, and how far the line is.
-#[derive(Drop)]
+#[derive(Clone, Copy)]
 struct Part {
     more: bool,
     line: Line,

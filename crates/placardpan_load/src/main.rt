@@ -1,5 +1,8 @@
 // `placardpan_load AREA [sync]`: loads the block on standard input into the file AREA that stands for the memory, one byte after the other in the
 // order that a power cut cannot hurt: LOADED and the length, or REFUSED and the number. With `sync` each write is waited for. Thin over `loading`.
+
+#![tactic(auto)]
+
 use areas::{open, print_answer, put_all};
 use libc::STDIN_FILENO;
 use loading::{Loaded, first_write, load};

@@ -1,5 +1,8 @@
 // Answers each block of a stream, each after its length in 2 bytes, most significant first: the lines of document 01's program for each.
 // Thin over `lift::report_by`; a frame that is cut off gets a line that says so. The arguments `places`, `rounds` and `plain` are as for `placardpan`.
+
+#![tactic(auto)]
+
 use frames::Kind;
 use libc::STDOUT_FILENO;
 use printing::{Asked, asked_for, print_asked};

@@ -1,11 +1,14 @@
 // The program of request #113: lines on standard input, `add 3 FILE`, `withdraw 3`, `show`. Thin over `pool::add` and `pool::withdraw`.
 // A line that is none of these prints NO CALL, a file that cannot be read NO FILE, and the script goes on.
+
+#![tactic(auto)]
+
 ghost use Rattle.std.specs.Prelude.{◌≤◌, length};
 
 use libc::{STDIN_FILENO, STDOUT_FILENO};
 
 // How far a line is: so many of its bytes are held; whether there were more than there is room for; whether there was a byte.
-#[derive(Drop)]
+#[derive(Clone, Copy)]
 struct Line {
     length: usize,
     long: bool,
@@ -227,7 +230,7 @@ fn lines(words: &mut [u64], bytes: &[u8], line: Line, text: &mut [u8]) -> Line {
 }
 
 // What a part of standard input leaves: whether there may be more, and how far the line is.
-#[derive(Drop)]
+#[derive(Clone, Copy)]
 struct Part {
     more: bool,
     line: Line,

@@ -1,6 +1,9 @@
 // How often, in 4 bytes, most significant first, then a block: `lift::simplify_by` is called so often, with the argument `rounds`
 // `lift::with_rounds`, and document 01's lines are printed once, with those that the arguments ask for.
 // For measuring one call: a second run with another number takes reading, printing and the start of the program off.
+
+#![tactic(auto)]
+
 ghost use Rattle.std.specs.Prelude.{◌≤◌};
 
 use libc::STDIN_FILENO;

@@ -1,5 +1,8 @@
 // The program of request #112: a block on standard input, the answer's script on standard output, or the line REFUSED and the number. With the argument
 // `back` a script in, and its block out as one line of hex pairs, or the line REFUSED 25 and the position. Thin over `script::script` and `script_back`.
+
+#![tactic(auto)]
+
 ghost use Rattle.std.specs.Prelude.{◌≡◌, length};
 
 use libc::{STDIN_FILENO, STDOUT_FILENO};

@@ -1,5 +1,8 @@
 // `placardpan_start AREA`: the check at the start, on the file AREA that stands for the memory: STARTS and the block's length, or REFUSED and the
 // number. Thin over `loading::start`. No head says more than 65,535 bytes, so that what lies past 65,536 is not read.
+
+#![tactic(auto)]
+
 use areas::{open, print_answer};
 
 fn main() {

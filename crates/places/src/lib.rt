@@ -1,5 +1,8 @@
 // The places of atoms on a tape, 02 #105: "the number, from 0, of the input atom in reading order"; how they are given to its tokens, and told again.
 // An atom's token is place * 512 + slot * 8 + set, below 2 ^ 24; any other token is that of an AND or an OR, which is not counted.
+
+#![tactic(auto)]
+
 ghost use Rattle.std.specs.Prelude.{◌≡◌, ◌≤◌, length, take};
 ghost use Rattle.places.specs.Places.{placed_tokens, places_over};
 

@@ -1,5 +1,8 @@
 // Deducing p from q without intervals, 02 #110: single values of t are tested against the conditions.
 // Its `deduce_from` has the contract of the one in crate `deduce`, so that whoever calls one may call the other.
+
+#![tactic(auto)]
+
 pub mod value; // one t, and the sign of a + tb there
 pub mod tests; // the tests of one value against all rows
 pub mod met; // the values one after the other

@@ -17,7 +17,7 @@ use interval::vanishing::is_strict;
 use signs::SignSet;
 
 // Whether a value passes all conditions of L, and of U, and whether some > or < monomial is not 0 there.
-#[derive(Drop)]
+#[derive(Clone, Copy)]
 pub struct Passed {
     pub l: bool,
     pub u: bool,
@@ -25,7 +25,7 @@ pub struct Passed {
 }
 
 // What was seen so far: a value of L of the wanted sign, one at which p is above 0; a value of U, one at which p is below 0.
-#[derive(Drop)]
+#[derive(Clone, Copy)]
 pub struct Seen {
     pub l: bool,
     pub above: bool,

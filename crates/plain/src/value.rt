@@ -13,7 +13,7 @@ use interval::interval::{End, sign_between};
 use signs::SignSet;
 
 // t = c/d
-#[derive(Drop)]
+#[derive(Clone, Copy)]
 pub struct Value {
     pub c: i64,
     pub d: i64,

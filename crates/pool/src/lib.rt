@@ -1,5 +1,8 @@
 // Request #113: a pool of polynomials for a release, in words that are lent. Blocks are added by their numbers and withdrawn.
 // Any words are a pool to these functions; zeros are the empty one. A refusal leaves before anything is written.
+
+#![tactic(auto)]
+
 ghost use Rattle.std.specs.Prelude.{◌≡◌, false, not, ◌&&◌, ◌||◌, ◌≤◌, ◌<◌, eqb, ltb, length, get_or};
 ghost use Rattle.rules.specs.Block.{read_block};
 ghost use Rattle.rules.specs.Pool.{count as marked, forms_listed, forms_in_use, add_block, add as add_book, unless_none, withdraw as withdraw_book};

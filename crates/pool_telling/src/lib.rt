@@ -1,5 +1,8 @@
 // A pool's calls and their lines on standard output: what the two programs share.
 // What is told of a call is the number that `pool::add` or `pool::withdraw` gives back; that standard output takes it is no promise of ours.
+
+#![tactic(auto)]
+
 use libc::STDOUT_FILENO;
 
 fn print_word(word: &[u8]) {

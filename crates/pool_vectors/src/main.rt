@@ -1,5 +1,8 @@
 // Runs sequences of calls on a pool: each frame of the stream is an operation, a number and, for an addition, a block.
 // 0 is a new pool, 1 an addition, 2 a withdrawal, 3 asks what the pool holds. Prints the lines that `placardpan_pool` prints.
+
+#![tactic(auto)]
+
 use frames::Kind;
 use libc::STDOUT_FILENO;
 

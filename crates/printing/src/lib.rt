@@ -1,6 +1,9 @@
 // The lines for a block on standard output: what the two programs share.
 // What is printed is `lift::report_by`'s text, with the argument `places` the places that `lift::placed_by` tells, and with `rounds` the number that
 // `lift::with_rounds` does; the argument `plain` chooses the plain engine (02, #110). That standard output takes it is no promise of ours.
+
+#![tactic(auto)]
+
 use answer::Answer;
 use libc::STDOUT_FILENO;
 
@@ -39,7 +42,7 @@ fn begins(bytes: &[u8], length: usize, word: &[u8]) -> bool {
 }
 
 // What the program's arguments ask for: the lines more, and the engine.
-#[derive(Drop)]
+#[derive(Clone, Copy)]
 pub struct Asked {
     pub places: bool,
     pub rounds: bool,

@@ -1,5 +1,8 @@
 // Runs the reader over a stream of blocks and prints, for each, ACCEPTED, or REFUSED and the number.
 // The blocks and the expected lines come from the independent reading.
+
+#![tactic(auto)]
+
 use frames::Kind;
 use libc::STDOUT_FILENO;
 

@@ -1,9 +1,12 @@
 // Readings as text: whole numbers of 32 bits, apart by spaces, taken in byte by byte, so that a line may be of any length.
 // A whole number is one or more digits, with a minus before them or not. What is read is no promise of ours; it is handed to a proved function.
+
+#![tactic(auto)]
+
 ghost use Rattle.std.specs.Prelude.{◌<◌};
 
 // How far a line is.
-#[derive(Drop)]
+#[derive(Clone, Copy)]
 pub struct Line {
     // how many numbers it has so far; 17 stands for more than 16
     pub count: usize,

@@ -1,5 +1,8 @@
 // 02, #106: a record for each atom of an AND of atoms, by value: kept, narrowed, merged into another, removed by others, or the whole is false.
 // The book's `reasons` is what they tell (specs/Records: made).
+
+#![tactic(auto)]
+
 ghost use Rattle.std.specs.Prelude.{◌≡◌, List, [], ◌++◌, map, ℕ, ◌+◌, ◌%◌, ◌^◌, ◌<◌, ◌≤◌, eqb, length, take, drop, get_or, set as set_at};
 ghost use Rattle.rules.specs.Polynomial.{Atom};
 ghost use Rattle.rules.specs.Level.{plain};
@@ -22,7 +25,7 @@ use tape::tokens::{set_of, slot_of};
 
 // A record: kind 1 kept, 2 narrowed, 3 merged, 4 removed, 5 the whole is false. Unused fields are 0; place p is bit p % 64 of word p / 64.
 #[repr(C)]
-#[derive(Drop)]
+#[derive(Clone, Copy)]
 pub struct Reason {
     pub kind: u8,
     pub set: u8,
@@ -31,7 +34,7 @@ pub struct Reason {
 }
 
 // What is told of a block: a refusal's number, or 0 and so many records.
-#[derive(Drop)]
+#[derive(Clone, Copy)]
 pub struct Found {
     pub records: [Reason; 255],
     pub count: usize,

@@ -15,7 +15,7 @@ use terms::masks::{Masks, masks_of};
 use terms::{Board, sign_by};
 
 // What a slot was found to hold.
-#[derive(Drop)]
+#[derive(Clone, Copy)]
 pub enum Holds {
     Variable(usize),
     Form,

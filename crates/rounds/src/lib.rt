@@ -1,5 +1,8 @@
 // Rounds over a list of atoms joined by AND, 01 "Rounds": the run of the rounds, in document 01's order and counted, or with turns ahead of them.
 // The table of forms is lent as three slices.
+
+#![tactic(auto)]
+
 ghost use Rattle.table.specs.Table.{Forms};
 ghost use Rattle.round.specs.Views.{lent_table};
 ghost use Rattle.rounds.specs.Run.{RunOf, CountedRun, LargestRun, Uncut};
@@ -24,14 +27,14 @@ pub mod turned; // rounds on the board alone
 pub mod counting; // the largest number of rounds of fresh runs
 
 // How the rounds ended, and the state that the last one left.
-#[derive(Drop)]
+#[derive(Clone, Copy)]
 pub struct Ran {
     pub contradiction: bool,
     pub state: State,
 }
 
 // The same, and how many rounds were begun.
-#[derive(Drop)]
+#[derive(Clone, Copy)]
 pub struct Counted {
     pub contradiction: bool,
     pub begun: usize,
@@ -39,7 +42,7 @@ pub struct Counted {
 }
 
 // The same, and the largest number of rounds so far, this run counted.
-#[derive(Drop)]
+#[derive(Clone, Copy)]
 pub struct Largest {
     pub contradiction: bool,
     pub largest: usize,

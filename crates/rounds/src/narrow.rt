@@ -21,7 +21,7 @@ use table::Atoms;
 use terms::Board;
 
 // The narrowed start, whether no variable's turn would narrow it further, and the variables whose turns narrowed it.
-#[derive(Drop)]
+#[derive(Clone, Copy)]
 pub struct Beginning {
     pub still: bool,
     pub state: State,
@@ -29,7 +29,7 @@ pub struct Beginning {
 }
 
 // What fresh rounds come to, and the variables whose turns narrowed their start.
-#[derive(Drop)]
+#[derive(Clone, Copy)]
 pub struct Fresh {
     pub ran: Ran,
     pub order: Order,

@@ -1,5 +1,8 @@
 // Runs the rounds over the list of each block of a stream and prints how they end.
 // A block is an AND of atoms in normal form, of polynomials that all differ; so a polynomial's slot in the working table is its number.
+
+#![tactic(auto)]
+
 ghost use Rattle.std.specs.Prelude.{◌≡◌};
 ghost use Rattle.removal_laws.specs.Settled.{Settled};
 ghost use Rattle.table.specs.Table.{Forms};

@@ -1,5 +1,8 @@
 // Request #112: "Simplify a block and write the answer as a script". The script is measured first, then written.
 // The reader's refusals come first, then 24; a refusal leaves before anything is written.
+
+#![tactic(auto)]
+
 ghost use Rattle.std.specs.Prelude.{◌≡◌, ◌≤◌, length};
 ghost use Rattle.rules.specs.Block.{Block, read_block};
 ghost use Rattle.rules.specs.Scripts.{script_within, script_read, simplified_read, script_answer};
@@ -12,7 +15,7 @@ use lift::simplify;
 use script_text::put_script;
 
 // A refusal's number, or the script's length in bytes.
-#[derive(Drop)]
+#[derive(Clone, Copy)]
 pub enum Outcome {
     Refused(u8),
     Written(usize),

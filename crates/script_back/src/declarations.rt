@@ -8,7 +8,7 @@ use crate::runs::{Step, said};
 use script_polynomial::bytes::byte_at;
 
 // Where the text stopped; or how many variables are declared, and the position behind `(assert `.
-#[derive(Drop)]
+#[derive(Clone, Copy)]
 pub enum Declared {
     Stopped(usize),
     Read { variables: usize, next: usize },

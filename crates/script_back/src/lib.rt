@@ -1,5 +1,8 @@
 // Request #112: "A small reader for this exact text gives back the formula": a script to the block that it is the script of.
 // Each function reads what the definition of its name in the book does, and stops where it stops.
+
+#![tactic(auto)]
+
 ghost use Rattle.std.specs.Prelude.{◌≡◌, length};
 ghost use Rattle.rules.specs.Block.{Block, edition1, write_block};
 ghost use Rattle.block.specs.Held.{held_by, BlockRoom, nothing};
@@ -21,7 +24,7 @@ mod tree; // nodes and their children
 mod whole; // the root, the end, the whole text
 
 // What reading a script gives: 25 and the position where the text stopped, and nothing held; or 0, and what the block holds, as `block::read` gives it.
-#[derive(Drop)]
+#[derive(Clone, Copy)]
 pub struct Reading {
     pub refusal: u8,
     pub position: usize,
@@ -91,7 +94,7 @@ pub fn read_script(text: &[u8]) -> Reading
 }
 
 // Where the text stopped (25); or the block that it is the script of, finished, or refused by 1.
-#[derive(Drop)]
+#[derive(Clone, Copy)]
 pub enum Outcome {
     Stopped(usize),
     Read(Converted),

@@ -6,7 +6,7 @@ use crate::runs::{Step, said};
 use script_polynomial::bytes::byte_at;
 
 // Where the text stopped; or what the node begins with, and the position behind that: 1 to 6 is an atom with this set, 7 is an AND, 8 is an OR.
-#[derive(Drop)]
+#[derive(Clone, Copy)]
 pub enum Opening {
     Stopped(usize),
     Found { which: u32, next: usize },

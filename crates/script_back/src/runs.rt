@@ -4,7 +4,7 @@ ghost use Rattle.std.specs.Prelude.{◌≤◌, length};
 ghost use Rattle.script_back.specs.Runs.{Said};
 
 // Where the text stopped, or the position behind what was read.
-#[derive(Drop)]
+#[derive(Clone, Copy)]
 pub enum Step {
     Stopped(usize),
     Read(usize),

@@ -12,7 +12,7 @@ use script_polynomial::bytes::byte_at;
 use script_polynomial::{Piece, known_polynomial};
 
 // Where the reader stands: the next byte, how many nodes more than those that are owed may come, how many polynomials are known, how many tokens stored.
-#[derive(Drop)]
+#[derive(Clone, Copy)]
 pub struct Place {
     pub at: usize,
     pub room: usize,
@@ -21,7 +21,7 @@ pub struct Place {
 }
 
 // What reading a node finds: where the text stopped; or the place behind the node and its kind: 0 is an atom, 1 is AND, 2 is OR.
-#[derive(Drop)]
+#[derive(Clone, Copy)]
 pub enum Branch {
     Stopped(usize),
     Read(Place, u8),
@@ -121,7 +121,7 @@ fn may_join(nesting: usize, parent: u8, room: usize, kind: u8) -> bool
 }
 
 // What comes behind so many children: the text stops there, or their parent ends, or another child comes, with so much room.
-#[derive(Drop)]
+#[derive(Clone, Copy)]
 enum Turn {
     Stopped(usize),
     End,

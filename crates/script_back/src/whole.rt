@@ -9,7 +9,7 @@ use crate::tree::{Branch, Place, read_node};
 use script_polynomial::bytes::byte_at;
 
 // The position where the text stopped, or the four numbers of the block that it is the script of.
-#[derive(Drop)]
+#[derive(Clone, Copy)]
 pub enum Script {
     Stopped(usize),
     Numbers {

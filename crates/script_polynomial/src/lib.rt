@@ -1,5 +1,8 @@
 // Request #112, the reader: one polynomial of a script, from a position of the text on.
 // Each function reads what the definition of its name in the book does, and stops where it stops.
+
+#![tactic(auto)]
+
 ghost use Rattle.std.specs.Prelude.{◌≡◌, ◌≤◌, length};
 ghost use Rattle.script_polynomial.specs.Tabled.{SomeTabled, PieceFound, StopsAmong, smaller};
 
@@ -14,7 +17,7 @@ use table::{find, longest, store};
 
 // What reading the polynomial of an atom finds: the position where it stopped; or its number in the table, how many polynomials the table has
 // with it, and the position behind it and its space.
-#[derive(Drop)]
+#[derive(Clone, Copy)]
 pub enum Piece {
     Stopped(usize),
     Read {

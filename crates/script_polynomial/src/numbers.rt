@@ -7,14 +7,14 @@ ghost use Rattle.script_polynomial.specs.Found.{NumberFound, plain_number, minus
 use crate::bytes::{agreed, byte_at};
 
 // What reading a number finds: the position where it stopped, or the number and the position behind it.
-#[derive(Drop)]
+#[derive(Clone, Copy)]
 pub enum Number {
     Stopped(usize),
     Read { value: u64, behind: usize },
 }
 
 // The same of a number of either sign.
-#[derive(Drop)]
+#[derive(Clone, Copy)]
 pub enum Value {
     Stopped(usize),
     Read { value: i32, behind: usize },

@@ -10,14 +10,14 @@ use crate::bytes::byte_at;
 use crate::numbers::{Number, Value, read_number};
 
 // Which variable a letter is: none that may come next, or one that so many follow.
-#[derive(Drop)]
+#[derive(Clone, Copy)]
 pub enum Letter {
     None,
     Followed(usize),
 }
 
 // What reading a factor finds: the position where it stopped; or the product and the position behind it; or that another factor is to come.
-#[derive(Drop)]
+#[derive(Clone, Copy)]
 pub enum Factor {
     Stopped(usize),
     Last {
@@ -32,7 +32,7 @@ pub enum Factor {
 }
 
 // What reading a product finds.
-#[derive(Drop)]
+#[derive(Clone, Copy)]
 pub enum Product {
     Stopped(usize),
     Read {

@@ -9,7 +9,7 @@ use crate::numbers::{Number, Value, read_number};
 use crate::products::{Product, read_product};
 
 // What reading terms finds: the position where it stopped, or how many there are and the position behind them.
-#[derive(Drop)]
+#[derive(Clone, Copy)]
 pub enum Sum {
     Stopped(usize),
     Read { count: usize, behind: usize },
@@ -17,7 +17,7 @@ pub enum Sum {
 
 // What reading the next term of a sum finds: the position where it stopped; or the position behind the sum, if it is the last;
 // or the monomial that the next one must stand below, and its position.
-#[derive(Drop)]
+#[derive(Clone, Copy)]
 pub enum Step {
     Stopped(usize),
     Last(usize),

@@ -1,5 +1,8 @@
 // A script read back, and its line on standard output: what the two programs share.
 // What is told is what `script_back::block_of` gives; that standard output takes it is no promise of ours.
+
+#![tactic(auto)]
+
 use convert::Converted;
 use libc::STDOUT_FILENO;
 use lines::put_hex;

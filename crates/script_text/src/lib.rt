@@ -1,5 +1,8 @@
 // Request #112: the script of a block that arrays hold, stored in a lent text as far as it reaches.
 // Each function writes what the definition of its name says; a text that is too short for the script is only measured.
+
+#![tactic(auto)]
+
 ghost use Rattle.std.specs.Prelude.{◌+◌, ◌*◌, ◌/◌, ◌%◌, ◌<◌, ◌≤◌, List, length, get_or};
 ghost use Rattle.rules.specs.Polynomial.{Polynomial};
 ghost use Rattle.rules.specs.Formula.{Parts, leaf};
@@ -20,7 +23,7 @@ use runs::{put_byte, put_bytes};
 const JOIN: u32 = 16777216;
 
 // How far the writer is: the next byte, and the next token.
-#[derive(Drop)]
+#[derive(Clone, Copy)]
 struct Spot {
     at: usize,
     k: usize,

@@ -1,5 +1,8 @@
 // Reads scripts of a stream back: each text stands after its length in 4 bytes, most significant first. Prints for each its block in hex, or REFUSED 25 and
 // the position. The texts and the expected lines come from the independent reading.
+
+#![tactic(auto)]
+
 ghost use Rattle.std.specs.Prelude.{◌≡◌, ◌≤◌, length};
 
 use libc::{STDIN_FILENO, STDOUT_FILENO};

@@ -16,7 +16,7 @@ use table::Atoms;
 use terms::Board;
 
 // Whether a pair found something of an atom, and the atoms that this leaves.
-#[derive(Drop)]
+#[derive(Clone, Copy)]
 pub struct OfAtoms {
     pub found: bool,
     pub atoms: Atoms,

@@ -1,5 +1,8 @@
 // Request #111, "Two atoms at once": the search over pairs of atoms that follows a round that changes nothing.
 // The first finding that changes a set is the one that counts: of x_1 .. x_n, then of each atom in list order.
+
+#![tactic(auto)]
+
 ghost use Rattle.terms.specs.View.{sets_of};
 ghost use Rattle.table.specs.Table.{Forms};
 ghost use Rattle.round.specs.Views.{lent_table};
@@ -21,7 +24,7 @@ pub mod variables; // the search over the variables
 pub mod atoms; // the search over the atoms
 
 // Whether a pair found something, and the state that this leaves.
-#[derive(Drop)]
+#[derive(Clone, Copy)]
 pub struct Found {
     pub found: bool,
     pub state: State,

@@ -19,7 +19,7 @@ use table::Atoms;
 use terms::Board;
 
 // Whether a pair found something of a variable, and the board that this leaves.
-#[derive(Drop)]
+#[derive(Clone, Copy)]
 pub struct OfBoard {
     pub found: bool,
     pub board: Board,

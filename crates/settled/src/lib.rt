@@ -1,5 +1,8 @@
 // The state that the rounds over a list settled in, 01 "Rounds": what it says of a polynomial, and the sets that the list's atoms then carry.
 // The table of forms is lent as three slices.
+
+#![tactic(auto)]
+
 ghost use Rattle.std.specs.Prelude.{◌≡◌, ◌<◌, ◌≤◌, length};
 ghost use Rattle.std.proofs.Math.Option.{none};
 ghost use Rattle.rules.specs.Signs.{inside};
@@ -231,7 +234,7 @@ pub fn says_inside(
 // ---- the sets that the atoms of a list carry after its rounds
 
 // The set that one atom carries, and the index of the next atom that is no variable's.
-#[derive(Drop)]
+#[derive(Clone, Copy)]
 struct Carry {
     pub set: u8,
     pub next: usize,

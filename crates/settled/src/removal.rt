@@ -29,21 +29,21 @@ use signs::SignSet;
 use table::Atoms;
 
 // The atoms of a list that remain, and which of its indices they had.
-#[derive(Drop)]
+#[derive(Clone, Copy)]
 pub struct Remaining {
     pub atoms: Atoms,
     pub keep: [bool; 64],
 }
 
 // What remains of a list after step 5, and the largest number of rounds so far, its fresh runs counted.
-#[derive(Drop)]
+#[derive(Clone, Copy)]
 pub struct Removed {
     pub remaining: Remaining,
     pub rounds: usize,
 }
 
 // Whether an atom is implied or goes, and the order of turns that is worth trying for the next one.
-#[derive(Drop)]
+#[derive(Clone, Copy)]
 struct Told {
     yes: bool,
     order: Order,

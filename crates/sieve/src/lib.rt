@@ -1,5 +1,8 @@
 // Whether some try of a pair of atoms (02, #111) may cut a set: each is given up at the first monomial whose coefficient in p + u·q1 + v·q2 is not
 // as the test asks. The three forms are merged once, so that a try is a walk over rows of three coefficients.
+
+#![tactic(auto)]
+
 ghost use Rattle.std.specs.Prelude.{◌≡◌, true, false};
 ghost use Rattle.two_atoms.specs.Tries.{PlacesOf};
 ghost use Rattle.sieve.specs.Rows.{FallsOf};

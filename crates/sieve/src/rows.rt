@@ -8,7 +8,7 @@ use deduce::Run;
 use two_atoms::pair::Pair;
 
 // What a form has at a monomial: its coefficient, the monomial's set if the form has it, and where its terms below begin.
-#[derive(Drop)]
+#[derive(Clone, Copy)]
 pub struct Share {
     pub c: i32,
     pub s: u8,
@@ -16,7 +16,7 @@ pub struct Share {
 }
 
 // A monomial: its coefficients in p, q1 and q2, its set, and where the terms below it begin.
-#[derive(Drop)]
+#[derive(Clone, Copy)]
 pub struct Row {
     pub a: i32,
     pub b: i32,

@@ -1,14 +1,17 @@
 // Sign sets, 01 "Signs": a part of {negative, zero, positive} in three bits, in that order.
 // Each method is the function of the same name of the book, for every byte: what lies above the three bits is not read.
+
+#![tactic(auto)]
+
 ghost use Rattle.std.specs.Prelude.{◌≡◌};
 ghost use Rattle.signs.specs.ThreeBits.{three_bits, set_with};
 ghost use Rattle.rules.specs.Signs.{square, mirror, complement, sum, product, intersect, inside};
 
-#[derive(Drop)]
+#[derive(Clone, Copy)]
 pub struct SignSet(pub u8);
 
 // What the formulas are made of: the three bits of a set, and whether any of them is there.
-#[derive(Drop)]
+#[derive(Clone, Copy)]
 struct ThreeBits {
     negative: bool,
     zero: bool,

@@ -18,7 +18,7 @@ use tape::tokens::with_set;
 
 // What step 3 leaves beside its list: the state of its rounds, or that they found a contradiction; and the largest number of rounds so far, its run
 // counted.
-#[derive(Drop)]
+#[derive(Clone, Copy)]
 pub struct Carrying {
     pub state: State,
     pub contradiction: bool,
@@ -26,7 +26,7 @@ pub struct Carrying {
 }
 
 // How many tokens step 5 leaves, and the largest number of rounds so far, its fresh runs counted.
-#[derive(Drop)]
+#[derive(Clone, Copy)]
 pub struct Left {
     pub count: usize,
     pub rounds: usize,

@@ -20,7 +20,7 @@ use tape::tokens::{set_of, slot_of, with_set};
 use tape::walks::{Level, Walked, add, begin};
 
 // What becomes of an atom of a child: the child is implied, the atom is gone, or this is its token now.
-#[derive(Drop)]
+#[derive(Clone, Copy)]
 struct Cut {
     implied: bool,
     gone: bool,
@@ -28,7 +28,7 @@ struct Cut {
 }
 
 // A child that is dropped, or the atoms that are left of it.
-#[derive(Drop)]
+#[derive(Clone, Copy)]
 struct Pruned {
     dropped: bool,
     list: Row,

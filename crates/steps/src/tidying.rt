@@ -15,14 +15,14 @@ use tape::tokens::{set_of, slot_of, with_set};
 use terms::sign_of;
 
 // How many tokens step 2 keeps, at the front of their list, or that the node is false.
-#[derive(Drop)]
+#[derive(Clone, Copy)]
 pub struct Kept {
     pub count: usize,
     pub broken: bool,
 }
 
 // "A constant polynomial makes its atom true or false"; every other polynomial leaves it open.
-#[derive(Drop)]
+#[derive(Clone, Copy)]
 enum Truth {
     Open,
     True,

@@ -6,7 +6,7 @@ ghost use Rattle.std.specs.Prelude.{◌≡◌, List, [], ◌∷◌, ◌++◌, �
 ghost use Rattle.tape.specs.Row.{row_of, Lists};
 ghost use Rattle.tape.specs.Tape.{Children, child, none, laid, also};
 
-#[derive(Drop)]
+#[derive(Clone, Copy)]
 pub struct Row {
     pub token: [u32; 256],
     pub count: usize,

@@ -12,14 +12,14 @@ use crate::rows::{Row, append, atoms_of, empty, push, put_child, tokens_of};
 use crate::tokens::opposite;
 
 // The parts of an AND: its atoms, and its OR children.
-#[derive(Drop)]
+#[derive(Clone, Copy)]
 pub struct Level {
     pub atoms: Row,
     pub ors: Row,
 }
 
 // What a walk over OR children has found so far: a false one, or the children that stay, and the atoms that joined if any child joined or was spliced.
-#[derive(Drop)]
+#[derive(Clone, Copy)]
 pub struct Walked {
     pub falls: bool,
     pub moved: bool,

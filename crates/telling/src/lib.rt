@@ -1,5 +1,8 @@
 // 01, "The program": the report line and the hex line of an answer, stored in lent bytes.
 // The report line is made apart, so that its length is known before the lent text is touched.
+
+#![tactic(auto)]
+
 ghost use Rattle.std.specs.Prelude.{◌+◌, ◌<◌, ◌≤◌, length};
 ghost use Rattle.rules.specs.Answer.{refusal, answered};
 ghost use Rattle.rules.specs.Report.{word, counts_text};

@@ -1,5 +1,8 @@
 // The signs of terms, 01 "Signs": the sign of a monomial on a board, and the sign of a polynomial by its terms.
 // A polynomial is a run of places of lent slices, a coefficient and a monomial at each; a monomial's exponents have four bits each.
+
+#![tactic(auto)]
+
 ghost use Rattle.std.specs.Prelude.{◌≡◌, ◌≤◌, length};
 ghost use Rattle.rules.specs.Signs.{only, sign_of as the_sign_of};
 ghost use Rattle.rules.specs.Polynomial.{monomial_sign as monomial_sign_of, Board as BookBoard};
@@ -13,7 +16,7 @@ use signs::SignSet;
 pub mod masks; // the sign of a monomial from four masks of the board
 
 // The sign sets of the variables, in order; a count above sixteen counts as sixteen.
-#[derive(Drop)]
+#[derive(Clone, Copy)]
 pub struct Board {
     pub variables: usize,
     pub sets: [u8; 16],

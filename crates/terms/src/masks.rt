@@ -11,7 +11,7 @@ use signs::SignSet;
 
 // A monomial has four bits for the exponent of each variable, the first variable foremost. A mask has one bit for each variable, the lowest of
 // these four: `all` has the variables of the board, `negative`, `zero` and `positive` those whose sets have the sign.
-#[derive(Drop)]
+#[derive(Clone, Copy)]
 pub struct Masks {
     pub all: u64,
     pub negative: u64,

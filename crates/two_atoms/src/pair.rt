@@ -13,7 +13,7 @@ use interval::vanishing::is_strict;
 use signs::SignSet;
 
 // p, and the two atoms: their polynomials and their sets.
-#[derive(Drop)]
+#[derive(Clone, Copy)]
 pub struct Pair {
     pub p: Run,
     pub q1: Run,

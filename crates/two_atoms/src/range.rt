@@ -11,7 +11,7 @@ use crate::total::{next_step, sign_less};
 use signs::SignSet;
 
 // The indices from..to.
-#[derive(Drop)]
+#[derive(Clone, Copy)]
 pub struct Range {
     pub from: usize,
     pub to: usize,

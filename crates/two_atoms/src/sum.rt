@@ -7,7 +7,7 @@ ghost use Rattle.two_atoms.specs.Sums.{Places, NextSum, Led};
 use interval::interval::cross;
 
 // A monomial of p or q: its coefficient in p + u·q, the monomial and its sign set, and where the terms after it begin.
-#[derive(Drop)]
+#[derive(Clone, Copy)]
 pub struct Row {
     pub c: i64,
     pub monomial: u64,
@@ -17,7 +17,7 @@ pub struct Row {
 }
 
 // The first term of p + u·q, if there is one, and where the terms of p and q after it begin.
-#[derive(Drop)]
+#[derive(Clone, Copy)]
 pub struct Lead {
     pub there: bool,
     pub c: i64,

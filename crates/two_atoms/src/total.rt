@@ -12,7 +12,7 @@ use interval::interval::{cross, sign_between};
 use signs::SignSet;
 
 // A monomial of p, q1 or q2: its coefficient in p + u·q1 + v·q2 is x + v·b; its sign set, and where the terms after it begin.
-#[derive(Drop)]
+#[derive(Clone, Copy)]
 pub struct Step {
     pub x: i64,
     pub b: i32,

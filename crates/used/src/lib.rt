@@ -1,5 +1,8 @@
 // What the new block holds, 01 "A level": it "keeps n and lists the used normal forms by first use in the tree".
 // The simplified tree is a tape of tokens whose atoms name slots of the working table; the new block's atoms name forms by their place in its list.
+
+#![tactic(auto)]
+
 ghost use Rattle.std.specs.Prelude.{◌≡◌, List, [], map, ℕ, ◌+◌, ◌*◌, ◌<◌, ◌≤◌, ℤ, length, take, drop, replicate};
 ghost use Rattle.std.proofs.lemmas.List.Edits.{sets};
 ghost use Rattle.rules.specs.Polynomial.{constant};

@@ -1,4 +1,7 @@
 // A block run on readings, and its line on standard output: PERMIT, DENY, or REFUSED and the number. What the two programs share.
+
+#![tactic(auto)]
+
 use evaluate::{Evaluation, evaluate};
 use libc::STDOUT_FILENO;
 

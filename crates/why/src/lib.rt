@@ -1,5 +1,8 @@
 // 02, #106, "Why is the clause gone?": a record for each atom of a block whose root is an AND of atoms, in records that are lent.
 // Refusals: the reader's, then 19 if the root is no AND of atoms, then 20 if there are fewer records than atoms.
+
+#![tactic(auto)]
+
 ghost use Rattle.std.specs.Prelude.{◌≡◌, ◌++◌, ◌<◌, length, take, drop, get_or};
 ghost use Rattle.rules.specs.Reasons.{why as why_book};
 ghost use Rattle.reasons.specs.Records.{blank};
@@ -12,14 +15,14 @@ mod exported; // the entry for C
 pub mod reading; // from the bytes to the records by value
 
 // A refusal's number, or how many records are told: as many as the block has atoms.
-#[derive(Drop)]
+#[derive(Clone, Copy)]
 pub enum Outcome {
     Refused(u8),
     Explained(usize),
 }
 
 // What is told of a block, by value.
-#[derive(Drop)]
+#[derive(Clone, Copy)]
 pub struct Told {
     pub found: Found,
     pub outcome: Outcome,

@@ -1,5 +1,8 @@
 // What is told of an input, as lines on standard output: what the two programs of request #106 share.
 // What is told are the outcome and the records of `why::reading::explained`; that standard output takes them is no promise of ours.
+
+#![tactic(auto)]
+
 use block::{Contents, read_into};
 use libc::STDOUT_FILENO;
 use reasons::{Found, Reason, record};

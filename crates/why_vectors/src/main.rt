@@ -1,4 +1,7 @@
 // Tells why, for each block of a stream: the lines that `placardpan_why` prints.
+
+#![tactic(auto)]
+
 use frames::Kind;
 use libc::STDOUT_FILENO;
 

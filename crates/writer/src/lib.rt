@@ -1,5 +1,8 @@
 // 01, "The block": the writer, from arrays to bytes.
 // Each function writes what the definition of the same name in the book does, and keeps every other bit.
+
+#![tactic(auto)]
+
 ghost use Rattle.std.specs.Prelude.{◌≡◌, ◌+◌, ◌-◌, ◌*◌, ◌≤◌, ◌<◌, nat_abs, length, get_or};
 ghost use Rattle.std.proofs.lemmas.List.Edits.{sets};
 ghost use Rattle.rules.specs.Bits.{field};
@@ -15,7 +18,7 @@ use exponents::write_exponents;
 mod exponents; // the exponents of a term, by edition
 
 // How far the writer is: the next bit, and the next token.
-#[derive(Drop)]
+#[derive(Clone, Copy)]
 struct Spot {
     at: usize,
     k: usize,

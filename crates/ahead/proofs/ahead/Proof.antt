@@ -82,8 +82,8 @@ returns-2 c =
     let whole = reached-after r (after-over _ _ _ r.variables l.invariant.1) in
     record { variables = whole.variables; after = whole.after; ready = whole.ready; idle = λ e. absurd (false≢true e) }
 
-pub ahead-spec : {M : Type 1} → statement M
-ahead-spec =
+pub ahead_spec : {M : Type 1} → statement M
+ahead_spec =
     tie.close
     (tie.spec invariant-loop decreases-loop (λ c. omega arith) (λ c. omega arith) (λ c κs. (c.before.before.before.before.before.requires.0, c.before.before.before.before.before.requires.1.0)) sign-list-requires loop-holds
     (λ c. omega arith) pass-requires

@@ -31,8 +31,8 @@ deduce-from-requires c κs =
       ),
     )
 
-pub cause-spec : {M : Type 1} → statement M
-cause-spec =
+pub cause_spec : {M : Type 1} → statement M
+cause_spec =
     tie.close
     (tie.spec invariant-loop decreases-loop (λ c κs. search rules) (λ c. search rules) (λ c κs. search rules) (λ c. (omega arith, c.before.many.ensures))
     (λ c. omega (arith, c.before.loop.invariant.1)) (λ c. omega (arith, c.before.before.loop.invariant.1)) (λ c. omega arith) (λ c. omega arith) (λ c κs. search rules)

@@ -61,8 +61,8 @@ returns c none =
     (run-form (table s) (variable_slot s.args.i) p.0 p.1 ∙ forms.each_variable s.args.i low)
     (run-form (table s) (atom_slot s.args.t6.number s.args.j) q.0 q.1)
 
-pub deduced-spec : {M : Type 1} → statement M
-deduced-spec =
+pub deduced_spec : {M : Type 1} → statement M
+deduced_spec =
     tie.close
     (tie.spec (λ c. search rules) (λ c. search rules) (λ c. search rules) (λ c. search rules) (λ c κs. search rules) (λ c κs. search rules) (λ c. search rules)
     (λ c κs. search rules) sign-slot-requires-2 deduce-alone-requires (λ c. search rules) returns)

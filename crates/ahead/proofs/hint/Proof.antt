@@ -32,8 +32,8 @@ returns-5 c =
     let none = sym c.before.before.before.before.before.before.any-empty.ensures ∙ c.before.before.before.before.before.if4.false in
     reached-by (table s) s.args.atoms b s.args.i j low small refl within listed (c.before.before.before.deduced.ensures none) c.intersect.ensures
 
-pub hint-spec : {M : Type 1} → statement M
-hint-spec =
+pub hint_spec : {M : Type 1} → statement M
+hint_spec =
     tie.close
     (tie.spec (λ c. reached-itself _ _ _ refl) (λ c κs. search rules) (λ c κs. search rules) (λ c. reached-itself _ _ _ refl) (λ c. search rules) (λ c. search rules)
     (λ c. reached-itself _ _ _ refl) (λ c κs. search rules) (λ c. reached-itself _ _ _ refl) deduced-requires (λ c κs. search rules) (λ c. search rules)

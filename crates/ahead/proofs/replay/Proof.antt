@@ -32,8 +32,8 @@ loop-again c =
     let r = c.before.before.hint in
     (r.auto.1.1.1.0 ∙ l.invariant.0, (l.invariant.1.0, reached-more _ _ _ _ _ reached (reached-over _ _ _ reached.variables _ _ _ r.ensures)))
 
-pub replay-spec : {M : Type 1} → statement M
-replay-spec =
+pub replay_spec : {M : Type 1} → statement M
+replay_spec =
     tie.close
     (tie.spec invariant-loop decreases-loop (λ c κs. search rules) (λ c. (refl, (omega (arith, c.many.ensures), reached-itself _ _ _ refl)))
     (λ c. omega (arith, c.before.loop.invariant.1.0)) (λ c. omega (arith, c.before.before.loop.invariant.1.0)) (λ c. omega arith) (λ c. search rules) hint-requires

@@ -273,8 +273,8 @@ returns c bytes accepted =
       ),
     )
 
-pub answer-to-spec : {M : Type 1} → statement M
-answer-to-spec =
+pub answer_to_spec : {M : Type 1} → statement M
+answer_to_spec =
     tie.close
     (tie.spec (λ c κs. search rules) (λ c. omega arith) (λ c. search rules) (λ c. search rules) (λ c. search rules) (λ c. search rules) (λ c. search rules) work-requires
     (λ c. search rules) (λ c. search rules) normal-tokens-requires atoms-requires (λ c. search rules) (λ c. search rules) forms-used-requires give-requires

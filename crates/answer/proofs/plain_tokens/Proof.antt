@@ -48,8 +48,8 @@ returns c =
     let a = c.before.before.args in
     sym (stores-end 0 (λ j. j) (λ j x. plain x) l.token l.i a.count (omega arith)) ∙ l.invariant.1
 
-pub plain-tokens-spec : {M : Type 1} → statement M
-plain-tokens-spec =
+pub plain_tokens_spec : {M : Type 1} → statement M
+plain_tokens_spec =
     tie.close
     (tie.spec invariant-loop decreases-loop loop-holds (λ c. omega arith) (λ c. omega arith) (λ c. omega arith) (λ c. omega arith) (λ c. omega arith)
     (λ c. omega arith) loop-again (λ c. omega arith) loop-again-2 (λ c. c.before.loop.invariant.0) returns)

@@ -3,8 +3,8 @@ use Rattle.answer.proofs.Verdicts.{is-always, is-unsatisfiable, is-atom, is-form
 use Rattle.answer.proofs.verdict_of.Statement.{statement}
 use Rattle.answer.proofs.verdict_of.Tie as tie
 
-pub verdict-of-spec : {M : Type 1} → statement M
-verdict-of-spec =
+pub verdict_of_spec : {M : Type 1} → statement M
+verdict_of_spec =
     tie.close
     (tie.spec
     (λ c. is-always c.before.before.args.root c.before.before.args.tokens c.before.if1.true c.if2.true)

@@ -11,8 +11,8 @@ invariant-loop descriptor block first sync size k₀ k = Unit {0}
 abbrev decreases-loop : tie.decreases-loop
 decreases-loop descriptor block first sync size k₀ k = size - k
 
-pub put-all-spec : {M : Type 1} → statement M
-put-all-spec =
+pub put_all_spec : {M : Type 1} → statement M
+put_all_spec =
     tie.close
     (tie.spec invariant-loop decreases-loop (λ c. tt) (λ c κs. search rules) (λ c. tt) (λ c. omega arith) (λ c. omega arith) (λ c. tt) (λ c κs. search rules)
     (λ c. tt))

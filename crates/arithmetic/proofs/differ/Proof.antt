@@ -11,5 +11,5 @@ returns-2 : tie.Need-returns-2
 unfolding differ
 returns-2 c = rw c.if1.false
 
-pub differ-spec : {M : Type 1} → statement M
-differ-spec = tie.close (tie.spec returns returns-2)
+pub differ_spec : {M : Type 1} → statement M
+differ_spec = tie.close (tie.spec returns returns-2)

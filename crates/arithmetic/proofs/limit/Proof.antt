@@ -11,5 +11,5 @@ returns-2 : tie.Need-returns-2
 unfolding limit_of
 returns-2 c = rw c.if1.false
 
-pub limit-spec : {M : Type 1} → statement M
-limit-spec = tie.close (tie.spec returns returns-2)
+pub limit_spec : {M : Type 1} → statement M
+limit_spec = tie.close (tie.spec returns returns-2)

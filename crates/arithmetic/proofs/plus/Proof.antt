@@ -44,8 +44,8 @@ returns-5 c =
     let differing = signs.before in
     in-range _ _ differing.before.both.ensures (sym differing.differ.ensures ∙ signs.if1.false) limiting.limit.ensures first.if3.false c.if4.false
 
-pub plus-spec : {M : Type 1} → statement M
-plus-spec =
+pub plus_spec : {M : Type 1} → statement M
+plus_spec =
     tie.close
     (tie.spec (λ c κs. search rules) (λ c κs. search rules) (λ c. search rules) (λ c κs. search rules) returns (λ c κs. search rules) returns-2
     (λ c κs. search rules) returns-3 returns-4 (λ c. search rules) returns-5)

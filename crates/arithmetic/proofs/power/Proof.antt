@@ -22,5 +22,5 @@ loop-again c =
 returns : tie.Need-returns invariant-loop decreases-loop
 returns c = sym (raised-end _ _ _ (omega (arith, c.loop-test.false))) ∙ c.before.loop.invariant
 
-pub power-spec : {M : Type 1} → statement M
-power-spec = tie.close (tie.spec invariant-loop decreases-loop (λ c. refl) (λ c. omega arith) (λ c κs. tt) (λ c. omega arith) loop-again returns)
+pub power_spec : {M : Type 1} → statement M
+power_spec = tie.close (tie.spec invariant-loop decreases-loop (λ c. refl) (λ c. omega arith) (λ c κs. tt) (λ c. omega arith) loop-again returns)

@@ -15,5 +15,5 @@ returns-2 : tie.Need-returns-2
 unfolding meaning
 returns-2 c = record { within = λ h. refl; past = λ h. absurd (omega (arith, c.before.limit.ensures, c.if1.false)) }
 
-pub ranged-spec : {M : Type 1} → statement M
-ranged-spec = tie.close (tie.spec (λ c κs. search rules) returns returns-2)
+pub ranged_spec : {M : Type 1} → statement M
+ranged_spec = tie.close (tie.spec (λ c κs. search rules) returns returns-2)

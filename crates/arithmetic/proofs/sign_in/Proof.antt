@@ -21,5 +21,5 @@ unfolding has only
 returns-3 c z is = let set = c.before.before.before.args.set in
     ap (λ (n : ℕ). eqb (n % 2) 1) (sym (div-one set)) ∙ ap (λ (s : Sign). has s set) (sym (sign-positive _ z is c.before.if1.false c.if2.false))
 
-pub sign-in-spec : {M : Type 1} → statement M
-sign-in-spec = tie.close (tie.spec returns returns-2 returns-3)
+pub sign_in_spec : {M : Type 1} → statement M
+sign_in_spec = tie.close (tie.spec returns returns-2 returns-3)

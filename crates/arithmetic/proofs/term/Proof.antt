@@ -38,8 +38,8 @@ returns c =
     let first = c.before.before.whole.ensures ∙ ap some (to_z-of_z w32 start.args.coefficient start.ranges.coefficient) in
     sym (term-end start.args.readings.now c.before.loop.i _ _ (omega (arith, c.loop-test.false))) ∙ c.before.loop.invariant.1 ∙ ap (term_from _ _) first
 
-pub term-spec : {M : Type 1} → statement M
-term-spec =
+pub term_spec : {M : Type 1} → statement M
+term_spec =
     tie.close
     (tie.spec invariant-loop decreases-loop (λ c κs. tt) loop-holds (λ c. omega arith) (λ c. omega arith) (λ c κs. tt) (λ c. omega arith) (λ c. omega arith) (λ c. omega arith)
     (λ c. omega arith) (λ c κs. tt) (λ c. omega arith) loop-again returns)

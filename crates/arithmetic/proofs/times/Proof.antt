@@ -27,5 +27,5 @@ returns-3 c =
     let differing = limiting.before in
     times-kept-by _ _ _ differing.differ.ensures differing.before.if1.false limiting.limit.ensures tested.if2.false
 
-pub times-spec : {M : Type 1} → statement M
-times-spec = tie.close (tie.spec returns (λ c κs. search rules) (λ c κs. search rules) (λ c. search rules) returns-2 mul-t6 returns-3)
+pub times_spec : {M : Type 1} → statement M
+times_spec = tie.close (tie.spec returns (λ c κs. search rules) (λ c κs. search rules) (λ c. search rules) returns-2 mul-t6 returns-3)

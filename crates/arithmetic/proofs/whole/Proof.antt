@@ -15,5 +15,5 @@ returns c =
     let back = to_z-of_z w32 start.args.x start.ranges.x in
     whole-meaning start.args.x (c.before.minus-of.ensures ∙ ap minus_bit back) (c.magnitude-of.ensures ∙ ap nat_abs back)
 
-pub whole-spec : {M : Type 1} → statement M
-whole-spec = tie.close (tie.spec (λ c κs. search rules) (λ c κs. search rules) returns)
+pub whole_spec : {M : Type 1} → statement M
+whole_spec = tie.close (tie.spec (λ c κs. search rules) (λ c κs. search rules) returns)

@@ -43,8 +43,8 @@ add-sofar c =
 returns : tie.Need-returns invariant-loop decreases-loop
 returns c = let a = c.before.before.before.args in let all : a.k - c.before.loop.left ≡ a.k = omega arith in rw all at c.before.loop.invariant.1
 
-pub by-bytes-spec : {M : Type 1} → statement M
-by-bytes-spec =
+pub by_bytes_spec : {M : Type 1} → statement M
+by_bytes_spec =
     tie.close
     (tie.spec invariant-loop decreases-loop (λ c. omega arith) loop-holds (λ c κs. search rules) (λ c. omega arith) (λ c. in-range (turn c.before)) (λ c κs. omega arith)
     add-sofar (λ c. omega arith) (λ c. omega (arith, in-range (turn c.before.before))) (λ c. omega arith) (λ c. (goes_on (turn c.before.before), next c))

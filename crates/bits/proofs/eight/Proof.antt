@@ -14,8 +14,8 @@ upper-small c = let a = c.before.before.args in below 32 (drop (8 * a.i) (unpack
 lower-small : (c : tie.After-four2) → c.four2.result < 4294967296
 lower-small c = let a = c.before.before.before.args in below 32 (drop (8 * (a.i + 4)) (unpack a.src.now)) (omega arith) c.four2.ensures
 
-pub eight-spec : {M : Type 1} → statement M
-eight-spec =
+pub eight_spec : {M : Type 1} → statement M
+eight_spec =
     tie.close
     (tie.spec (λ c κs. search rules) (λ c. omega (arith, upper-small c)) (λ c. search rules) (λ c κs. search rules)
     (λ c. omega (arith, upper-small c.before, lower-small c))

@@ -13,8 +13,8 @@ returns c =
     four_bytes s.args.src.now s.args.i s.requires first.wide.ensures.0 first.wide.ensures.1 second.wide2.ensures.0 second.wide2.ensures.1
     third.wide3.ensures.0 third.wide3.ensures.1 c.wide4.ensures.0 c.wide4.ensures.1
 
-pub four-spec : {M : Type 1} → statement M
-four-spec =
+pub four_spec : {M : Type 1} → statement M
+four_spec =
     tie.close
     (tie.spec (λ c. search rules) (λ c κs. search rules) (λ c. search rules) (λ c. search rules) (λ c κs. search rules) (λ c. search rules) (λ c. search rules)
     (λ c κs. search rules) (λ c. search rules) (λ c. search rules) (λ c κs. search rules) (λ c. search rules) (λ c. search rules) (λ c. search rules)

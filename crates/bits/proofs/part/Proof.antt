@@ -10,7 +10,7 @@ returns c =
     let s = c.before.before in
     rw (c.power.ensures, c.before.wide.ensures.0) (part-of-byte s.args.room s.args.count s.requires.0 s.requires.1 s.args.byte)
 
-pub part-spec : {M : Type 1} → statement M
-part-spec =
+pub part_spec : {M : Type 1} → statement M
+part_spec =
     tie.close
     (tie.spec (λ c κs. search rules) (λ c. search rules) (λ c. search rules) (λ c κs. search rules) (λ c. rw c.power.ensures (pow_pos _)) returns)

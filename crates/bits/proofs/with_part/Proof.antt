@@ -30,8 +30,8 @@ returns c =
     let s = c.before.before.before.before in
     ap (field 8) (is-patched c) ∙ field-patched s.args.room s.args.count s.requires.0 s.requires.1 s.args.byte s.args.v
 
-pub with-part-spec : {M : Type 1} → statement M
-with-part-spec =
+pub with_part_spec : {M : Type 1} → statement M
+with_part_spec =
     tie.close
     (tie.spec (λ c κs. search rules) (λ c κs. search rules) (λ c. search rules) (λ c κs. search rules) (λ c κs. search rules)
     (λ c. rw c.power3.ensures (pow_pos _)) (λ c. rw c.before.before.power.ensures (pow_pos _)) (λ c. omega (arith, small c))

@@ -10,8 +10,8 @@ returns c =
     out-of-eight s.args.src.now s.args.byte s.args.from s.args.k s.requires.0 s.requires.1 s.requires.2 s.requires.3 s.requires.4 c.before.least.ensures
     c.eight.ensures
 
-pub within-eight-spec : {M : Type 1} → statement M
-within-eight-spec =
+pub within_eight_spec : {M : Type 1} → statement M
+within_eight_spec =
     tie.close
     (tie.spec (λ c. search rules) (λ c κs. search rules) (λ c κs. search rules) (λ c. search rules) (λ c. search rules) (λ c. search rules) (λ c. search rules)
     (λ c. search rules) (λ c. search rules) returns)

@@ -11,6 +11,6 @@ returns c = let a = c.before.args in plus-value a.magnitude c.before.requires �
 returns-2 : tie.Need-returns-2
 returns-2 c = let a = c.before.args in minus-value a.magnitude c.before.requires ∙ signed-minus a.minus a.magnitude c.if1.false
 
-pub coefficient-of-spec : {M : Type 1} → statement M
-coefficient-of-spec =
+pub coefficient_of_spec : {M : Type 1} → statement M
+coefficient_of_spec =
     tie.close (tie.spec (λ c. search rules) returns (λ c. search rules) (λ c. minus-fits c.before.args.magnitude c.before.requires) returns-2)

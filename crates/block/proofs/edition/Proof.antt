@@ -4,8 +4,8 @@ use Rattle.block.proofs.ReadingHead.{no-first-byte, first-edition, second-editio
 use Rattle.block.proofs.edition.Statement.{statement}
 use Rattle.block.proofs.edition.Tie as tie
 
-pub edition-spec : {M : Type 1} → statement M
-edition-spec =
+pub edition_spec : {M : Type 1} → statement M
+edition_spec =
     tie.close
     (tie.spec (λ c. no-first-byte c.before.before.args.src.now c.if1.true) (λ c κs. search rules)
     (λ c. first-edition c.before.before.before.before.args.src.now c.before.get.ensures c.if2.true)

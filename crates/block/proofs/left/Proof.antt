@@ -8,5 +8,5 @@ use Rattle.block.proofs.left.Tie as tie
 returns : tie.Need-returns
 returns c = let a = c.before.args in record { counted = rw (length-left a.src.now a.place.at) (omega arith); up_to_end = omega arith }
 
-pub left-spec : {M : Type 1} → statement M
-left-spec = tie.close (tie.spec (λ c. search rules) (λ c. search rules) returns)
+pub left_spec : {M : Type 1} → statement M
+left_spec = tie.close (tie.spec (λ c. search rules) (λ c. search rules) returns)

@@ -4,8 +4,8 @@ use Rattle.block.proofs.ReadingTree.{none_allowed, kind-short, kind-three, atom-
 use Rattle.block.proofs.open_node.Statement.{statement}
 use Rattle.block.proofs.open_node.Tie as tie
 
-pub open-node-spec : {M : Type 1} → statement M
-open-node-spec =
+pub open_node_spec : {M : Type 1} → statement M
+open_node_spec =
     tie.close
     (tie.spec (λ c κs. search rules)
     (λ c. none_allowed _ _ _ _ _ c.if1.true)

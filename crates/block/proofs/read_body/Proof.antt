@@ -59,8 +59,8 @@ returns-3 c =
     let start = table.before.before.before.before.before.before.before.before in
     (all-stored start.requires.0 table.read_table.ensures chosen.step2.given.1 tree.read-tree.ensures root.found2.given.1, held-are _ _ _ _)
 
-pub read-body-spec : {M : Type 1} → statement M
-read-body-spec =
+pub read_body_spec : {M : Type 1} → statement M
+read_body_spec =
     tie.close
     (tie.spec read-table-requires (λ c. search rules) (λ c. search rules) read-tree-requires (λ c. search rules) (λ c. search rules)
     (λ c. search rules) (λ c. search rules) (λ c. search rules) returns

@@ -4,8 +4,8 @@ use Rattle.block.proofs.ReadingEnd.{nodes-left, byte_left, padding-left, all-end
 use Rattle.block.proofs.read_end.Statement.{statement}
 use Rattle.block.proofs.read_end.Tie as tie
 
-pub read-end-spec : {M : Type 1} → statement M
-read-end-spec =
+pub read_end_spec : {M : Type 1} → statement M
+read_end_spec =
     tie.close
     (tie.spec
     (λ c. λ block. nodes-left _ _ block c.if1.true)

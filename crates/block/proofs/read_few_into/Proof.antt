@@ -32,8 +32,8 @@ returns-3 c =
     let tested = body.before.before.before.before.before in
     few-read body.read-body.ensures.0 (held-fewer tested.if1.false body.read-body.ensures.1)
 
-pub read-few-into-spec : {M : Type 1} → statement M
-read-few-into-spec =
+pub read_few_into_spec : {M : Type 1} → statement M
+read_few_into_spec =
     tie.close
     (tie.spec (λ c κs. search rules) (λ c. search rules) (λ c. search rules) returns read-body-requires returns-2
     (λ c. search rules) (λ c. search rules) (λ c. search rules) (λ c. search rules) returns-3)

@@ -5,8 +5,8 @@ use Rattle.block.proofs.ReadingHead.{head_read}
 use Rattle.block.proofs.read_head.Statement.{statement}
 use Rattle.block.proofs.read_head.Tie as tie
 
-pub read-head-spec : {M : Type 1} → statement M
-read-head-spec =
+pub read_head_spec : {M : Type 1} → statement M
+read_head_spec =
     tie.close
     (tie.spec
     (λ c. block-short _ c.if1.true)

@@ -19,8 +19,8 @@ returns c =
     let head = chosen.before.before in
     contents-refused _ _ _ _ _ _ _ _ (head-refused head.read_head.ensures chosen.numbers.given.1)
 
-pub read-into-spec : {M : Type 1} → statement M
-read-into-spec =
+pub read_into_spec : {M : Type 1} → statement M
+read_into_spec =
     tie.close
     (tie.spec (λ c κs. search rules) (λ c. search rules) (λ c. search rules) read-body-requires returns
     (λ c. search rules) (λ c. search rules) (λ c. search rules) (λ c. search rules) (λ c. c.before.before.before.before.before.before.before.read-body.ensures.0))

@@ -11,8 +11,8 @@ use Rattle.block.proofs.ReadingPairs.{paired-short, paired-nought, paired-refuse
 use Rattle.block.proofs.read_paired_term.Statement.{statement}
 use Rattle.block.proofs.read_paired_term.Tie as tie
 
-pub read-paired-term-spec : {M : Type 1} → statement M
-read-paired-term-spec =
+pub read_paired_term_spec : {M : Type 1} → statement M
+read_paired_term_spec =
     tie.close
     (tie.spec (λ c κs. search rules)
     (λ c. paired-short _ _ _ c.before.left.ensures c.if1.true)

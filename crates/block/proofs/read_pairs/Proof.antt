@@ -28,8 +28,8 @@ returns-5 c =
     pairs-read _ _ _ count.get.ensures long.before.before.if1.false long.before.left.ensures long.if2.false told.tell.ensures
     c.before.told.given.1 count.before.before.requires.0
 
-pub read-pairs-spec : {M : Type 1} → statement M
-read-pairs-spec =
+pub read_pairs_spec : {M : Type 1} → statement M
+read_pairs_spec =
     tie.close
     (tie.spec (λ c κs. search rules)
     (λ c. many-pairs _ _ _ c.before.get.ensures c.if1.true)

@@ -4,8 +4,8 @@ use Rattle.block.proofs.ReadingTable.{polynomial-short, no_terms, too-many-terms
 use Rattle.block.proofs.read_polynomial.Statement.{statement}
 use Rattle.block.proofs.read_polynomial.Tie as tie
 
-pub read-polynomial-spec : {M : Type 1} → statement M
-read-polynomial-spec =
+pub read_polynomial_spec : {M : Type 1} → statement M
+read_polynomial_spec =
     tie.close
     (tie.spec (λ c κs. search rules)
     (λ c. polynomial-short _ _ c.before.left.ensures c.if1.true)

@@ -38,8 +38,8 @@ loop-again c =
       omega (arith, turn.loop-test.true),
     )
 
-pub read-table-spec : {M : Type 1} → statement M
-read-table-spec =
+pub read_table_spec : {M : Type 1} → statement M
+read_table_spec =
     tie.close
     (tie.spec invariant-loop decreases-loop (λ c. (table-begin _ _ _ c.before.before.before.requires.0, omega arith)) read-polynomial-requires (λ c. search rules)
     (λ c. let one = c.before.before.before.before.before.before.before.before in

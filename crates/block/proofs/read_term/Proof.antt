@@ -24,8 +24,8 @@ magnitude-is : (c : tie.After-term-fields) → let a = c.before.before.before.be
     c.term-fields.result.word % 2147483648 ≡ field_at a.src.now (a.place.at + 1) 31
 magnitude-is c = let a = c.before.before.before.before.before.args in last-part a.src.now a.place.at 1 31 (inside c) c.term-fields.ensures.word
 
-pub read-term-spec : {M : Type 1} → statement M
-read-term-spec =
+pub read_term_spec : {M : Type 1} → statement M
+read_term_spec =
     tie.close
     (tie.spec (λ c κs. search rules) (λ c. search rules) (λ c. search rules)
     (λ c. term-short _ _ _ c.before.left.ensures c.if1.true)

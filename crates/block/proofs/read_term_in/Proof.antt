@@ -4,8 +4,8 @@ use Rattle.block.proofs.ReadingHead.{in-edition1, in-edition2}
 use Rattle.block.proofs.read_term_in.Statement.{statement}
 use Rattle.block.proofs.read_term_in.Tie as tie
 
-pub read-term-in-spec : {M : Type 1} → statement M
-read-term-in-spec =
+pub read_term_in_spec : {M : Type 1} → statement M
+read_term_in_spec =
     tie.close
     (tie.spec (λ c κs. search rules) (λ c. search rules) (λ c. search rules)
     (λ c.

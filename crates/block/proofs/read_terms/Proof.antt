@@ -29,8 +29,8 @@ loop-again c =
     terms-go-on _ _ _ _ l.invariant turn.loop-test.true one.read-term-in.ensures chosen.step2.given.1 one.read-term-in.auto.1.0 one.read-term-in.auto.1.1.0
     (omega (arith, l.invariant.monomials)) refl
 
-pub read-terms-spec : {M : Type 1} → statement M
-read-terms-spec =
+pub read_terms_spec : {M : Type 1} → statement M
+read_terms_spec =
     tie.close
     (tie.spec invariant-loop decreases-loop (λ c. terms-begin _ _ _ _ c.before.before.requires.0) (λ c. omega arith) read-term-in-requires (λ c. search rules)
     (λ c. let one = c.before.before.before.before.before.before in one.read-term-in.auto.1.0 ∙ one.before.before.before.before.loop.invariant.coefficients)

@@ -9,8 +9,8 @@ use Rattle.block.proofs.ReadingEnd.{tree-refused, root-inside, end_refused, tree
 use Rattle.block.proofs.read_tree.Statement.{statement}
 use Rattle.block.proofs.read_tree.Tie as tie
 
-pub read-tree-spec : {M : Type 1} → statement M
-read-tree-spec =
+pub read_tree_spec : {M : Type 1} → statement M
+read_tree_spec =
     tie.close
     (tie.spec (λ c κs. search rules) (λ c. search rules) (λ c. search rules)
     (λ c κs. inside-after c.before.before.before.before.before.read-node.ensures c.before.step2.given.1)

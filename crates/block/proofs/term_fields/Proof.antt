@@ -24,8 +24,8 @@ returns-2 c =
       exponents = rw (shifted a.n c.before.if1.false) (last-part a.src.now a.at 32 (4 * a.n) s.requires.0 c.get3.ensures);
     }
 
-pub term-fields-spec : {M : Type 1} → statement M
-term-fields-spec =
+pub term_fields_spec : {M : Type 1} → statement M
+term_fields_spec =
     tie.close
     (tie.spec (λ c κs. search rules) (λ c. search rules) (λ c. search rules) (λ c κs. search rules) (λ c. search rules) (λ c. search rules) (λ c. search rules)
     (λ c κs. search rules) (λ c. search rules) (λ c. search rules) (λ c. search rules) (λ c. search rules) rem-t16 returns-2)

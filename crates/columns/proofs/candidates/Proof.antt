@@ -5,8 +5,8 @@ use Rattle.columns.specs.Columns.{candidates-either, candidates-all}
 use Rattle.columns.proofs.candidates.Statement.{statement}
 use Rattle.columns.proofs.candidates.Tie as tie
 
-pub candidates-spec : {M : Type 1} → statement M
-candidates-spec =
+pub candidates_spec : {M : Type 1} → statement M
+candidates_spec =
     tie.close
     (tie.spec (λ c. candidates-all) (λ c κs. search rules) (λ c κs. search rules)
     (λ c. candidates-either (omega arith) c.before.left-raising.ensures c.left-lowering.ensures))

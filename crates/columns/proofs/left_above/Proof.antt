@@ -18,5 +18,5 @@ returns-2 c =
     left-none (λ (q2 : Mask) (set2 : SignSet). some_second (joined d.p d.q1) q2 (kind set2))
     (sym c.before.non-positive.ensures ∙ c.if1.false)
 
-pub left-above-spec : {M : Type 1} → statement M
-left-above-spec = tie.close (tie.spec (λ c κs. search rules) (λ c κs. search rules) returns returns-2)
+pub left_above_spec : {M : Type 1} → statement M
+left_above_spec = tie.close (tie.spec (λ c κs. search rules) (λ c κs. search rules) returns returns-2)

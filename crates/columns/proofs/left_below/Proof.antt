@@ -18,5 +18,5 @@ returns-2 c =
     left-none (λ (q2 : Mask) (set2 : SignSet). some_second (joined d.p (swapped d.q1)) q2 (kind set2))
     (sym c.before.non-negative.ensures ∙ c.if1.false)
 
-pub left-below-spec : {M : Type 1} → statement M
-left-below-spec = tie.close (tie.spec (λ c κs. search rules) (λ c κs. search rules) returns returns-2)
+pub left_below_spec : {M : Type 1} → statement M
+left_below_spec = tie.close (tie.spec (λ c κs. search rules) (λ c κs. search rules) returns returns-2)

@@ -27,5 +27,5 @@ returns-2 c =
     (subst (λ (x : Mask). LeftAbove d.columns.now x d.q1 d.set1 c.before.left-above.result) e c.before.left-above.ensures)
     (subst (λ (x : Mask). LeftBelow d.columns.now x d.q1 d.set1 c.left_below.result) e c.left_below.ensures))
 
-pub left-lowering-spec : {M : Type 1} → statement M
-left-lowering-spec = tie.close (tie.spec returns (λ c κs. search rules) (λ c κs. search rules) (λ c κs. search rules) returns-2)
+pub left_lowering_spec : {M : Type 1} → statement M
+left_lowering_spec = tie.close (tie.spec returns (λ c κs. search rules) (λ c κs. search rules) (λ c κs. search rules) returns-2)

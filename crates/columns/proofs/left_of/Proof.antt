@@ -73,8 +73,8 @@ loop-again c =
     let h : 0 < l.need = omega arith in
     rw (one_shifted (lowest-below 64 l.need h l.invariant.small)) (ask l.invariant (has-lowest 64 h l.invariant.small))
 
-pub left-of-spec : {M : Type 1} → statement M
-left-of-spec =
+pub left_of_spec : {M : Type 1} → statement M
+left_of_spec =
     tie.close
     (tie.spec invariant-loop decreases-loop (λ c. omega arith) (λ c. search rules)
     (λ c. asked-none c.before.before.args.columns.now (record { negative = c.before.before.args.n; positive = c.before.before.args.p })

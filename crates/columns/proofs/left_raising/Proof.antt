@@ -20,5 +20,5 @@ returns-2 c =
     let d = c.before.before.args in
     left-none (λ (q2 : Mask) (set2 : SignSet). some_both d.p d.q1 (kind d.set1) q2 (kind set2)) (lt-leb 2 d.set (omega arith))
 
-pub left-raising-spec : {M : Type 1} → statement M
-left-raising-spec = tie.close (tie.spec (λ c κs. search rules) (λ c κs. search rules) returns returns-2)
+pub left_raising_spec : {M : Type 1} → statement M
+left_raising_spec = tie.close (tie.spec (λ c κs. search rules) (λ c κs. search rules) returns returns-2)

@@ -13,8 +13,8 @@ returns c =
     took d1.spread.ensures d2.spread2.ensures d3.before.before.non-positive.ensures d3.put_if.ensures
     d4.before.before.non-negative.ensures d4.put-if2.ensures
 
-pub note-spec : {M : Type 1} → statement M
-note-spec =
+pub note_spec : {M : Type 1} → statement M
+note_spec =
     tie.close
     (tie.spec (λ c κs. search rules) (λ c κs. search rules) (λ c κs. search rules) (λ c κs. search rules) (λ c κs. search rules)
     (λ c κs. search rules) (λ c. search rules) returns)

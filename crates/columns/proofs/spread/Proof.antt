@@ -67,8 +67,8 @@ loop-again c =
     (put-there l.columns (d.args.from + k) d.args.j
     (subst (λ (w : ℕ). w Has d.args.j) (sym (one_shifted d.requires.0)) (has-own d.args.j)) (slice-read-column c)))
 
-pub spread-spec : {M : Type 1} → statement M
-spread-spec =
+pub spread_spec : {M : Type 1} → statement M
+spread_spec =
     tie.close
     (tie.spec invariant-loop decreases-loop (λ c. search rules) (λ c. spread_none _ _ _ _ c.ranges.word.fits) cast-k add-column mul-column
     slice-read-column add-columns mul-columns slice-read-column shl-rest sub-rest loop-less loop-again (λ c. c.before.loop.invariant.more.same_length)

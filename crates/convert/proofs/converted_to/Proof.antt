@@ -42,8 +42,8 @@ returns-2 c =
     let given = found-accepted reading.read-into.ensures s.args.edition s.pre chosen.contents2.given.1 in
     converts-finished _ given.reading (finishing.finish.ensures given.block given.writable)
 
-pub converted-to-spec : {M : Type 1} → statement M
-converted-to-spec =
+pub converted_to_spec : {M : Type 1} → statement M
+converted_to_spec =
     tie.close
     (tie.spec (λ c. search rules) (λ c. search rules) (λ c. search rules) (λ c. search rules) read-into-requires (λ c. search rules) (λ c. search rules)
     (λ c. search rules) (λ c. search rules) (λ c. search rules) (λ c. search rules) finish-requires returns (λ c. search rules) returns-2)

@@ -13,5 +13,5 @@ returns : tie.Need-returns
 unfolding edition_of
 returns c = c.before.before.converted-to.ensures
 
-pub to-edition1-spec : {M : Type 1} → statement M
-to-edition1-spec = tie.close (tie.spec asks (λ c. search rules) returns)
+pub to_edition1_spec : {M : Type 1} → statement M
+to_edition1_spec = tie.close (tie.spec asks (λ c. search rules) returns)

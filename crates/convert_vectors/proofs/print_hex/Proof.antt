@@ -11,8 +11,8 @@ invariant-loop output size i₀ t5 i = Unit {0}
 abbrev decreases-loop : tie.decreases-loop
 decreases-loop output size i₀ t5 i = size - i
 
-pub print-hex-spec : {M : Type 1} → statement M
-print-hex-spec =
+pub print_hex_spec : {M : Type 1} → statement M
+print_hex_spec =
     tie.close
     (tie.spec invariant-loop decreases-loop (λ c. tt) (λ c. tt) (λ c. omega arith) (λ c. omega arith) (λ c κs. search rules) (λ c. omega arith) (λ c. tt)
     (λ c. search rules) (λ c κs. search rules) (λ c. tt))

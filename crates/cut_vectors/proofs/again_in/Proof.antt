@@ -22,8 +22,8 @@ loop-again c =
 same_length : tie.Need-same-length invariant-loop decreases-loop
 same_length c = c.before.loop.invariant
 
-pub again-in-spec : {M : Type 1} → statement M
-again-in-spec =
+pub again_in_spec : {M : Type 1} → statement M
+again_in_spec =
     tie.close
     (tie.spec invariant-loop decreases-loop (λ c κs. search rules) (λ c. refl) (λ c κs. search rules) (λ c. omega arith) (λ c κs. search rules)
     (λ c κs. search rules)

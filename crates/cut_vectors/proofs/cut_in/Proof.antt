@@ -22,8 +22,8 @@ loop-again c =
 same_length : tie.Need-same-length invariant-loop decreases-loop
 same_length c = let l = c.before.loop in length-set l.image c.before.before.before.before.place.result _ ∙ l.invariant.1
 
-pub cut-in-spec : {M : Type 1} → statement M
-cut-in-spec =
+pub cut_in_spec : {M : Type 1} → statement M
+cut_in_spec =
     tie.close
     (tie.spec invariant-loop decreases-loop (λ c κs. search rules) (λ c. tt) (λ c. search rules) (λ c. (omega arith, refl)) (λ c. search rules) (λ c. omega arith)
     (λ c κs. search rules)

@@ -23,8 +23,8 @@ same_length c =
     c.before.before.step2.auto.0 ∙ c.before.before.before.before.before.before.cut-in2.auto.1.0
     ∙ c.before.before.before.before.before.before.before.before.before.loop.invariant
 
-pub cuts-spec : {M : Type 1} → statement M
-cuts-spec =
+pub cuts_spec : {M : Type 1} → statement M
+cuts_spec =
     tie.close
     (tie.spec invariant-loop decreases-loop (λ c κs. search rules) (λ c. refl) (λ c κs. search rules) (λ c κs. search rules) (λ c. omega arith)
     (λ c. omega arith) loop-again

@@ -34,8 +34,8 @@ returns-2 c =
     let h : c.before.before.few.result ≤ l.i = omega arith in
     sym (empty-nowhere _ _ _ h) ∙ l.invariant.1.1
 
-pub any-empty-spec : {M : Type 1} → statement M
-any-empty-spec =
+pub any_empty_spec : {M : Type 1} → statement M
+any_empty_spec =
     tie.close
     (tie.spec invariant-loop decreases-loop (λ c κs. search rules) (λ c. (omega arith, (c.few.ensures, rw (c.few.ensures, sub-zero)))) (λ c. search rules)
     (λ c. omega arith) returns (λ c. omega arith) loop-again returns-2)

@@ -6,8 +6,8 @@ use Rattle.deduce.proofs.Board.{deduce-empty}
 use Rattle.deduce.proofs.deduce.Statement.{statement}
 use Rattle.deduce.proofs.deduce.Tie as tie
 
-pub deduce-spec : {M : Type 1} → statement M
-deduce-spec =
+pub deduce_spec : {M : Type 1} → statement M
+deduce_spec =
     tie.close
     (tie.spec (λ c κs. search rules) (λ c. deduce-empty _ _ _ _ (sym c.before.any-empty.ensures ∙ c.if1.true))
     (λ c κs. let h = c.before.before.before.before.requires in (within h.0, within h.1))

@@ -26,8 +26,8 @@ deduced : {cs : List ℤ} {ms : List ℕ} {ss : List SignSet} {p q : Run} {set r
     → (set ≡ 0 → ⊥) → Found cs ms ss p q set nothing r → Deduced cs ms ss p q set r
 deduced e f = record { on = λ s t h. f.found s t ∙ finding-gathered _ _ ∙ deduce-found _ _ _ _ e h }
 
-pub deduce-from-spec : {M : Type 1} → statement M
-deduce-from-spec =
+pub deduce_from_spec : {M : Type 1} → statement M
+deduce_from_spec =
     tie.close
     (tie.spec returns (λ c. record { on = λ s t h. deduce-none _ _ _ _ (inl c.if2.true) h })
     (λ c. record { on = λ s t h. deduce-none _ _ _ _ (inr c.if3.true) h }) (λ c κs. search rules)

@@ -13,8 +13,8 @@ invariant-loop token n sets₀ i₀ sets i = (n ≤ 16) × (length sets ≡ 16)
 abbrev decreases-loop : tie.decreases-loop
 decreases-loop token n sets₀ i₀ sets i = n - i
 
-pub board-of-spec : {M : Type 1} → statement M
-board-of-spec =
+pub board_of_spec : {M : Type 1} → statement M
+board_of_spec =
     tie.close
     (tie.spec invariant-loop decreases-loop (λ c κs. search rules) (λ c. (omega arith, search rules)) (λ c. omega arith) (λ c. omega arith) (λ c. search rules)
     (λ c. search rules) (λ c. search rules) (λ c. omega arith) (λ c. omega arith) (λ c. (omega arith, search rules)) (λ c. search rules))

@@ -40,8 +40,8 @@ deduce-requires c κs =
       run-held _ _ _ _ _ _ _ worked-out.ensures (omega arith) cs ms ss (omega arith) (omega arith),
     )
 
-pub finding-spec : {M : Type 1} → statement M
-finding-spec =
+pub finding_spec : {M : Type 1} → statement M
+finding_spec =
     tie.close
     (tie.spec (λ c κs. search rules) (λ c. search rules) (λ c. search rules) sign-terms-requires (λ c. search rules) (λ c. search rules)
     (λ c κs. search rules) (λ c. search rules) (λ c. search elem_fits_field) (λ c κs. search rules) (λ c. search rules) (λ c. search rules)

@@ -35,7 +35,7 @@ returns c =
           c.sign-in.ensures;
     }
 
-pub atom-spec : {M : Type 1} → statement M
-atom-spec =
+pub atom_spec : {M : Type 1} → statement M
+atom_spec =
     tie.close
     (tie.spec (λ c. search rules) (λ c. search rules) (λ c. search rules) cast-count behind-requires value-requires (λ c κs. search rules) returns)

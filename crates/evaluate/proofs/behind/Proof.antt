@@ -12,5 +12,5 @@ returns c = rw c.if1.true
 returns-2 : tie.Need-returns-2
 returns-2 c = behind-is _ _ c.if1.false
 
-pub behind-spec : {M : Type 1} → statement M
-behind-spec = tie.close (tie.spec (λ c. search rules) returns returns-2)
+pub behind_spec : {M : Type 1} → statement M
+behind_spec = tie.close (tie.spec (λ c. search rules) returns returns-2)

@@ -19,8 +19,8 @@ returns-2 c =
     let reading = chosen.before.before.before.before.before.before in
     c.run.ensures reading.before.before.before.before.before.before.args.input.now (few-read reading.read-few-into.ensures chosen.few.given.1)
 
-pub evaluate-spec : {M : Type 1} → statement M
-evaluate-spec =
+pub evaluate_spec : {M : Type 1} → statement M
+evaluate_spec =
     tie.close
     (tie.spec (λ c. search rules) (λ c. search rules) (λ c. search rules) (λ c. search rules) (λ c κs. search rules)
     (λ c. search rules) (λ c κs. search rules) (λ c. search rules)

@@ -14,8 +14,8 @@ returns c =
     let reading = c.before.before.before.before.before.before.before.before.before in
     c.run.ensures reading.before.before.before.before.before.before.args.input.now (any-stands reading.read-into.ensures)
 
-pub evaluate-any-spec : {M : Type 1} → statement M
-evaluate-any-spec =
+pub evaluate_any_spec : {M : Type 1} → statement M
+evaluate_any_spec =
     tie.close
     (tie.spec (λ c. search rules) (λ c. search rules) (λ c. search rules) (λ c. search rules) (λ c κs. search rules)
     (λ c. search rules) (λ c. search rules) (λ c. search rules) (λ c. search rules) run-requires returns)

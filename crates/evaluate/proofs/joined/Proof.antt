@@ -19,5 +19,5 @@ returns-4 : tie.Need-returns-4
 unfolding joined
 returns-4 c = rw (c.before.if1.false, c.if3.false)
 
-pub joined-spec : {M : Type 1} → statement M
-joined-spec = tie.close (tie.spec returns returns-2 returns-3 returns-4)
+pub joined_spec : {M : Type 1} → statement M
+joined_spec = tie.close (tie.spec returns returns-2 returns-3 returns-4)

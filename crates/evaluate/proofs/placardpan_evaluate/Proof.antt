@@ -9,5 +9,5 @@ use Rattle.evaluate.proofs.placardpan_evaluate.Tie as tie
 returns : tie.Need-returns
 returns c = c.number_in.ensures ∙ ap (λ (e : Evaluation). number_in e) c.before.evaluate.ensures ∙ number-exported _
 
-pub placardpan-evaluate-spec : {M : Type 1} → statement M
-placardpan-evaluate-spec = tie.close (tie.spec (λ c κs. search rules) (λ c κs. search rules) returns)
+pub placardpan_evaluate_spec : {M : Type 1} → statement M
+placardpan_evaluate_spec = tie.close (tie.spec (λ c κs. search rules) (λ c κs. search rules) returns)

@@ -15,5 +15,5 @@ returns-3 : tie.Need-returns-3
 unfolding verdict_of
 returns-3 c = rw c.if1.false
 
-pub verdict-spec : {M : Type 1} → statement M
-verdict-spec = tie.close (tie.spec returns returns-2 returns-3)
+pub verdict_spec : {M : Type 1} → statement M
+verdict_spec = tie.close (tie.spec returns returns-2 returns-3)

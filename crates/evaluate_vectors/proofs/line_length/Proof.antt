@@ -11,6 +11,6 @@ invariant-loop frame i₀ i = Unit {0}
 abbrev decreases-loop : tie.decreases-loop
 decreases-loop frame i₀ i = length frame - i
 
-pub line-length-spec : {M : Type 1} → statement M
-line-length-spec =
+pub line_length_spec : {M : Type 1} → statement M
+line_length_spec =
     tie.close (tie.spec invariant-loop decreases-loop (λ c. tt) (λ c. omega arith) (λ c. tt) (λ c. omega arith) (λ c. omega arith) (λ c. tt) (λ c. tt))

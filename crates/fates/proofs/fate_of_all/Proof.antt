@@ -93,8 +93,8 @@ returns-3 c l h =
     let ran = c.before.before.before.before.before.before.before.carry.ensures _ later in
     each-by s.requires.0 joined merged behind ran c.before.before.before.if2.false c.before.before.before.before.if1.false (c.before.without-implied.ensures ran.list ran.lists) _ refl refl refl refl refl
 
-pub fate-of-all-spec : {M : Type 1} → statement M
-fate-of-all-spec =
+pub fate_of_all_spec : {M : Type 1} → statement M
+fate_of_all_spec =
     tie.close
     (tie.spec (λ c κs. let g = c.before.before.requires.1 in (c.before.before.requires.0, omega (arith, g.lists.size, g.few)))
     (λ c κs. let g = c.before.before.before.requires.1 in omega (arith, c.join-all.ensures.0, g.lists.size, g.few))

@@ -19,8 +19,8 @@ returns c =
     let a = c.before.before.before.before.before.before.args in
     ap (λ (s : ℕ). a.token / 512 * 512 + get_or a.number.now (a.token / 8 % 64) 0 * 8 + s) c.before.before.Turned-set.ensures
 
-pub normal-token-spec : {M : Type 1} → statement M
-normal-token-spec =
+pub normal_token_spec : {M : Type 1} → statement M
+normal_token_spec =
     tie.close
     (tie.spec (λ c. search rules) (λ c. search rules) (λ c. search rules) (λ c κs. search rules) (λ c. search rules) (λ c. search rules)
     (λ c. omega (arith, number_small c)) (λ c. omega (arith, number_small c)) (λ c. omega (arith, number_small c)) (λ c. search rules)

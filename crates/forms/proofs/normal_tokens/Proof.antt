@@ -52,8 +52,8 @@ returns c =
     let a = c.before.before.before.before.before.args in
     sym (stores-end 0 (λ j. j) (λ j x. normal_unless_node a.number.now a.turned.now x) l.token l.i a.count (omega arith)) ∙ l.invariant.1
 
-pub normal-tokens-spec : {M : Type 1} → statement M
-normal-tokens-spec =
+pub normal_tokens_spec : {M : Type 1} → statement M
+normal_tokens_spec =
     tie.close
     (tie.spec invariant-loop decreases-loop loop-holds (λ c. omega arith) (λ c. omega arith) (λ c. omega arith) (λ c κs. search rules) (λ c. omega arith) (λ c. omega arith)
     (λ c. omega arith) loop-again (λ c. omega arith) loop-again-2 (λ c. c.before.loop.invariant.0) returns)

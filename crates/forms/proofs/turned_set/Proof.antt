@@ -12,5 +12,5 @@ returns-2 : tie.Need-returns-2
 unfolding turned_set
 returns-2 c = rw c.if1.false
 
-pub turned-set-spec : {M : Type 1} → statement M
-turned-set-spec = tie.close (tie.spec (λ c κs. search rules) returns returns-2)
+pub turned_set_spec : {M : Type 1} → statement M
+turned_set_spec = tie.close (tie.spec (λ c κs. search rules) returns returns-2)

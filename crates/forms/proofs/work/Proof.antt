@@ -146,8 +146,8 @@ returns c =
     filling.fill.ensures ending.put-variables.ensures)
     (worked (plain here) a.coefficient.now a.monomial.now a.terms.now a.polynomials a.variables start.pre.0)
 
-pub work-spec : {M : Type 1} → statement M
-work-spec =
+pub work_spec : {M : Type 1} → statement M
+work_spec =
     tie.close
     (tie.spec normalize-all-requires mul-copy-monomials copy-monomials-requires copy-counts-requires number-all-requires fill-requires put-variables-requires
     same_length (λ c. search rules) (λ c. search rules) (λ c. search rules) (λ c. search rules) returns)

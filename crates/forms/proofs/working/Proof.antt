@@ -10,7 +10,7 @@ work-requires : tie.Need-work-requires
 unfolding blank bit
 work-requires c κs = (c.before.before.before.before.before.before.before.requires, refl)
 
-pub working-spec : {M : Type 1} → statement M
-working-spec =
+pub working_spec : {M : Type 1} → statement M
+working_spec =
     tie.close
     (tie.spec (λ c. search rules) (λ c. search rules) (λ c. search rules) (λ c. search rules) (λ c. search rules) work-requires (λ c. c.before.before.before.before.before.work.ensures))

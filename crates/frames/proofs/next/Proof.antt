@@ -13,8 +13,8 @@ slice-aggregate-read-full-2 c =
     sym (length-take-le (c.before.before.before.wide.result * 256 + c.before.before.wide2.result)
     c.before.before.before.before.before.before.before.before.before.before.args.block.now (omega arith))
 
-pub next-spec : {M : Type 1} → statement M
-next-spec =
+pub next_spec : {M : Type 1} → statement M
+next_spec =
     tie.close
     (tie.spec (λ c. search rules) (λ c κs. search rules) (λ c κs. search rules) (λ c. search rules) (λ c κs. search rules) (λ c. search rules)
     (λ c. search rules) (λ c κs. search rules) (λ c. search rules) (λ c. search rules) (λ c κs. search rules) (λ c. search rules)

@@ -53,5 +53,5 @@ unfolding enough_for enough_if
 returns-2 c k l hk hl =
     rw c.before.if1.false (c.implies.ensures _ (appended k l _ _ hl.size (c.before.before.before.append.ensures.1 k l hk hl (omega (arith, hl.size)))))
 
-pub enough-spec : {M : Type 1} → statement M
-enough-spec = tie.close (tie.spec append-requires excludes-requires returns implies-requires returns-2)
+pub enough_spec : {M : Type 1} → statement M
+enough_spec = tie.close (tie.spec append-requires excludes-requires returns implies-requires returns-2)

@@ -21,5 +21,5 @@ returns c l h =
     let s = c.before.before.before.before.before.before in
     excluded (table s) _ c.run.result (c.run.ensures.outcome ∙ ap (run s.args.variables) (c.before.atoms-in.ensures.1 (table s) l h))
 
-pub excludes-spec : {M : Type 1} → statement M
-excludes-spec = tie.close (tie.spec (λ c. search rules) atoms-in-requires (λ c κs. c.before.before.before.before.before.requires.0) returns)
+pub excludes_spec : {M : Type 1} → statement M
+excludes_spec = tie.close (tie.spec (λ c. search rules) atoms-in-requires (λ c κs. c.before.before.before.before.before.requires.0) returns)

@@ -64,8 +64,8 @@ returns-2 c l h =
     c.says-inside.ensures ∙ ap₂ inside_of said c.before.set-of.ensures
     ∙ implied-by-state (table s) _ ran (afresh.ensures.outcome ∙ ap (run s.args.variables) (c.before.before.before.before.before.before.before.before.before.before.before.before.before.atoms-in.ensures.1 (table s) l h)) _ c.before.before.before.before.before.before.before.before.before.if1.false
 
-pub implies-spec : {M : Type 1} → statement M
-implies-spec =
+pub implies_spec : {M : Type 1} → statement M
+implies_spec =
     tie.close
     (tie.spec (λ c. search rules) atoms-in-requires (λ c κs. search rules) afresh-requires returns (λ c. search rules) sign-table-requires (λ c. search rules)
     (λ c κs. search rules) (λ c κs. search rules) says-inside-requires returns-2)

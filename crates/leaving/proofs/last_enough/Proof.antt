@@ -41,8 +41,8 @@ down c =
           (sym (c.before.enough.ensures v.asks.before v.asks.tokens v.asks.kept_lists v.asks.lists) ∙ c.if1.false),
     )
 
-pub last-enough-spec : {M : Type 1} → statement M
-last-enough-spec =
+pub last_enough_spec : {M : Type 1} → statement M
+last_enough_spec =
     tie.close
     (tie.spec invariant-loop decreases-loop (λ c. let a = c.before.before.before.requires.1.asks in omega (arith, a.lists.size, a.short))
     (λ c. (omega arith, search-start _ _ c.before.before.before.requires.1 _ refl))

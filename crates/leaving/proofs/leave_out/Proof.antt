@@ -25,8 +25,8 @@ again c =
     let v = c.before.before.before.loop.invariant in
     leaving-next _ _ v (c.before.last-enough.ensures v.before v.tokens v.kept_lists v.lists) (c.with-one.ensures v.before v.tokens v.kept_lists v.lists)
 
-pub leave-out-spec : {M : Type 1} → statement M
-leave-out-spec =
+pub leave_out_spec : {M : Type 1} → statement M
+leave_out_spec =
     tie.close
     (tie.spec invariant-loop decreases-loop (λ c κs. tt) (λ c. leaving-start _ _ c.before.before.before.requires.1 c.empty.ensures.1) last-enough-requires
     (λ c κs. let v = c.before.before.loop.invariant in (omega (arith, v.kept_lists.size, v.short, v.few), omega (arith, v.lists.size, v.few)))

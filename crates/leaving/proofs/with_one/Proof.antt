@@ -11,5 +11,5 @@ returns c k l hk hl = one-more k l _ hl (omega (arith, hl.size, c.before.before.
 returns-2 : tie.Need-returns-2
 returns-2 c k l hk hl = no_more k l c.if1.false hl.size hk
 
-pub with-one-spec : {M : Type 1} → statement M
-with-one-spec = tie.close (tie.spec (λ c. search rules) (λ c. search rules) (λ c κs. search rules) returns returns-2)
+pub with_one_spec : {M : Type 1} → statement M
+with_one_spec = tie.close (tie.spec (λ c. search rules) (λ c. search rules) (λ c κs. search rules) returns returns-2)

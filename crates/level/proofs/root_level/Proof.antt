@@ -38,8 +38,8 @@ or-rule-requires c κs = let pre = c.before.before.before.before.before.requires
 or-root : tie.Need-returns-3
 or-root c tree h = let n = held-or tree h c.before.before.before.if1.false c.before.before.if2.false in root-done n _ (c.before.or-rule.ensures n.kids n.rest n.holds)
 
-pub root-level-spec : {M : Type 1} → statement M
-root-level-spec =
+pub root_level_spec : {M : Type 1} → statement M
+root_level_spec =
     tie.close
     (tie.spec (λ c κs. search rules) (λ c. root-there c.before.before.before.before.before.before.requires.1.0 c.before.before.before.before.before.before.requires.1.1) (λ c κs. search rules) (λ c κs. search rules) finish-requires atom and-rule-requires and-root
     or-rule-requires or-root)

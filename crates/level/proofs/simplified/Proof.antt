@@ -10,5 +10,5 @@ tree-of-requires c κs = let pre = c.before.before.before.before.before.requires
 returns : tie.Need-returns
 returns c tree h = let made = c.before.before.root-level.ensures tree h in whole_is _ h refl (c.tree_of.ensures _ _ made.shows) made.counts
 
-pub simplified-spec : {M : Type 1} → statement M
-simplified-spec = tie.close (tie.spec (λ c κs. search rules) tree-of-requires returns)
+pub simplified_spec : {M : Type 1} → statement M
+simplified_spec = tie.close (tie.spec (λ c κs. search rules) tree-of-requires returns)

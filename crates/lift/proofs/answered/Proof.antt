@@ -50,8 +50,8 @@ returns-2 c =
     let told = answering.answer-to.ensures a.input.now accepted in
     (told.0, (places-accepted a.input.now (length a.output.now) (start reading).requires.0 a.places.now accepted.accepted told.1.0, told.1.1))
 
-pub answered-spec : {M : Type 1} → statement M
-answered-spec =
+pub answered_spec : {M : Type 1} → statement M
+answered_spec =
     tie.close
     (tie.spec (λ c. search rules) (λ c. search rules) (λ c. search rules) (λ c. search rules) read-into-requires (λ c. search rules) (λ c. search rules)
     (λ c. search rules) (λ c. search rules) (λ c. search rules) (λ c. search rules) (λ c. search rules) answer-to-requires returns (λ c. search rules) (λ c. search rules) returns-2)

@@ -36,8 +36,8 @@ returns-2 c =
     let told = c.before.before.before.before.before.before in
     reports-answer told.before.before.before.before.simplify-by.ensures.0 told.answer2.given.1 c.before.before.tell-answer.ensures
 
-pub report-by-spec : {M : Type 1} → statement M
-report-by-spec =
+pub report_by_spec : {M : Type 1} → statement M
+report_by_spec =
     tie.close
     (tie.spec (λ c κs. search rules) (λ c. search rules) (λ c κs. search rules) (λ c. search rules) inside lends-block small (λ c. search rules)
     (λ c. search rules) returns (λ c. search rules) (λ c. search rules) returns-2)

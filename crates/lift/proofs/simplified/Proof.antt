@@ -23,5 +23,5 @@ returns c =
     let first = part-first simplifying.simplify.ensures.0 filled.result filled.ensures in
     (first, refl, ap (λ (l : List ℕ). eqb (length l) 0) first ∙ empty-exactly-on-refusal (length a.output.now) a.input.now)
 
-pub simplified-spec : {M : Type 1} → statement M
-simplified-spec = tie.close (tie.spec (λ c κs. search rules) (λ c κs. search rules) slice-aggregate-result returns)
+pub simplified_spec : {M : Type 1} → statement M
+simplified_spec = tie.close (tie.spec (λ c κs. search rules) (λ c κs. search rules) slice-aggregate-result returns)

@@ -24,5 +24,5 @@ returns-2 c =
       never-longer-answer (length a.output.now) a.input.now,
     )
 
-pub simplify-by-spec : {M : Type 1} → statement M
-simplify-by-spec = tie.close (tie.spec returns (λ c. search rules) (λ c κs. search rules) (λ c. search rules) returns-2)
+pub simplify_by_spec : {M : Type 1} → statement M
+simplify_by_spec = tie.close (tie.spec returns (λ c. search rules) (λ c κs. search rules) (λ c. search rules) returns-2)

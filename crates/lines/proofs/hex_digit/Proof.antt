@@ -4,8 +4,8 @@ use Rattle.lines.proofs.Runs.{hex-below-ten, hex-from-ten}
 use Rattle.lines.proofs.hex_digit.Statement.{statement}
 use Rattle.lines.proofs.hex_digit.Tie as tie
 
-pub hex-digit-spec : {M : Type 1} → statement M
-hex-digit-spec =
+pub hex_digit_spec : {M : Type 1} → statement M
+hex_digit_spec =
     tie.close
     (tie.spec (λ c. search rules) (λ c. search rules) (λ c. hex-below-ten c.before.args.d c.if1.true)
     (λ c. hex-from-ten c.before.args.d c.if1.false))

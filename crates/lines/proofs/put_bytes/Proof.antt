@@ -27,8 +27,8 @@ returns c =
     let l = c.before.loop in
     wrote_as l.invariant.2 (first-whole c.before.before.args.bytes.now l.i (omega arith) l.invariant.0)
 
-pub put-bytes-spec : {M : Type 1} → statement M
-put-bytes-spec =
+pub put_bytes_spec : {M : Type 1} → statement M
+put_bytes_spec =
     tie.close
     (tie.spec invariant-loop decreases-loop loop-holds (λ c. omega arith) (λ c. omega arith) (λ c. omega arith) (λ c. omega arith) (λ c. omega arith) loop-again
     (λ c. omega arith) (λ c. omega arith) returns)

@@ -62,8 +62,8 @@ returns-three c =
     wrote_as (wrote-both first.put-digit4.ensures (wrote-both second.put-digit5.ensures third.put-digit6.ensures))
     (three-digits tested.before.before.before.args.n tested.if2.false)
 
-pub put-decimal-spec : {M : Type 1} → statement M
-put-decimal-spec =
+pub put_decimal_spec : {M : Type 1} → statement M
+put_decimal_spec =
     tie.close
     (tie.spec room-one (λ c. search rules) returns_one room-two room-two-2 (λ c. search rules) returns-two room-three room-three-2 room-three-3
     (λ c. search rules) returns-three)

@@ -27,8 +27,8 @@ returns-2 c =
     wrote_as (wrote-both pair.put-pair.ensures c.before.before.put_rest.ensures)
     (hex-whole tested.before.before.before.args.block.now tested.if1.false)
 
-pub put-hex-spec : {M : Type 1} → statement M
-put-hex-spec =
+pub put_hex_spec : {M : Type 1} → statement M
+put_hex_spec =
     tie.close
     (tie.spec returns (λ c. search rules) room-pair (λ c. search rules) (λ c. search rules) (λ c. search rules) room-rest
     (λ c. search rules) returns-2)

@@ -4,8 +4,8 @@ use Rattle.lines.specs.Written.{wrote-both}
 use Rattle.lines.proofs.put_number.Statement.{statement}
 use Rattle.lines.proofs.put_number.Tie as tie
 
-pub put-number-spec : {M : Type 1} → statement M
-put-number-spec =
+pub put_number_spec : {M : Type 1} → statement M
+put_number_spec =
     tie.close
     (tie.spec (λ c κs. search rules) (λ c κs. search rules) (λ c. search rules)
     (λ c. wrote-both c.before.before.before.before.before.before.put_byte.ensures c.before.before.put-decimal.ensures))

@@ -16,7 +16,7 @@ returns c =
     wrote_as (wrote-both first.put_byte.ensures c.before.before.put-byte2.ensures)
     (ap₂ (λ (d e : ℕ). d ∷ e ∷ []) first.before.hex-digit.ensures second.hex-digit2.ensures)
 
-pub put-pair-spec : {M : Type 1} → statement M
-put-pair-spec =
+pub put_pair_spec : {M : Type 1} → statement M
+put_pair_spec =
     tie.close
     (tie.spec (λ c κs. search rules) (λ c κs. search rules) (λ c κs. search rules) (λ c κs. search rules) (λ c. search rules) returns)

@@ -45,8 +45,8 @@ returns c =
     let l = c.before.loop in
     wrote_as l.invariant.3 (ap hex_rest (first-whole c.before.before.before.before.args.block.now l.i (omega arith) l.invariant.0))
 
-pub put-rest-spec : {M : Type 1} → statement M
-put-rest-spec =
+pub put_rest_spec : {M : Type 1} → statement M
+put_rest_spec =
     tie.close
     (tie.spec invariant-loop decreases-loop loop-holds (λ c. omega arith) (λ c. omega arith) room-space room-pair (λ c. omega arith) loop-again
     (λ c. c.before.loop.invariant.2) returns)

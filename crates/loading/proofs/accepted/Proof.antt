@@ -20,8 +20,8 @@ returns-2 c =
     let reading = c.before.before.before.before.before.before in
     found-accepted reading.read-into.ensures c.enum_told.given.1
 
-pub accepted-spec : {M : Type 1} → statement M
-accepted-spec =
+pub accepted_spec : {M : Type 1} → statement M
+accepted_spec =
     tie.close
     (tie.spec (λ c. search rules) (λ c. search rules) (λ c. search rules) (λ c. search rules) read-into-requires (λ c. search rules)
     (λ c. search rules) returns returns-2)

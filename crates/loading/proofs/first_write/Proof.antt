@@ -14,5 +14,5 @@ returns-2 c = let a = c.before.before.before.args in first-left-out a.area.now c
 returns-3 : tie.Need-returns-3
 returns-3 c = let a = c.before.before.before.args in first_made a.area.now (λ full. omega (arith, full, c.if2.false))
 
-pub first-write-spec : {M : Type 1} → statement M
-first-write-spec = tie.close (tie.spec returns (λ c. search rules) returns-2 returns-3)
+pub first_write_spec : {M : Type 1} → statement M
+first_write_spec = tie.close (tie.spec returns (λ c. search rules) returns-2 returns-3)

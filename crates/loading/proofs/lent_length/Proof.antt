@@ -46,8 +46,8 @@ mul-said c = omega (arith, c.wide.ensures.1)
 add-said : tie.Need-overflow-add-said
 add-said c = omega (arith, c.before.before.wide.ensures.1, c.wide2.ensures.1)
 
-pub lent-length-spec : {M : Type 1} → statement M
-lent-length-spec =
+pub lent_length_spec : {M : Type 1} → statement M
+lent_length_spec =
     tie.close
     (tie.spec
     returns

@@ -25,5 +25,5 @@ returns-4 c =
     place-from a.size a.k (λ first. omega (arith, first, c.before.before.if1.false)) (λ last. omega (arith, last, c.before.if2.false))
     (omega (arith, c.if3.false))
 
-pub place-spec : {M : Type 1} → statement M
-place-spec = tie.close (tie.spec returns returns-2 (λ c. search rules) returns-3 returns-4)
+pub place_spec : {M : Type 1} → statement M
+place_spec = tie.close (tie.spec returns returns-2 (λ c. search rules) returns-3 returns-4)

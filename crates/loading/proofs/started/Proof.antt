@@ -29,5 +29,5 @@ returns c =
     let first : take filled.result a.area.now ≡ started_part (start_of a.area.now) = rw is (part-first a.area.now) in
     (first, refl, ap (λ (l : List ℕ). eqb (length l) 0) first ∙ empty-exactly-on-refusal a.area.now)
 
-pub started-spec : {M : Type 1} → statement M
-started-spec = tie.close (tie.spec (λ c κs. search rules) (λ c κs. search rules) slice-aggregate-result returns)
+pub started_spec : {M : Type 1} → statement M
+started_spec = tie.close (tie.spec (λ c κs. search rules) (λ c κs. search rules) slice-aggregate-result returns)

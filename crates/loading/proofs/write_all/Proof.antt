@@ -56,8 +56,8 @@ returns c =
     (image-all a.block.now a.area.now looping.loop.area looping.loop.k looping.loop.invariant.0
     (omega (arith, looping.loop.invariant.1, walking.before.before.loop-test)))
 
-pub write-all-spec : {M : Type 1} → statement M
-write-all-spec =
+pub write_all_spec : {M : Type 1} → statement M
+write_all_spec =
     tie.close
     (tie.spec invariant-loop decreases-loop (λ c κs. search rules) loop-holds (λ c κs. search rules) add-k loop-less loop-again
     (λ c κs. search rules) same_length returns)

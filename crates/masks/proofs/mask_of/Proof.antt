@@ -19,8 +19,8 @@ loop-again : tie.Need-loop-preserved invariant-loop decreases-loop
 loop-again c = walk c.before.before.before.before.before.before.loop.invariant (omega arith)
     (rw (to_z-of_z w32 _ (record { sfits = c.before.before.before.before.c.given })) at c.before.mask-of-term.ensures) c.joined.ensures
 
-pub mask-of-spec : {M : Type 1} → statement M
-mask-of-spec =
+pub mask_of_spec : {M : Type 1} → statement M
+mask_of_spec =
     tie.close
     (tie.spec invariant-loop decreases-loop (λ c. record { on = omega arith; negatives = λ signed. refl; positives = λ signed. refl }) (λ c. omega arith)
     (λ c. omega arith)

@@ -19,5 +19,5 @@ returns-3 c =
     let b = to_z-of_z w32 _ c.before.before.before.before.ranges.c in
     weighed-none (sign-neither _ (rw b at c.before.if1.false) (rw b at c.if2.false))
 
-pub mask-of-term-spec : {M : Type 1} → statement M
-mask-of-term-spec = tie.close (tie.spec (λ c κs. search rules) (λ c κs. search rules) returns returns-2 returns-3)
+pub mask_of_term_spec : {M : Type 1} → statement M
+mask_of_term_spec = tie.close (tie.spec (λ c κs. search rules) (λ c κs. search rules) returns returns-2 returns-3)

@@ -5,5 +5,5 @@ use borrow.Author.Rules.{rules}
 use Rattle.masks.proofs.power.Statement.{statement}
 use Rattle.masks.proofs.power.Tie as tie
 
-pub power-spec : {M : Type 1} → statement M
-power-spec = tie.close (tie.spec (λ c. search rules) (λ c. rw (one-mul, mod-eq_of_lt (pow-lt c.requires))))
+pub power_spec : {M : Type 1} → statement M
+power_spec = tie.close (tie.spec (λ c. search rules) (λ c. rw (one-mul, mod-eq_of_lt (pow-lt c.requires))))

@@ -9,5 +9,5 @@ returns : tie.Need-returns
 unfolding weight_of
 returns c = when-there (is_negative _ c.before.if1.true) c.power.ensures
 
-pub when-negative-spec : {M : Type 1} → statement M
-when-negative-spec = tie.close (tie.spec (λ c. search rules) (λ c κs. search rules) returns (λ c. when-absent _ (not_negative _ c.if1.false)))
+pub when_negative_spec : {M : Type 1} → statement M
+when_negative_spec = tie.close (tie.spec (λ c. search rules) (λ c κs. search rules) returns (λ c. when-absent _ (not_negative _ c.if1.false)))

@@ -9,5 +9,5 @@ returns : tie.Need-returns
 unfolding weight_of
 returns c = when-there (is_positive _ c.before.if1.true) c.power.ensures
 
-pub when-positive-spec : {M : Type 1} → statement M
-when-positive-spec = tie.close (tie.spec (λ c κs. search rules) returns (λ c. when-absent _ (not-positive _ c.if1.false)))
+pub when_positive_spec : {M : Type 1} → statement M
+when_positive_spec = tie.close (tie.spec (λ c κs. search rules) returns (λ c. when-absent _ (not-positive _ c.if1.false)))

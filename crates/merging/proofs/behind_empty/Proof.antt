@@ -61,8 +61,8 @@ returns c l h =
     let s = loop.invariant.1 l h in
     record { most = omega (arith, s.most, h.size); filled = λ j k m. s.filled j k (omega (arith, h.size)); last = s.last }
 
-pub behind-empty-spec : {M : Type 1} → statement M
-behind-empty-spec =
+pub behind_empty_spec : {M : Type 1} → statement M
+behind_empty_spec =
     tie.close
     (tie.spec invariant-loop decreases-loop
     (λ c. (omega arith, λ l h. record { most = omega arith; filled = λ j k m z. absurd (omega arith); last = λ k e. absurd (omega arith) }))

@@ -21,8 +21,8 @@ is_false c = (
   λ l h. join-false _ c.before.before.before.before.if-constant.ensures c.before.before.enum-told3.given.1 _ c.before.with-set.ensures (c.push.ensures.1 l h),
 )
 
-pub join-spec : {M : Type 1} → statement M
-join-spec =
+pub join_spec : {M : Type 1} → statement M
+join_spec =
     tie.close
     (tie.spec (λ c κs. search rules) (λ c. search rules) (λ c κs. search rules) (λ c. search rules) (λ c. search rules) (λ c κs. search rules)
     (λ c κs. search rules) is-open is_true is_false)

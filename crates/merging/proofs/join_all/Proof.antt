@@ -29,8 +29,8 @@ again c =
       ),
     )
 
-pub join-all-spec : {M : Type 1} → statement M
-join-all-spec =
+pub join_all_spec : {M : Type 1} → statement M
+join_all_spec =
     tie.close
     (tie.spec invariant-loop decreases-loop (λ c κs. tt) (λ c. (omega arith, (omega (arith, c.empty.ensures.0), λ l h. joining-start _ l _ c.empty.ensures.1)))
     (λ c. omega arith) (λ c. omega arith) (λ c. omega arith) (λ c κs. (c.before.before.before.before.before.before.requires.0, omega (arith, c.before.before.loop.invariant.1.0))) (λ c. omega arith) again

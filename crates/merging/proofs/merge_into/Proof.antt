@@ -41,8 +41,8 @@ pushed c = (
       into-end (c.before.before.loop.invariant.1 t l forms h) (omega (arith, h.size, c.before.loop-test.false)) _ (c.push.ensures.1 l h),
 )
 
-pub merge-into-spec : {M : Type 1} → statement M
-merge-into-spec =
+pub merge_into_spec : {M : Type 1} → statement M
+merge_into_spec =
     tie.close
     (tie.spec invariant-loop decreases-loop (λ c κs. tt) (λ c. (omega arith, λ t l forms h. into-start t _ l)) (λ c. omega arith) (λ c. omega arith) (λ c κs. tt) (λ c κs. tt)
     (λ c κs. tt) (λ c κs. tt) (λ c κs. tt) (λ c. omega arith) (λ c. omega arith) found (λ c. omega arith) (λ c. omega arith) again (λ c κs. omega arith) pushed)

@@ -41,8 +41,8 @@ is-full c =
       ),
     )
 
-pub not-full-spec : {M : Type 1} → statement M
-not-full-spec =
+pub not_full_spec : {M : Type 1} → statement M
+not_full_spec =
     tie.close
     (tie.spec invariant-loop decreases-loop (λ c κs. tt) (λ c. (omega arith, (omega (arith, c.empty.ensures.0), λ t l h. keep-start t l _ c.empty.ensures.1)))
     (λ c. omega arith) (λ c. omega arith) (λ c. omega arith) (λ c κs. tt) (λ c κs. omega (arith, c.before.before.before.before.before.before.loop.invariant.1.0))

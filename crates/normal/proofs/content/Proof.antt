@@ -52,8 +52,8 @@ returns-2 : tie.Need-returns-2 invariant-loop decreases-loop
 unfolding content
 returns-2 c = or-one-some c.before.before.loop.common c.if1.false ∙ ap or_one (found c.before)
 
-pub content-spec : {M : Type 1} → statement M
-content-spec =
+pub content_spec : {M : Type 1} → statement M
+content_spec =
     tie.close
     (tie.spec invariant-loop decreases-loop (λ c. (omega arith, refl)) (λ c. omega arith) (λ c. omega arith) (λ c. omega arith) magnitude-requires (λ c κs. search rules)
     (λ c. omega arith) loop-again returns returns-2)

@@ -40,8 +40,8 @@ returns c =
     let a = c.before.before.args in
     sym (stores-end (pos 0) (λ i. i) (λ i y. quot_z (get_or a.coefficient.now i (pos 0)) (pos a.by)) l.target l.i a.to (omega arith)) ∙ l.invariant.1
 
-pub divide-spec : {M : Type 1} → statement M
-divide-spec =
+pub divide_spec : {M : Type 1} → statement M
+divide_spec =
     tie.close
     (tie.spec invariant-loop decreases-loop (λ c. record { sfits = omega arith }) (λ c. (refl, refl)) (λ c. omega arith) (λ c. omega arith) div-target (λ c. omega arith)
     (λ c. omega arith) (λ c. omega arith) (λ c. omega arith) loop-again (λ c. c.before.loop.invariant.0) returns)

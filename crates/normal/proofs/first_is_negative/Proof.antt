@@ -13,7 +13,7 @@ returns c =
     let a = c.before.before.args in
     rw (read_back (get_or a.coefficient.now a.from (pos 0)) c.c.given) (first_some a.coefficient.now a.from a.to (omega arith))
 
-pub first-is-negative-spec : {M : Type 1} → statement M
-first-is-negative-spec =
+pub first_is_negative_spec : {M : Type 1} → statement M
+first_is_negative_spec =
     tie.close (tie.spec (λ c. search rules) (λ c. search rules) returns
     (λ c. let a = c.before.args in first-none a.coefficient.now a.from a.to (omega arith)))

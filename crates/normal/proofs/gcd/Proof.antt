@@ -13,8 +13,8 @@ invariant-loop first second a₀ b₀ a b = gcd a b ≡ gcd first second
 abbrev decreases-loop : tie.decreases-loop
 decreases-loop first second a₀ b₀ a b = b
 
-pub gcd-spec : {M : Type 1} → statement M
-gcd-spec =
+pub gcd_spec : {M : Type 1} → statement M
+gcd_spec =
     tie.close
     (tie.spec invariant-loop decreases-loop (λ c. refl) (λ c. omega arith) (λ c. mod-lt c.before.loop.a (omega arith))
     (λ c. gcd-step c.before.loop.a c.before.loop.b c.loop-test.true ∙ c.before.loop.invariant)

@@ -19,8 +19,8 @@ cast-result-2 c =
     let b = bounded-back z c.before.requires in
     rw b (left-whole z (rw b at c.if1.false), record { fits = omega arith })
 
-pub magnitude-spec : {M : Type 1} → statement M
-magnitude-spec =
+pub magnitude_spec : {M : Type 1} → statement M
+magnitude_spec =
     tie.close
     (tie.spec (λ c. minus-fits c.before.args.c c.before.requires) cast-result
     (λ c. ap nat_abs (minus-back c.before.args.c c.before.requires) ∙ magnitude-negated c.before.args.c) cast-result-2

@@ -38,8 +38,8 @@ returns c =
     let l = c.before.loop in
     sym (stores-end (pos 0) (λ i. i) (λ i y. neg_ℤ y) l.coefficient l.i c.before.before.args.to (omega arith)) ∙ l.invariant.3
 
-pub negate-spec : {M : Type 1} → statement M
-negate-spec =
+pub negate_spec : {M : Type 1} → statement M
+negate_spec =
     tie.close
     (tie.spec invariant-loop decreases-loop (λ c. (omega arith, refl, c.requires, refl)) (λ c. omega arith) (λ c. omega arith)
     (λ c. minus-fits (get_or c.before.before.loop.coefficient c.before.before.loop.i (pos 0)) (small c)) (λ c. omega arith) (λ c. omega arith)

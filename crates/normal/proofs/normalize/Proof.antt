@@ -59,7 +59,7 @@ returns-2 : tie.Need-returns-2
 unfolding normal_run turned_run
 returns-2 c = let turns = sym c.if1.false ∙ test c.before in (turns, rw (← turns) (divided-is c.before))
 
-pub normalize-spec : {M : Type 1} → statement M
-normalize-spec =
+pub normalize_spec : {M : Type 1} → statement M
+normalize_spec =
     tie.close
     (tie.spec (λ c κs. search rules) divide-requires (λ c κs. search rules) negate-requires (λ c. search rules) returns (λ c. search rules) returns-2)

@@ -13,5 +13,5 @@ returns c =
     let a = c.args in
     shl_exact 4 (4 * a.followers) 64 c.requires.0 (omega arith) ∙ ap (λ (k : ℕ). a.exponent * k) (four-bits-each a.followers)
 
-pub placed-spec : {M : Type 1} → statement M
-placed-spec = tie.close (tie.spec (λ c. search rules) (λ c. search rules) returns)
+pub placed_spec : {M : Type 1} → statement M
+placed_spec = tie.close (tie.spec (λ c. search rules) (λ c. search rules) returns)

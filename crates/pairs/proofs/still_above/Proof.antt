@@ -3,5 +3,5 @@ use borrow.Author.Rules.{rules}
 use Rattle.pairs.proofs.still_above.Statement.{statement}
 use Rattle.pairs.proofs.still_above.Tie as tie
 
-pub still-above-spec : {M : Type 1} → statement M
-still-above-spec = tie.close (tie.spec (λ c. rw c.if1.true) (λ c. search rules))
+pub still_above_spec : {M : Type 1} → statement M
+still_above_spec = tie.close (tie.spec (λ c. rw c.if1.true) (λ c. search rules))

@@ -42,8 +42,8 @@ loop-again c =
     pairs-go-on turn.before.before.before.requires.0 turn.before.loop.invariant turn.loop-test.true read.get.ensures below.before.if1.false
     below.if2.false c.placed.ensures c.before.still-above.ensures
 
-pub tell-spec : {M : Type 1} → statement M
-tell-spec =
+pub tell_spec : {M : Type 1} → statement M
+tell_spec =
     tie.close
     (tie.spec invariant-loop decreases-loop (λ c. let a = c.before.args in pairs-begin a.n a.src.now a.at a.count)
     (λ c. let s = c.before.before.before in omega (arith, s.requires.0.at_most, s.requires.0.short))

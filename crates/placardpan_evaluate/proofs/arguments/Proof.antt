@@ -12,8 +12,8 @@ invariant-loop word₀ numbers₀ line₀ count i₀ word numbers line i = (leng
 abbrev decreases-loop : tie.decreases-loop
 decreases-loop word₀ numbers₀ line₀ count i₀ word numbers line i = count - i
 
-pub arguments-spec : {M : Type 1} → statement M
-arguments-spec =
+pub arguments_spec : {M : Type 1} → statement M
+arguments_spec =
     tie.close
     (tie.spec invariant-loop decreases-loop (λ c κs. tt) (λ c κs. tt) (λ c. (refl, refl)) (λ c κs. tt) (λ c. omega arith) (λ c. omega arith)
     (λ c. let loop = c.before.before.before.before.before.before.before.loop in

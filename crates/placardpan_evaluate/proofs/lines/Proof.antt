@@ -12,7 +12,7 @@ invariant-loop block bytes numbers₀ next₀ i₀ numbers next i = length numbe
 abbrev decreases-loop : tie.decreases-loop
 decreases-loop block bytes numbers₀ next₀ i₀ numbers next i = length bytes - i
 
-pub lines-spec : {M : Type 1} → statement M
-lines-spec =
+pub lines_spec : {M : Type 1} → statement M
+lines_spec =
     tie.close (tie.spec invariant-loop decreases-loop (λ c. refl) (λ c. omega arith) (λ c κs. tt) (λ c. omega arith) (λ c. omega arith) (λ c. c.before.heard.auto.1.1.1.0 ∙ c.before.before.before.before.before.loop.invariant)
     (λ c. c.before.loop.invariant) (λ c. tt))

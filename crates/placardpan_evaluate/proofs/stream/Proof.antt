@@ -11,8 +11,8 @@ invariant-loop block bytes₀ numbers₀ line₀ turns₀ more₀ bytes numbers 
 abbrev decreases-loop : tie.decreases-loop
 decreases-loop block bytes₀ numbers₀ line₀ turns₀ more₀ bytes numbers line turns more = turns
 
-pub stream-spec : {M : Type 1} → statement M
-stream-spec =
+pub stream_spec : {M : Type 1} → statement M
+stream_spec =
     tie.close
     (tie.spec invariant-loop decreases-loop (λ c κs. tt) (λ c. (refl, refl)) (λ c. omega arith) (λ c κs. tt) (λ c. omega arith)
     (λ c. let loop = c.before.before.before.before.before.before.before.before.before.loop in

@@ -11,8 +11,8 @@ slice-aggregate-number-of c =
     let d = c.before.before.before.before.before in
     sym (length-take-le d.digits-end.result s.args.line.now d.digits-end.ensures)
 
-pub add-named-spec : {M : Type 1} → statement M
-add-named-spec =
+pub add_named_spec : {M : Type 1} → statement M
+add_named_spec =
     tie.close
     (tie.spec (λ c κs. search rules) (λ c. search rules) slice-aggregate-number-of (λ c κs. search rules) (λ c. search rules) (λ c. search rules)
     (λ c. search rules) (λ c. search rules) (λ c κs. search rules) (λ c. search rules) (λ c. search rules) (λ c κs. search rules) (λ c. search rules))

@@ -11,8 +11,8 @@ invariant-loop line word i₀ i = length word ≤ length line
 abbrev decreases-loop : tie.decreases-loop
 decreases-loop line word i₀ i = length word - i
 
-pub begins-spec : {M : Type 1} → statement M
-begins-spec =
+pub begins_spec : {M : Type 1} → statement M
+begins_spec =
     tie.close
     (tie.spec invariant-loop decreases-loop (λ c. tt) (λ c. search rules) (λ c. search rules) (λ c. search rules) (λ c. search rules) (λ c. tt) (λ c. search rules)
     (λ c. search rules) (λ c. tt))

@@ -11,8 +11,8 @@ invariant-loop line i₀ i = i ≤ length line
 abbrev decreases-loop : tie.decreases-loop
 decreases-loop line i₀ i = length line - i
 
-pub digits-end-spec : {M : Type 1} → statement M
-digits-end-spec =
+pub digits_end_spec : {M : Type 1} → statement M
+digits_end_spec =
     tie.close
     (tie.spec invariant-loop decreases-loop (λ c. search rules) (λ c. search rules) (λ c κs. tt) (λ c. search rules) (λ c. search rules) (λ c. search rules)
     (λ c. search rules) (λ c. search rules))

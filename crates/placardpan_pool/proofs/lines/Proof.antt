@@ -13,8 +13,8 @@ invariant-loop words₀ bytes text₀ next₀ i₀ words text next i = (length w
 abbrev decreases-loop : tie.decreases-loop
 decreases-loop words₀ bytes text₀ next₀ i₀ words text next i = length bytes - i
 
-pub lines-spec : {M : Type 1} → statement M
-lines-spec =
+pub lines_spec : {M : Type 1} → statement M
+lines_spec =
     tie.close
     (tie.spec invariant-loop decreases-loop (λ c. (refl, refl)) (λ c. omega arith) (λ c κs. tt) (λ c. omega arith) (λ c. omega arith)
     (λ c. let loop = c.before.before.before.before.before.before.before.before.before.loop in

@@ -11,6 +11,6 @@ invariant-loop digits number₀ i₀ number i = Unit {0}
 abbrev decreases-loop : tie.decreases-loop
 decreases-loop digits number₀ i₀ number i = length digits - i
 
-pub number-of-spec : {M : Type 1} → statement M
-number-of-spec =
+pub number_of_spec : {M : Type 1} → statement M
+number_of_spec =
     tie.close (tie.spec invariant-loop decreases-loop (λ c. tt) (λ c. search rules) (λ c κs. tt) (λ c. search rules) (λ c. search rules) (λ c. tt) (λ c. tt))

@@ -10,7 +10,7 @@ slice-aggregate-call c =
     let s = c.before.before.before.before.before.before.before in
     sym (length-take-le s.args.line.length s.args.text.now c.before.before.if2.true)
 
-pub over-spec : {M : Type 1} → statement M
-over-spec =
+pub over_spec : {M : Type 1} → statement M
+over_spec =
     tie.close
     (tie.spec slice-aggregate-call (λ c κs. search rules) (λ c. search rules) (λ c. search rules) (λ c κs. search rules) (λ c. search rules))

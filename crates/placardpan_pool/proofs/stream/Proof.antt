@@ -18,8 +18,8 @@ loop-again c =
     let lines = c.before.before.before.before.before.before.before.some-lines in
     (lines.auto.0 ∙ loop.invariant.0, lines.auto.1.0 ∙ loop.invariant.1, lines.auto.1.1.1.0 ∙ loop.invariant.2)
 
-pub stream-spec : {M : Type 1} → statement M
-stream-spec =
+pub stream_spec : {M : Type 1} → statement M
+stream_spec =
     tie.close
     (tie.spec invariant-loop decreases-loop (λ c κs. tt) (λ c. (refl, refl, refl)) (λ c. omega arith) (λ c κs. tt) (λ c. omega arith) loop-again (λ c κs. tt)
     (λ c. c.before.before.before.before.heard.auto.0 ∙ c.before.before.before.before.before.before.before.before.before.loop.invariant.0)

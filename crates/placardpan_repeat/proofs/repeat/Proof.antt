@@ -18,8 +18,8 @@ loop-again c = c.before.before.call.auto.1.0 ∙ c.before.before.before.before.b
 same_length : tie.Need-same-length invariant-loop decreases-loop
 same_length c = c.before.before.before.before.print-asked.auto.1.0 ∙ c.before.before.before.before.before.before.before.before.loop.invariant
 
-pub repeat-spec : {M : Type 1} → statement M
-repeat-spec =
+pub repeat_spec : {M : Type 1} → statement M
+repeat_spec =
     tie.close
     (tie.spec invariant-loop decreases-loop (λ c. refl) (λ c κs. search rules) (λ c. omega arith) (λ c. omega arith) loop-again (λ c κs. search rules)
     same_length (λ c. search rules) (λ c. tt))

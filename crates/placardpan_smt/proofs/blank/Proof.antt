@@ -5,5 +5,5 @@ use lib.ListN.{length-replicate}
 use Rattle.placardpan_smt.proofs.blank.Statement.{statement}
 use Rattle.placardpan_smt.proofs.blank.Tie as tie
 
-pub blank-spec : {M : Type 1} → statement M
-blank-spec = tie.close (tie.spec (λ c. sym (length-replicate {A = ℕ} 2024783 0)))
+pub blank_spec : {M : Type 1} → statement M
+blank_spec = tie.close (tie.spec (λ c. sym (length-replicate {A = ℕ} 2024783 0)))

@@ -6,8 +6,8 @@ use borrow.Author.Rules.{rules}
 use Rattle.placardpan_smt.proofs.print_first.Statement.{statement}
 use Rattle.placardpan_smt.proofs.print_first.Tie as tie
 
-pub print-first-spec : {M : Type 1} → statement M
-print-first-spec =
+pub print_first_spec : {M : Type 1} → statement M
+print_first_spec =
     tie.close
     (tie.spec (λ c. sym (length-take-le c.before.before.before.args.length c.before.before.before.args.text.now (omega arith)))
     (λ c κs. search rules) (λ c. search rules) (λ c. search rules))

@@ -30,8 +30,8 @@ returns c =
     let all : l.at ≡ a.count = omega (arith, l.invariant.0, c.loop-test.false) in
     l.invariant.1.is ∙ ap (λ (k : ℕ). places_over (take k a.token.now) a.places.now) all
 
-pub tell-spec : {M : Type 1} → statement M
-tell-spec =
+pub tell_spec : {M : Type 1} → statement M
+tell_spec =
     tie.close
     (tie.spec invariant-loop decreases-loop (λ c. (omega arith, telling-first _ _)) (λ c. omega arith) (λ c. omega arith) (λ c. omega arith) (λ c. omega arith)
     (λ c. omega (arith, c.before.before.before.loop.invariant.1.small, c.before.before.before.loop.invariant.1.same))

@@ -28,8 +28,8 @@ returns-4 c =
     let first = c.before.before.before.before.before.before in
     record { on = λ s t h. c.finding.ensures ∙ ap finding_from (c.before.seen.ensures.on s t) ∙ finding-met _ _ ∙ deduced _ _ _ _ first.if1.false h }
 
-pub deduce-from-spec : {M : Type 1} → statement M
-deduce-from-spec =
+pub deduce_from_spec : {M : Type 1} → statement M
+deduce_from_spec =
     tie.close
     (tie.spec returns (λ c κs. search rules) (λ c κs. search rules) (λ c. search rules) (λ c κs. search rules) (λ c κs. search rules) (λ c. search rules) seen-requires
     (λ c κs. search rules) returns-4)

@@ -39,8 +39,8 @@ returns-3 c =
     s.requires.0 (sym c.before.before.before.before.before.before.before.before.before.before.before.before.before.before.before.before.before.before.before.before.before.is_open.ensures ∙ not-false _ c.before.before.before.before.before.before.before.before.before.before.before.before.before.before.before.before.before.before.before.before.if1.false) (sym c.before.before.before.before.before.before.before.before.before.before.before.before.before.before.before.before.before.before.allows.ensures ∙ not-false _ c.before.before.before.before.before.before.before.before.before.before.before.before.before.before.before.before.before.if2.false)
     c.before.before.before.before.before.before.before.before.before.before.before.before.forms-of.ensures c.before.before.fill.ensures
 
-pub add-read-spec : {M : Type 1} → statement M
-add-read-spec =
+pub add_read_spec : {M : Type 1} → statement M
+add_read_spec =
     tie.close
     (tie.spec (λ c. search rules) (λ c κs. search rules) returns (λ c. search rules) (λ c κs. search rules) returns-2 (λ c. search rules) (λ c. search rules) (λ c. search rules) (λ c. search rules) forms-of-requires (λ c. search rules) (λ c. search rules)
     (λ c. search rules) (λ c. search rules) fill-requires (λ c. search rules) returns-3)

@@ -18,5 +18,5 @@ returns-2 c =
     let a = c.before.args in
     sym (ap (λ (b : Bool). b || eqb a.n a.variables) (sym (no-mark a.present) ∙ ne_eqb (a.present % 4294967296) 0 c.if1.false))
 
-pub allows-spec : {M : Type 1} → statement M
-allows-spec = tie.close (tie.spec returns returns-2)
+pub allows_spec : {M : Type 1} → statement M
+allows_spec = tie.close (tie.spec returns returns-2)

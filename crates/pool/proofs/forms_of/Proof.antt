@@ -29,8 +29,8 @@ returns c =
     holds-forms a.coefficient.now a.monomial.now a.terms.now a.polynomials a.variables s.requires.0.polynomials _
     c.before.before.before.before.before.before.before.before.before.before.before.before.before.before.work.ensures _ _ (c.before.before.listed.auto.1.1.1.1.0 ∙ s.requires.1.slots) c.before.before.listed.ensures
 
-pub forms-of-spec : {M : Type 1} → statement M
-forms-of-spec =
+pub forms_of_spec : {M : Type 1} → statement M
+forms_of_spec =
     tie.close
     (tie.spec (λ c. search rules) (λ c. search rules) work-requires (λ c. search rules) listed-requires (λ c. search rules) (λ c. search rules)
     (λ c. search rules) (λ c. search rules) returns)

@@ -18,5 +18,5 @@ returns-2 c =
     let a = c.before.args in
     sym (ap (λ (b : Bool). b && get_or (marks 32 a.present) a.number false) (le-ltb a.number 32 c.if1.false))
 
-pub is-there-spec : {M : Type 1} → statement M
-is-there-spec = tie.close (tie.spec (λ c κs. search rules) returns returns-2)
+pub is_there_spec : {M : Type 1} → statement M
+is_there_spec = tie.close (tie.spec (λ c κs. search rules) returns returns-2)

@@ -76,8 +76,8 @@ returns c =
     sym (ap (all_listed a.number l.pool) (forms-end a.coefficient.now a.monomial.now a.terms.now a.order.now a.count l.i (omega arith)))
     ∙ l.invariant.2
 
-pub list-forms-spec : {M : Type 1} → statement M
-list-forms-spec =
+pub list_forms_spec : {M : Type 1} → statement M
+list_forms_spec =
     tie.close
     (tie.spec invariant-loop decreases-loop loop-holds (λ c. omega (arith, c.before.before.before.before.before.before.before.requires.3.there)) (λ c κs. tt) (λ c. omega arith) shared-slice-read-wide-2 (λ c κs. tt)
     mul-list-form list-form-requires (λ c. omega arith) loop-again (λ c. c.before.loop.invariant.1) returns)

@@ -86,8 +86,8 @@ returns c =
     let none = ap (new_forms (forms_in_use (slots_of a.pool.now))) (forms-end a.coefficient.now a.monomial.now a.terms.now a.order.now a.count l.i (omega arith)) in
     (omega (arith, l.invariant.2, none), omega arith)
 
-pub new-forms-spec : {M : Type 1} → statement M
-new-forms-spec =
+pub new_forms_spec : {M : Type 1} → statement M
+new_forms_spec =
     tie.close
     (tie.spec invariant-loop decreases-loop loop-holds (λ c. omega (arith, c.before.before.before.before.before.before.before.requires.1.there)) (λ c κs. tt) (λ c. omega arith) shared-slice-read-wide-2 (λ c κs. tt) mul-find
     find-requires (λ c. omega arith) (λ c. omega arith) loop-again (λ c. omega arith) loop-again-2 returns)

@@ -32,8 +32,8 @@ returns c =
     let l = c.before.loop in
     sym (unlist-end c.before.before.before.args.number l.pool l.slot (omega arith)) ∙ l.invariant.2
 
-pub unlist-all-spec : {M : Type 1} → statement M
-unlist-all-spec =
+pub unlist_all_spec : {M : Type 1} → statement M
+unlist_all_spec =
     tie.close
     (tie.spec invariant-loop decreases-loop (λ c. (omega arith, refl, refl)) (λ c. omega arith) (λ c. omega arith) (λ c. omega arith)
     (λ c κs. let s = c.before.before.before.before in (omega (arith, c.before.before.loop.invariant.1, s.requires.0), s.requires.1))

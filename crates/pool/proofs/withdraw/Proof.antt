@@ -28,8 +28,8 @@ returns-3 c =
     gives_as (withdrawn-is a.number a.pool.now _ _ _ c.before.before.before.unlist-all.ensures c.before.before.before.before.before.with-mark.ensures c.kept.ensures)
     (withdraw-done a.number a.pool.now c.before.before.before.before.before.before.before.before.before.before.if1.false (sym c.before.before.before.before.before.before.before.before.is-there.ensures ∙ not-false _ c.before.before.before.before.before.before.before.if2.false))
 
-pub withdraw-spec : {M : Type 1} → statement M
-withdraw-spec =
+pub withdraw_spec : {M : Type 1} → statement M
+withdraw_spec =
     tie.close
     (tie.spec returns (λ c. search rules) (λ c κs. search rules) returns-2 (λ c. search rules) with-mark-requires unlist-all-requires (λ c. search rules) (λ c κs. search rules)
     (λ c. simp length-set (search rules)) (λ c. search rules) returns-3)

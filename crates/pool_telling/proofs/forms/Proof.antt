@@ -10,8 +10,8 @@ invariant-loop words total₀ slot₀ total slot = (slot ≤ 128) × (total ≤ 
 abbrev decreases-loop : tie.decreases-loop
 decreases-loop words total₀ slot₀ total slot = 128 - slot
 
-pub forms-spec : {M : Type 1} → statement M
-forms-spec =
+pub forms_spec : {M : Type 1} → statement M
+forms_spec =
     tie.close
     (tie.spec invariant-loop decreases-loop (λ c. search rules) (λ c. search rules) (λ c κs. search rules) (λ c. search rules) (λ c. search rules)
     (λ c. search rules) (λ c. search rules) (λ c. search rules) (λ c. search rules))

@@ -10,8 +10,8 @@ invariant-loop monomial variables left₀ t4 left = Unit {0}
 abbrev decreases-loop : tie.decreases-loop
 decreases-loop monomial variables left₀ t4 left = left
 
-pub print-exponents-spec : {M : Type 1} → statement M
-print-exponents-spec =
+pub print_exponents_spec : {M : Type 1} → statement M
+print_exponents_spec =
     tie.close
     (tie.spec invariant-loop decreases-loop (λ c. tt) (λ c. search rules) (λ c κs. search rules) (λ c κs. search rules) (λ c. search rules) (λ c κs. search rules)
     (λ c. search rules) (λ c. tt) (λ c. search rules) (λ c. tt) (λ c. tt))

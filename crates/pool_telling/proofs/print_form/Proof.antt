@@ -10,8 +10,8 @@ invariant-loop words slot variables count i₀ i = Unit {0}
 abbrev decreases-loop : tie.decreases-loop
 decreases-loop words slot variables count i₀ i = 16 - i
 
-pub print-form-spec : {M : Type 1} → statement M
-print-form-spec =
+pub print_form_spec : {M : Type 1} → statement M
+print_form_spec =
     tie.close
     (tie.spec invariant-loop decreases-loop (λ c κs. search rules) (λ c κs. search rules) (λ c κs. search rules) (λ c. tt) (λ c κs. search rules)
     (λ c. search rules) (λ c. search rules) (λ c. tt) (λ c. tt))

@@ -10,8 +10,8 @@ invariant-loop words slot₀ slot = Unit {0}
 abbrev decreases-loop : tie.decreases-loop
 decreases-loop words slot₀ slot = 128 - slot
 
-pub print-slots-spec : {M : Type 1} → statement M
-print-slots-spec =
+pub print_slots_spec : {M : Type 1} → statement M
+print_slots_spec =
     tie.close
     (tie.spec invariant-loop decreases-loop (λ c. tt) (λ c. search rules) (λ c κs. search rules) (λ c κs. search rules) (λ c. search rules) (λ c. tt)
     (λ c. search rules) (λ c. tt) (λ c. tt))

@@ -11,8 +11,8 @@ invariant-loop bytes length word i₀ i = Unit {0}
 abbrev decreases-loop : tie.decreases-loop
 decreases-loop bytes length word i₀ i = length - i
 
-pub begins-spec : {M : Type 1} → statement M
-begins-spec =
+pub begins_spec : {M : Type 1} → statement M
+begins_spec =
     tie.close
     (tie.spec invariant-loop decreases-loop (λ c. tt) (λ c. tt) (λ c. tt) (λ c. omega arith) (λ c. omega arith) (λ c. omega arith) (λ c. tt) (λ c. omega arith) (λ c. tt)
     (λ c. tt))

@@ -11,8 +11,8 @@ invariant-loop places count i₀ t6 t7 i = Unit {0}
 abbrev decreases-loop : tie.decreases-loop
 decreases-loop places count i₀ t6 t7 i = count - i
 
-pub print-list-spec : {M : Type 1} → statement M
-print-list-spec =
+pub print_list_spec : {M : Type 1} → statement M
+print_list_spec =
     tie.close
     (tie.spec invariant-loop decreases-loop (λ c. tt) (λ c. search rules) (λ c κs. search rules) (λ c. tt) (λ c. omega arith) (λ c. omega arith)
     (λ c. search rules) (λ c κs. search rules) (λ c κs. search rules) (λ c κs. search rules) (λ c. omega arith) (λ c. tt) (λ c. search rules)

@@ -11,8 +11,8 @@ invariant-loop word i₀ i = Unit {0}
 abbrev decreases-loop : tie.decreases-loop
 decreases-loop word i₀ i = length word - i
 
-pub is-whole-spec : {M : Type 1} → statement M
-is-whole-spec =
+pub is_whole_spec : {M : Type 1} → statement M
+is_whole_spec =
     tie.close
     (tie.spec invariant-loop decreases-loop (λ c. omega arith) (λ c. tt) (λ c. tt) (λ c. omega arith) (λ c. tt) (λ c. omega arith) (λ c. tt) (λ c. omega arith) (λ c. omega arith)
     (λ c. tt) (λ c. tt))

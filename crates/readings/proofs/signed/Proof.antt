@@ -18,5 +18,5 @@ sub-result c =
     let s = c.before in
     rw (to_z-of_z w32 (pos s.args.magnitude) (record { sfits = s.requires })) (rw (+ℤ_idl (neg_ℤ (pos s.args.magnitude))) (negated_fits s.args.magnitude s.requires))
 
-pub signed-spec : {M : Type 1} → statement M
-signed-spec = tie.close (tie.spec (λ c. search rules) sub-result (λ c. search rules) (λ c. search rules) (λ c. search rules))
+pub signed_spec : {M : Type 1} → statement M
+signed_spec = tie.close (tie.spec (λ c. search rules) sub-result (λ c. search rules) (λ c. search rules) (λ c. search rules))

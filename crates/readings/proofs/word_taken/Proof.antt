@@ -12,8 +12,8 @@ invariant-loop word numbers₀ next₀ i₀ numbers next i = length numbers ≡ 
 abbrev decreases-loop : tie.decreases-loop
 decreases-loop word numbers₀ next₀ i₀ numbers next i = length word - i
 
-pub word-taken-spec : {M : Type 1} → statement M
-word-taken-spec =
+pub word_taken_spec : {M : Type 1} → statement M
+word_taken_spec =
     tie.close
     (tie.spec invariant-loop decreases-loop (λ c. refl) (λ c. omega arith) (λ c κs. tt) (λ c. omega arith) (λ c. omega arith) (λ c. c.before.taken.auto.1.1.0 ∙ c.before.before.before.before.before.loop.invariant)
     (λ c κs. tt) (λ c. c.before.taken2.auto.1.1.0 ∙ c.before.before.before.before.loop.invariant) (λ c. tt))

@@ -48,8 +48,8 @@ none c l h =
     (omega (arith, h.size, c.before.loop-test.false))) ∙ loop.invariant.1 l h
     ∙ ap (λ (number : ℕ). first_place number l (place c.before.before.before.before.args.token)) c.before.before.before.slot_of.ensures
 
-pub first-place-spec : {M : Type 1} → statement M
-first-place-spec =
+pub first_place_spec : {M : Type 1} → statement M
+first_place_spec =
     tie.close
     (tie.spec invariant-loop decreases-loop (λ c κs. tt) (λ c. (omega arith, λ l h. refl)) (λ c. omega (arith, element-copy-out-other c)) element-copy-out-other
     (λ c. omega arith) (λ c κs. tt) (λ c κs. tt) found (λ c. omega arith) again (λ c κs. tt) none)

@@ -27,5 +27,5 @@ returns c l h =
     ∙ ap₂ (λ (set : ℕ) (named : List ℕ). record { kind = 4; set = set; place = 0; places = words_of named }) c.before.set-of.ensures
     (named-for (table s) s.args.state s.args.token l)
 
-pub going-spec : {M : Type 1} → statement M
-going-spec = tie.close (tie.spec (λ c κs. search rules) (λ c κs. search rules) with-places-requires returns)
+pub going_spec : {M : Type 1} → statement M
+going_spec = tie.close (tie.spec (λ c κs. search rules) (λ c κs. search rules) with-places-requires returns)

@@ -21,7 +21,7 @@ returns c l h =
 returns-2 : tie.Need-returns-2
 returns-2 c l h = sym (none-next l c.before.args.kept _ (omega (arith, h.size, c.if1.false)))
 
-pub is-next-spec : {M : Type 1} → statement M
-is-next-spec =
+pub is_next_spec : {M : Type 1} → statement M
+is_next_spec =
     tie.close
     (tie.spec (λ c κs. search rules) (λ c. omega (arith, within c)) within (λ c κs. search rules) returns returns-2)

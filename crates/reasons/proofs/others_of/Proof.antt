@@ -11,5 +11,5 @@ returns c k l hk hl =
     others-listed k l s.args.kept s.args.from s.args.list.count hl.size
     (c.append.ensures.1 _ l (c.before.part.ensures.1 _ k hk (omega (arith, hk.size, s.requires.0))) hl (omega (arith, hl.size)))
 
-pub others-of-spec : {M : Type 1} → statement M
-others-of-spec = tie.close (tie.spec (λ c. search rules) (λ c κs. search rules) (λ c κs. search rules) returns)
+pub others_of_spec : {M : Type 1} → statement M
+others_of_spec = tie.close (tie.spec (λ c. search rules) (λ c κs. search rules) (λ c κs. search rules) returns)

@@ -20,8 +20,8 @@ returns-3 c l f low =
     stepped-told s.requires.0 s.args.token c.before.before.before.first-place.ensures f c.before.before.before.before.if1.false
     (c.before.if2.false ∙ c.before.before.place_of.ensures) c.told_at.ensures
 
-pub reason-for-spec : {M : Type 1} → statement M
-reason-for-spec =
+pub reason_for_spec : {M : Type 1} → statement M
+reason_for_spec =
     tie.close
     (tie.spec (λ c κs. carried_row c.before.before.before.requires.1) returns
     (λ c κs. joined-row c.before.before.before.requires.1 c.if1.false) (λ c κs. search rules)

@@ -14,5 +14,5 @@ narrowed : tie.Need-returns-2
 unfolding made kept_or_narrowed
 narrowed c = rw (ne_eqb _ _ c.before.if1.false) c.without-places2.ensures
 
-pub staying-spec : {M : Type 1} → statement M
-staying-spec = tie.close (tie.spec (λ c κs. search rules) kept (λ c κs. search rules) narrowed)
+pub staying_spec : {M : Type 1} → statement M
+staying_spec = tie.close (tie.spec (λ c κs. search rules) kept (λ c κs. search rules) narrowed)

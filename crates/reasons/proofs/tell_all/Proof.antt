@@ -37,8 +37,8 @@ again c =
     telling-next _ _ _ v low (c.before.reason-for.ensures _ v.fate (telling-low _ _ _ v low)) c.stored.ensures.0
     c.stored.ensures.1.0 c.stored.ensures.1.1
 
-pub tell-all-spec : {M : Type 1} → statement M
-tell-all-spec =
+pub tell_all_spec : {M : Type 1} → statement M
+tell_all_spec =
     tie.close
     (tie.spec invariant-loop decreases-loop fate-of-all-requires (λ c κs. tt) loop-holds
     (λ c. omega (arith, element-copy-out-reason-for c)) element-copy-out-reason-for

@@ -101,8 +101,8 @@ returns-3 : tie.Need-returns-3 invariant-loop decreases-loop
 unfolding made words_of words_from
 returns-3 c l h = c.without-places.ensures ∙ ap made (tells_none _ _ _ _ _ c.before.before.loop.invariant.1 c.before.loop-test.false h)
 
-pub told-at-spec : {M : Type 1} → statement M
-told-at-spec =
+pub told_at_spec : {M : Type 1} → statement M
+told_at_spec =
     tie.close
     (tie.spec invariant-loop decreases-loop (λ c κs. tt) loop-holds
     (λ c. let w = c.before.loop.invariant.1 in omega (arith, w.few, w.lists.size, c.loop-test.true))

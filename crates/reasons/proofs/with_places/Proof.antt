@@ -64,9 +64,9 @@ returns c l h =
     ap (λ (words : List ℕ). made_of s.args.kind s.args.set words)
     (sym (words-done loop.words l loop.i (omega (arith, h.size, c.loop-test.false))) ∙ loop.invariant.1.1 l h)
 
-pub with-places-spec : {M : Type 1} → statement M
+pub with_places_spec : {M : Type 1} → statement M
 unfolding words_of
-with-places-spec =
+with_places_spec =
     tie.close
     (tie.spec invariant-loop decreases-loop (λ c. (omega arith, (refl, λ l h. refl))) (λ c. omega (arith, element-copy-out-place-of c)) element-copy-out-place-of
     (λ c κs. tt) (λ c. omega arith) (λ c. omega arith) (λ c. omega arith) (λ c κs. omega arith) (λ c. omega arith) (λ c. omega arith)

@@ -5,7 +5,7 @@ use mathlib.Core.Bool.{false≢true}
 use Rattle.rounds.proofs.no_atom_cut.Statement.{statement}
 use Rattle.rounds.proofs.no_atom_cut.Tie as tie
 
-pub no-atom-cut-spec : {M : Type 1} → statement M
-no-atom-cut-spec =
+pub no_atom_cut_spec : {M : Type 1} → statement M
+no_atom_cut_spec =
     tie.close
     (tie.spec (λ c e. absurd (false≢true e)) (λ c κs. search rules) (λ c e. record { settles = c.before.before.if1.false; sets = sym c.same-atoms.ensures ∙ e }))

@@ -4,5 +4,5 @@ use Rattle.rounds.proofs.Larger.{counted-alone}
 use Rattle.rounds.proofs.run_counted.Statement.{statement}
 use Rattle.rounds.proofs.run_counted.Tie as tie
 
-pub run-counted-spec : {M : Type 1} → statement M
-run-counted-spec = tie.close (tie.spec (λ c κs. search rules) (λ c. counted-alone c.before.run-largest.ensures))
+pub run_counted_spec : {M : Type 1} → statement M
+run_counted_spec = tie.close (tie.spec (λ c κs. search rules) (λ c. counted-alone c.before.run-largest.ensures))

@@ -51,8 +51,8 @@ returns-3 c =
     largest-counted _ (counted-uncut _ _ _ start.ensures.0 s.args.list c.before.before.before.before.before.before.before.before.run.ensures start.result start.ensures.1 (uncut c.before.before) refl)
     (from-none s.args.largest c.turned-largest.ensures refl)
 
-pub run-largest-spec : {M : Type 1} → statement M
-run-largest-spec =
+pub run_largest_spec : {M : Type 1} → statement M
+run_largest_spec =
     tie.close
     (tie.spec (λ c κs. search rules) (λ c κs. search rules) (λ c. search rules) (λ c. search rules) (λ c. search rules) returns (λ c κs. search rules) (λ c κs. search rules)
     rounds-requires (λ c κs. search rules) returns-2 turned-largest-requires returns-3)

@@ -13,8 +13,8 @@ invariant-loop token tokens number₀ set₀ i₀ number set i = (length number 
 abbrev decreases-loop : tie.decreases-loop
 decreases-loop token tokens number₀ set₀ i₀ number set i = 64 - i
 
-pub list-of-spec : {M : Type 1} → statement M
-list-of-spec =
+pub list_of_spec : {M : Type 1} → statement M
+list_of_spec =
     tie.close
     (tie.spec invariant-loop decreases-loop (λ c. (search rules, search rules)) (λ c. omega arith) (λ c. omega arith) (λ c. omega arith) (λ c. search rules)
     (λ c. search rules) (λ c. search rules) (λ c. search rules) (λ c. search rules) (λ c. omega arith) (λ c. omega arith)

@@ -42,8 +42,8 @@ says-requires c κs =
       ((places, (rw worked-out.ensures (table-signed _ _ start.requires.0 (search rules)), start.requires.1.1)), words.words_of.ensures),
     )
 
-pub said-spec : {M : Type 1} → statement M
-said-spec =
+pub said_spec : {M : Type 1} → statement M
+said_spec =
     tie.close
     (tie.spec invariant-loop decreases-loop (λ c κs. search rules) (λ c. search rules) (λ c. search rules) (λ c. search rules) sign-table-requires
     (λ c. search rules) (λ c. search rules) (λ c. search rules) (λ c. search rules) (λ c. search rules) (λ c. search rules) words-of-requires

@@ -7,7 +7,7 @@ use Rattle.rounds_vectors.proofs.tell.Tie as tie
 tell-rounds-requires : tie.Need-tell-rounds-requires
 tell-rounds-requires c κs = rw c.before.before.read.ensures (left _)
 
-pub tell-spec : {M : Type 1} → statement M
-tell-spec =
+pub tell_spec : {M : Type 1} → statement M
+tell_spec =
     tie.close
     (tie.spec (λ c κs. search rules) (λ c. search rules) (λ c κs. search rules) (λ c. search rules) tell-rounds-requires (λ c. search rules))

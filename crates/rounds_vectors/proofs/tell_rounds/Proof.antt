@@ -10,8 +10,8 @@ tell-state-requires c κs =
     let ran = c.before.before.before.run-counted.ensures in
     (search rules, (ran.variables, (ran.atoms, ends-settled s.args.held.variables _ ran.outcome c.if1.false)))
 
-pub tell-rounds-spec : {M : Type 1} → statement M
-tell-rounds-spec =
+pub tell_rounds_spec : {M : Type 1} → statement M
+tell_rounds_spec =
     tie.close
     (tie.spec (λ c κs. search rules) (λ c. search rules) (λ c. search rules) (λ c. search rules) (λ c κs. search rules) (λ c. search rules)
     (λ c. search rules) (λ c. search rules) (λ c κs. search rules) (λ c κs. search rules) (λ c. search rules) (λ c κs. search rules)

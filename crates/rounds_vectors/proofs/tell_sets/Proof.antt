@@ -11,8 +11,8 @@ invariant-loop sets count i₀ i = Unit {0}
 abbrev decreases-loop : tie.decreases-loop
 decreases-loop sets count i₀ i = count - i
 
-pub tell-sets-spec : {M : Type 1} → statement M
-tell-sets-spec =
+pub tell_sets_spec : {M : Type 1} → statement M
+tell_sets_spec =
     tie.close
     (tie.spec invariant-loop decreases-loop (λ c. search rules) (λ c κs. search rules) (λ c. tt) (λ c. search rules) (λ c κs. search rules) (λ c. omega arith)
     (λ c. omega arith) (λ c. tt) (λ c. search rules) (λ c. search rules))

@@ -34,8 +34,8 @@ returns-2 c =
     let simplifying = chosen.before.before.before in
     tells-answer (length-replicate {A = ℕ} 32768 0) simplifying.before.before.before.before.requires simplifying.simplify.ensures.0 chosen.answer2.given.1 _ telling.script-of.ensures
 
-pub answered-spec : {M : Type 1} → statement M
-answered-spec =
+pub answered_spec : {M : Type 1} → statement M
+answered_spec =
     tie.close
     (tie.spec (λ c. search rules) (λ c κs. search rules) (λ c. search rules) (λ c. search rules) inside lends-answer (λ c κs. search rules) returns
     (λ c. search rules) returns-2)

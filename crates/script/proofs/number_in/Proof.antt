@@ -30,5 +30,5 @@ returns-2 : tie.Need-returns-2
 unfolding number_in
 returns-2 c = sym (ap number_in c.before.outcome2.given.1)
 
-pub number-in-spec : {M : Type 1} → statement M
-number-in-spec = tie.close (tie.spec (λ c. search rules) (λ c. search rules) (λ c. search rules) small sum returns returns-2)
+pub number_in_spec : {M : Type 1} → statement M
+number_in_spec = tie.close (tie.spec (λ c. search rules) (λ c. search rules) (λ c. search rules) small sum returns returns-2)

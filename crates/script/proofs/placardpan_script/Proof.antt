@@ -18,5 +18,5 @@ returns c =
       text = telling.script.ensures.text;
     }
 
-pub placardpan-script-spec : {M : Type 1} → statement M
-placardpan-script-spec = tie.close (tie.spec (λ c κs. search rules) small (λ c. search rules) returns)
+pub placardpan_script_spec : {M : Type 1} → statement M
+placardpan_script_spec = tie.close (tie.spec (λ c κs. search rules) small (λ c. search rules) returns)

@@ -21,8 +21,8 @@ returns-2 : tie.Need-returns-2
 unfolding script_answer
 returns-2 c = c.before.before.answered.ensures
 
-pub script-spec : {M : Type 1} → statement M
-script-spec =
+pub script_spec : {M : Type 1} → statement M
+script_spec =
     tie.close
     (tie.spec (λ c. search rules) (λ c. search rules) (λ c. search rules) (λ c. search rules)
     (λ c κs. record { coefficients = omega arith; monomials = omega arith; counts = omega arith; tokens = omega arith }) (λ c. search rules) (λ c. search rules)

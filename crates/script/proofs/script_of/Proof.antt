@@ -23,8 +23,8 @@ returns-2 c =
     let standing = found-standing chosen.before.before.before.before.before.before.read-into.ensures chosen.contents2.given.1 in
     tells-read _ standing.accepted (telling.told.ensures standing.block standing.stands)
 
-pub script-of-spec : {M : Type 1} → statement M
-script-of-spec =
+pub script_of_spec : {M : Type 1} → statement M
+script_of_spec =
     tie.close
     (tie.spec (λ c. search rules) (λ c. search rules) (λ c. search rules) (λ c. search rules)
     (λ c κs. record { coefficients = omega arith; monomials = omega arith; counts = omega arith; tokens = omega arith }) (λ c. search rules) (λ c. search rules)

@@ -17,6 +17,6 @@ fits c block stands =
     let size = measured block (tested.before.before.put-script.ensures block stands) in
     tells-script block _ size (omega (arith, size, tested.if1.false)) (writing.put-script2.ensures block stands)
 
-pub told-spec : {M : Type 1} → statement M
-told-spec =
+pub told_spec : {M : Type 1} → statement M
+told_spec =
     tie.close (tie.spec (λ c. search rules) (λ c κs. search rules) too_long (λ c κs. search rules) (λ c. search rules) fits)

@@ -32,5 +32,5 @@ returns-2 c =
     let given = text-read text read.read-into.ensures chosen.script2.given.1 in
     gives-block text read.read-into.ensures chosen.script2.given.1 (put.put-block.ensures given.block given.writes)
 
-pub block-of-spec : {M : Type 1} → statement M
-block-of-spec = tie.close (tie.spec (λ c. search rules) (λ c. search rules) (λ c. search rules) (λ c. search rules) (λ c κs. search rules) (λ c. search rules) (λ c. search rules) (λ c. search rules) (λ c. search rules) (λ c. search rules) (λ c. search rules) put-block-requires returns (λ c. search rules) returns-2)
+pub block_of_spec : {M : Type 1} → statement M
+block_of_spec = tie.close (tie.spec (λ c. search rules) (λ c. search rules) (λ c. search rules) (λ c. search rules) (λ c κs. search rules) (λ c. search rules) (λ c. search rules) (λ c. search rules) (λ c. search rules) (λ c. search rules) (λ c. search rules) put-block-requires returns (λ c. search rules) returns-2)

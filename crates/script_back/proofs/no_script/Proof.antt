@@ -8,5 +8,5 @@ returns : tie.Need-returns
 unfolding nothing
 returns c = refl
 
-pub no-script-spec : {M : Type 1} → statement M
-no-script-spec = tie.close (tie.spec returns)
+pub no_script_spec : {M : Type 1} → statement M
+no_script_spec = tie.close (tie.spec returns)

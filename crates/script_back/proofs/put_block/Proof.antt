@@ -35,5 +35,5 @@ returns c block w =
     (front-again _ (write_block edition1 block) (writing.write.ensures block w).1 size_is (omega (arith, w.room, length-block edition1 block)))
     c.before.before.to-edition1.ensures
 
-pub put-block-spec : {M : Type 1} → statement M
-put-block-spec = tie.close (tie.spec (λ c. search rules) (λ c κs. search rules) (λ c. fits c.before) lends (λ c κs. search rules) (λ c. search rules) returns)
+pub put_block_spec : {M : Type 1} → statement M
+put_block_spec = tie.close (tie.spec (λ c. search rules) (λ c κs. search rules) (λ c. fits c.before) lends (λ c κs. search rules) (λ c. search rules) returns)

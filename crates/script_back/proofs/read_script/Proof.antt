@@ -11,5 +11,5 @@ returns c = let read = c.before.before.before.before.before.before.before.before
 returns-2 : tie.Need-returns-2
 returns-2 c = let read = c.before.before.before.before.before.before.before in reads-one read.before.before.before.before.before.before.args.text.now read.read-into.ensures c.before.script2.given.1
 
-pub read-script-spec : {M : Type 1} → statement M
-read-script-spec = tie.close (tie.spec (λ c. search rules) (λ c. search rules) (λ c. search rules) (λ c. search rules) (λ c κs. search rules) (λ c. search rules) (λ c κs. search rules) (λ c. search rules) returns returns-2)
+pub read_script_spec : {M : Type 1} → statement M
+read_script_spec = tie.close (tie.spec (λ c. search rules) (λ c. search rules) (λ c. search rules) (λ c. search rules) (λ c κs. search rules) (λ c. search rules) (λ c κs. search rules) (λ c. search rules) returns returns-2)

@@ -79,8 +79,8 @@ returns-4 c =
     found.find.ensures tested.before.if1.false tested.if2.false
     put.0 put.1 put.2
 
-pub known-polynomial-spec : {M : Type 1} → statement M
-known-polynomial-spec =
+pub known_polynomial_spec : {M : Type 1} → statement M
+known_polynomial_spec =
     tie.close
     (tie.spec (λ c. search rules) (λ c. search rules) (λ c κs. search rules) (λ c. search rules) (λ c κs. search rules) (λ c. search rules)
     (λ c. search rules)

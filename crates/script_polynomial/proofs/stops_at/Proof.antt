@@ -11,5 +11,5 @@ longest-requires c κs = let s = c.before.before.before.before in (s.requires.1,
 returns-2 : tie.Need-returns-2
 returns-2 c = stops-full _ _ _ _ _ _ _ c.before.longest.ensures c.before.before.if1.false c.smaller-of.ensures
 
-pub stops-at-spec : {M : Type 1} → statement M
-stops-at-spec = tie.close (tie.spec (λ c. search rules) longest-requires (λ c κs. search rules) returns-2)
+pub stops_at_spec : {M : Type 1} → statement M
+stops_at_spec = tie.close (tie.spec (λ c. search rules) longest-requires (λ c κs. search rules) returns-2)

@@ -7,8 +7,8 @@ use Rattle.lines.specs.Parts.{hex-long}
 use Rattle.script_telling.proofs.print_block.Statement.{statement}
 use Rattle.script_telling.proofs.print_block.Tie as tie
 
-pub print-block-spec : {M : Type 1} → statement M
-print-block-spec =
+pub print_block_spec : {M : Type 1} → statement M
+print_block_spec =
     tie.close
     (tie.spec (λ c κs. search rules) (λ c. search rules) (λ c κs. omega (arith, hex-long c.before.before.before.before.args.block.now))
     (λ c. search rules) (λ c. sym (length-take-le _ _ (omega arith))) (λ c κs. search rules) (λ c. search rules) (λ c κs. search rules) (λ c. search rules))

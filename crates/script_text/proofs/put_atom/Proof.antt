@@ -5,8 +5,8 @@ use Rattle.script_text.proofs.Texts.{atom-split}
 use Rattle.script_text.proofs.put_atom.Statement.{statement}
 use Rattle.script_text.proofs.put_atom.Tie as tie
 
-pub put-atom-spec : {M : Type 1} → statement M
-put-atom-spec =
+pub put_atom_spec : {M : Type 1} → statement M
+put_atom_spec =
     tie.close
     (tie.spec (λ c. search rules) (λ c. search rules) (λ c. search rules)
     (λ c κs. fits-first (atom-split _ _) c.before.before.before.before.before.requires.3)

@@ -6,8 +6,8 @@ use Rattle.script_text.proofs.Texts.{closing-empty, closing-other, closing-one}
 use Rattle.script_text.proofs.put_closing.Statement.{statement}
 use Rattle.script_text.proofs.put_closing.Tie as tie
 
-pub put-closing-spec : {M : Type 1} → statement M
-put-closing-spec =
+pub put_closing_spec : {M : Type 1} → statement M
+put_closing_spec =
     tie.close
     (tie.spec (λ c. search rules) (λ c κs. fits-as (closing-other _ c.before.before.match.keys2) c.before.before.before.before.requires) (λ c. search rules)
     (λ c κs. let m = c.before.before.match.rest in fits-as (closing-one _ m.0.1 m.1) c.before.before.before.before.requires)

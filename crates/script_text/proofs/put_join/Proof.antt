@@ -6,8 +6,8 @@ use Rattle.script_text.proofs.Texts.{join-and, join-or}
 use Rattle.script_text.proofs.put_join.Statement.{statement}
 use Rattle.script_text.proofs.put_join.Tie as tie
 
-pub put-join-spec : {M : Type 1} → statement M
-put-join-spec =
+pub put_join_spec : {M : Type 1} → statement M
+put_join_spec =
     tie.close
     (tie.spec (λ c. search rules) (λ c κs. fits-as (join-and _ c.before.before.if1.true) c.before.before.before.before.requires) (λ c. search rules)
     (λ c. let put = c.before.before in wrote_as put.put-bytes.ensures (join-and _ put.before.before.before.if1.true)) (λ c. search rules)

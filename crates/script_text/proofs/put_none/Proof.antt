@@ -6,8 +6,8 @@ use Rattle.script_text.proofs.Texts.{none-and, none_or}
 use Rattle.script_text.proofs.put_none.Statement.{statement}
 use Rattle.script_text.proofs.put_none.Tie as tie
 
-pub put-none-spec : {M : Type 1} → statement M
-put-none-spec =
+pub put_none_spec : {M : Type 1} → statement M
+put_none_spec =
     tie.close
     (tie.spec (λ c. search rules) (λ c κs. fits-as (none-and _ c.before.before.if1.true) c.before.before.before.before.requires) (λ c. search rules)
     (λ c. let put = c.before.before in wrote_as put.put-bytes.ensures (none-and _ put.before.before.before.if1.true)) (λ c. search rules)

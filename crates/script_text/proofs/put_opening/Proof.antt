@@ -6,8 +6,8 @@ use Rattle.script_text.proofs.Texts.{opening-empty, opening-above, opening-equal
 use Rattle.script_text.proofs.put_opening.Statement.{statement}
 use Rattle.script_text.proofs.put_opening.Tie as tie
 
-pub put-opening-spec : {M : Type 1} → statement M
-put-opening-spec =
+pub put_opening_spec : {M : Type 1} → statement M
+put_opening_spec =
     tie.close
     (tie.spec
     (λ c. search rules) (λ c κs. fits-as (opening-above _ c.before.before.match.keys2) c.before.before.before.before.requires)

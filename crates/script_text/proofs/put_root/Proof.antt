@@ -7,8 +7,8 @@ use Rattle.script_text.proofs.Roots.{root-there, atom-asks, root-atom, root_none
 use Rattle.script_text.proofs.put_root.Statement.{statement}
 use Rattle.script_text.proofs.put_root.Tie as tie
 
-pub put-root-spec : {M : Type 1} → statement M
-put-root-spec =
+pub put_root_spec : {M : Type 1} → statement M
+put_root_spec =
     tie.close
     (tie.spec (λ c. root-there c.before.before.before.before.before.requires.stands)
     (λ c κs. let s = c.before.before.before.before.before.before.before in atom-asks s.requires.stands s.requires.fits c.before.if1.true)

@@ -6,8 +6,8 @@ use Rattle.script_text.proofs.Roots.{script-split, script-fits}
 use Rattle.script_text.proofs.put_script.Statement.{statement}
 use Rattle.script_text.proofs.put_script.Tie as tie
 
-pub put-script-spec : {M : Type 1} → statement M
-put-script-spec =
+pub put_script_spec : {M : Type 1} → statement M
+put_script_spec =
     tie.close
     (tie.spec (λ c. search rules) (λ c κs. search rules)
     (λ c κs.

@@ -71,8 +71,8 @@ returns-2 c =
       itself = λ e. ap (λ (a : Atoms). with-atoms st a) (atoms.ensures.itself e);
     }
 
-pub search-spec : {M : Type 1} → statement M
-search-spec =
+pub search_spec : {M : Type 1} → statement M
+search_spec =
     tie.close
     (tie.spec (λ c. search rules) (λ c κs. search rules) (λ c. search rules) (λ c κs. search rules) search-board-requires returns (λ c. search rules)
     search-atoms-requires returns-2)

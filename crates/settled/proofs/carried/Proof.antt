@@ -42,8 +42,8 @@ loop-again c =
     let (set_is, next-is) = c.carried-one.ensures in
     (omega arith, (all, rw (set_is, next-is) (carrying-next carrying (omega arith) _ (sym c.before.which.ensures.0) (omega arith))))
 
-pub carried-spec : {M : Type 1} → statement M
-carried-spec =
+pub carried_spec : {M : Type 1} → statement M
+carried_spec =
     tie.close
     (tie.spec invariant-loop decreases-loop (λ c κs. search rules) loop-holds (λ c. omega arith) (λ c. omega arith)
     (λ c κs. (c.before.before.before.before.before.before.before.before.requires.0, omega arith)) carried-one-requires (λ c. omega arith)

@@ -27,8 +27,8 @@ returns-2 c =
     let l = low c.before.before in
     rw c.before.before.holds.given.1 (sym (set_at s.args.t1.sets _ _ (omega (arith, s.requires.0))), refl)
 
-pub carried-one-spec : {M : Type 1} → statement M
-carried-one-spec =
+pub carried_one_spec : {M : Type 1} → statement M
+carried_one_spec =
     tie.close
     (tie.spec (λ c. search rules) more (λ c. omega (arith, more c.before)) (λ c. search rules) (λ c. omega (arith, low c.before, c.before.before.before.requires.0))
     returns returns-2)

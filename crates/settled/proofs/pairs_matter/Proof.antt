@@ -20,7 +20,7 @@ returns-2 c =
 returns-3 : tie.Need-returns-3
 returns-3 c = may-matter _ _
 
-pub pairs-matter-spec : {M : Type 1} → statement M
-pairs-matter-spec =
+pub pairs_matter_spec : {M : Type 1} → statement M
+pairs_matter_spec =
     tie.close
     (tie.spec (λ c κs. search rules) (λ c κs. search rules) (λ c. search rules) (λ c. search rules) returns returns-2 returns-3)

@@ -40,6 +40,6 @@ returns-2 c =
     let s = c.before.before.before.before.before.before.before.before.before.before.before in
     c.before.before.before.says-before-pairs.ensures ∙ sym (c.before.pairs-matter.ensures.idle c.if1.false s.requires.1.0.1.1)
 
-pub says-spec : {M : Type 1} → statement M
-says-spec =
+pub says_spec : {M : Type 1} → statement M
+says_spec =
     tie.close (tie.spec says-before-pairs-requires (λ c κs. search rules) (λ c κs. search rules) cut-by-others-requires returns returns-2)

@@ -54,8 +54,8 @@ returns c =
     cut-by-over _ _ _ s.requires.0.1.0 (sets_of s.args.state.board) number s.args.state.atoms _ _ _ c.cut_by.ensures
     ∙ rw (c.before.intersect.ensures, held, which.ensures.0, by, many.ensures, sub-zero)
 
-pub says-before-pairs-spec : {M : Type 1} → statement M
-says-before-pairs-spec =
+pub says_before_pairs_spec : {M : Type 1} → statement M
+says_before_pairs_spec =
     tie.close
     (tie.spec (λ c κs. search rules) (λ c κs. search rules) (λ c κs. search rules) (λ c κs. ((held_at c).coefficients, (held_at c).signs)) held-requires
     (λ c κs. search rules) cut-by-requires returns)

@@ -63,8 +63,8 @@ returns-3 c =
     sym c.before.before.before.if1.false ∙ c.before.before.before.before.inside.ensures
     ∙ ap (λ (x : SignSet). inside_of x s.args.bound.0) (c.before.before.before.before.before.says-before-pairs.ensures ∙ sym idle)
 
-pub says-inside-spec : {M : Type 1} → statement M
-says-inside-spec =
+pub says_inside_spec : {M : Type 1} → statement M
+says_inside_spec =
     tie.close
     (tie.spec says-before-pairs-requires (λ c κs. search rules) returns (λ c κs. search rules) pairs-matter-requires (λ c. search rules)
     (λ c. search rules) words-of-requires (λ c. search rules) (λ c. search rules) lies-inside-requires returns-2 returns-3)

@@ -22,8 +22,8 @@ returns-3 c = none_left
     (omega (arith, c.before.before.before.before.before.before.before.before.before.before.before.before.before.before.if2.false))
     c.before.before.before.before.before.before.before.before.before.fill.ensures c.any-try.ensures
 
-pub any-left-spec : {M : Type 1} → statement M
-any-left-spec =
+pub any_left_spec : {M : Type 1} → statement M
+any_left_spec =
     tie.close
     (tie.spec (λ c. some_left) (λ c. some_left) (λ c. search rules) (λ c. search rules) (λ c. search rules) (λ c. search rules) fill-requires
     (λ c. search rules) (λ c. search rules) (λ c. search rules) (λ c. search rules) any-try-requires returns-3)

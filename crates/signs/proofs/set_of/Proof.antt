@@ -21,6 +21,6 @@ joined false true false = refl
 joined false false true = refl
 joined false false false = refl
 
-pub set-of-spec : {M : Type 1} → statement M
-set-of-spec =
+pub set_of_spec : {M : Type 1} → statement M
+set_of_spec =
     tie.close (tie.spec (λ c. search rules) (λ c. search rules) (λ c. search rules) (λ c. joined c.args.negative c.args.zero c.args.positive))

@@ -25,5 +25,5 @@ returns c =
     made (line-long (verdict_in start.args.verdict) (counts_in start.args.counts)) start.requires
     (wrote-both word.put_word.ensures (wrote-both counts.put-counts.ensures newline.put_byte.ensures))
 
-pub make-answer-spec : {M : Type 1} → statement M
-make-answer-spec = tie.close (tie.spec (λ c κs. search rules) room-counts room-newline (λ c. search rules) returns)
+pub make_answer_spec : {M : Type 1} → statement M
+make_answer_spec = tie.close (tie.spec (λ c κs. search rules) room-counts room-newline (λ c. search rules) returns)

@@ -25,5 +25,5 @@ returns c =
     let line = wrote-both word.put-bytes.ensures (wrote-both number.put-number.ensures newline.put_byte.ensures) in
     made (omega (arith, refusal-long start.args.number)) start.requires (wrote_as line (refusal-line start.args.number))
 
-pub make-refusal-spec : {M : Type 1} → statement M
-make-refusal-spec = tie.close (tie.spec (λ c. search rules) (λ c κs. search rules) room-number room-newline (λ c. search rules) returns)
+pub make_refusal_spec : {M : Type 1} → statement M
+make_refusal_spec = tie.close (tie.spec (λ c. search rules) (λ c κs. search rules) room-number room-newline (λ c. search rules) returns)

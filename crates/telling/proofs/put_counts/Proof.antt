@@ -38,5 +38,5 @@ returns c =
     wrote-both first.put-number.ensures
     (wrote-both second.put-number2.ensures (wrote-both third.put-number3.ensures fourth.put-number4.ensures))
 
-pub put-counts-spec : {M : Type 1} → statement M
-put-counts-spec = tie.close (tie.spec room room-2 room-3 room-4 (λ c. search rules) returns)
+pub put_counts_spec : {M : Type 1} → statement M
+put_counts_spec = tie.close (tie.spec room room-2 room-3 room-4 (λ c. search rules) returns)

@@ -20,8 +20,8 @@ returns-3 c =
     let told = c.before.before.before.before.before in
     wrote_as c.before.before.put-bytes3.ensures (word-unsatisfiable told.before.before.before.args.verdict told.enum-told3.given.1)
 
-pub put-word-spec : {M : Type 1} → statement M
-put-word-spec =
+pub put_word_spec : {M : Type 1} → statement M
+put_word_spec =
     tie.close
     (tie.spec (λ c. search rules) (λ c. search rules) (λ c κs. search rules) (λ c. search rules) (λ c. search rules) (λ c κs. search rules)
     (λ c. search rules) (λ c. search rules) (λ c κs. search rules) (λ c. search rules) returns (λ c. search rules) returns-2

@@ -46,8 +46,8 @@ returns-2 c =
     told-all (omega (arith, lines_long verdict given.block.now counts))
     (wrote_as (wrote-both first second) (answer-lines verdict given.block.now counts))
 
-pub tell-answer-spec : {M : Type 1} → statement M
-tell-answer-spec =
+pub tell_answer_spec : {M : Type 1} → statement M
+tell_answer_spec =
     tie.close
     (tie.spec (λ c. search rules) (λ c κs. search rules) (λ c κs. search rules) (λ c. omega arith) (λ c. omega arith) returns
     (λ c. omega arith) lends-line room-line room-hex room-newline (λ c. search rules) returns-2)

@@ -22,8 +22,8 @@ returns c =
     let line = c.before.before.before.before.before.before.before.make-refusal in
     told-all (omega arith) (wrote_as c.before.before.put-bytes.ensures line.ensures.is)
 
-pub tell-refusal-spec : {M : Type 1} → statement M
-tell-refusal-spec =
+pub tell_refusal_spec : {M : Type 1} → statement M
+tell_refusal_spec =
     tie.close
     (tie.spec (λ c. search rules) (λ c κs. search rules) (λ c. told_none (omega arith)) (λ c. omega arith) lends-line room
     (λ c. search rules) returns)

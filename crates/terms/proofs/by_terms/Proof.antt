@@ -28,8 +28,8 @@ returns c =
     let h : c.before.before.before.args.to ≤ l.i = omega arith in
     sym (by-signs-end _ _ _ _ _ h) ∙ l.invariant
 
-pub by-terms-spec : {M : Type 1} → statement M
-by-terms-spec =
+pub by_terms_spec : {M : Type 1} → statement M
+by_terms_spec =
     tie.close
     (tie.spec invariant-loop decreases-loop (λ c. refl) (λ c. omega arith) (λ c. omega arith) (λ c. omega arith) (λ c. omega arith) (λ c κs. search rules)
     (λ c κs. search rules) (λ c κs. search rules) (λ c. omega arith) loop-again returns)

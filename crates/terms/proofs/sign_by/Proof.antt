@@ -32,8 +32,8 @@ returns c =
     let h : c.before.before.before.before.args.to ≤ l.i = omega arith in
     λ board of. sym (signed-end _ _ _ _ _ h) ∙ l.invariant.1 board of
 
-pub sign-by-spec : {M : Type 1} → statement M
-sign-by-spec =
+pub sign_by_spec : {M : Type 1} → statement M
+sign_by_spec =
     tie.close
     (tie.spec invariant-loop decreases-loop (λ c. (refl, λ board of. refl)) (λ c. omega arith) (λ c. omega arith) (λ c κs. search rules) (λ c. omega arith) (λ c. omega arith)
     (λ c. omega arith) loop-again (λ c. c.before.loop.invariant.0) returns)

@@ -5,8 +5,8 @@ use Rattle.terms.proofs.Coefficients.{sign-negative, sign-positive, sign-nought}
 use Rattle.terms.proofs.sign_of.Statement.{statement}
 use Rattle.terms.proofs.sign_of.Tie as tie
 
-pub sign-of-spec : {M : Type 1} → statement M
-sign-of-spec =
+pub sign_of_spec : {M : Type 1} → statement M
+sign_of_spec =
     tie.close
     (tie.spec (λ c. sign-negative _ (rw (to_z-of_z w32 _ c.before.ranges.x) at c.if1.true))
     (λ c. sign-positive _ (rw (to_z-of_z w32 _ c.before.before.ranges.x) at c.if2.true))

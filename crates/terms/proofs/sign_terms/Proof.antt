@@ -3,7 +3,7 @@ use borrow.Author.Rules.{rules}
 use Rattle.terms.proofs.sign_terms.Statement.{statement}
 use Rattle.terms.proofs.sign_terms.Tie as tie
 
-pub sign-terms-spec : {M : Type 1} → statement M
-sign-terms-spec =
+pub sign_terms_spec : {M : Type 1} → statement M
+sign_terms_spec =
     tie.close
     (tie.spec (λ c κs. search rules) (λ c κs. search rules) (λ c. search rules) (λ c. c.before.before.sign-by.ensures _ c.before.before.before.before.masks-of.ensures))

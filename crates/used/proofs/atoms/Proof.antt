@@ -15,8 +15,8 @@ decreases-loop token count found₀ i₀ found i = count - i
 long : (c : tie.Start invariant-loop decreases-loop) → c.args.count ≤ length c.args.token.now
 long c = (tape-fits c.requires.holds).long
 
-pub atoms-spec : {M : Type 1} → statement M
-atoms-spec =
+pub atoms_spec : {M : Type 1} → statement M
+atoms_spec =
     tie.close
     (tie.spec
     invariant-loop

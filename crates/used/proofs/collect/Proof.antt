@@ -45,8 +45,8 @@ returns c tree h =
     collected start.requires.0 h ordering.order-slots.ensures a.new-coefficient.now a.new-monomial.now a.new-terms.now a.new-token.now
     (copying.copy-forms.ensures a.variables) renumbering.renumber-all.ensures
 
-pub collect-spec : {M : Type 1} → statement M
-collect-spec =
+pub collect_spec : {M : Type 1} → statement M
+collect_spec =
     tie.close
     (tie.spec (λ c. search rules) (λ c. search rules) order-slots-requires (λ c. search rules) copy-forms-requires (λ c. search rules) renumber-all-requires
     (λ c. search rules) (λ c. search rules) (λ c. search rules) (λ c. search rules) returns)

@@ -48,8 +48,8 @@ loop-again c n =
     copying-next (here.before.loop.invariant n) here.loop-test.true (source here).0 (source here).1
     c.before.before.before.before.before.copy-coefficients.ensures c.before.before.copy-monomials.ensures
 
-pub copy-forms-spec : {M : Type 1} → statement M
-copy-forms-spec =
+pub copy_forms_spec : {M : Type 1} → statement M
+copy_forms_spec =
     tie.close
     (tie.spec invariant-loop decreases-loop
     (λ c n.

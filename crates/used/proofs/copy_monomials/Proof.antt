@@ -12,8 +12,8 @@ invariant-loop source target₀ from to count i₀ target i = Running source fro
 abbrev decreases-loop : tie.decreases-loop
 decreases-loop source target₀ from to count i₀ target i = count - i
 
-pub copy-monomials-spec : {M : Type 1} → statement M
-copy-monomials-spec =
+pub copy_monomials_spec : {M : Type 1} → statement M
+copy_monomials_spec =
     tie.close
     (tie.spec invariant-loop decreases-loop
     (λ c. let a = c.args in run-starts a.source.now a.from a.to a.count a.target.now)

@@ -31,8 +31,8 @@ loop-again-2 c =
     let here = c.before.before.before in
     counting-constant here.loop-test.true here.before.loop.invariant (λ n cs. sym (not-false _ c.if1.false) ∙ c.before.is-constant.ensures n cs)
 
-pub count-forms-spec : {M : Type 1} → statement M
-count-forms-spec =
+pub count_forms_spec : {M : Type 1} → statement M
+count_forms_spec =
     tie.close
     (tie.spec invariant-loop decreases-loop
     (λ c. let a = c.before.before.before.args in counting-starts a.monomial.now a.terms.now a.order.now a.used)

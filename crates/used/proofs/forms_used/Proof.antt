@@ -23,7 +23,7 @@ returns c n cs tree forms h =
     let ordering = c.before.before.before.before in
     c.count-forms.ensures n cs ∙ ap (λ l. length (without_constants l)) (counts-used forms h ordering.order-slots.ensures)
 
-pub forms-used-spec : {M : Type 1} → statement M
-forms-used-spec =
+pub forms_used_spec : {M : Type 1} → statement M
+forms_used_spec =
     tie.close
     (tie.spec (λ c. search rules) (λ c. search rules) order-slots-requires (λ c. search rules) count-forms-requires returns)

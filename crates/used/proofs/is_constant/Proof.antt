@@ -15,5 +15,5 @@ returns-3 c n cs =
     let a = c.before.before.before.before.args in
     of_one n cs a.monomial.now a.terms.now a.slot c.before.before.if1.false c.before.if2.false
 
-pub is-constant-spec : {M : Type 1} → statement M
-is-constant-spec = tie.close (tie.spec (λ c. search rules) returns returns-2 (λ c. search rules) (λ c. search rules) (λ c. search rules) returns-3)
+pub is_constant_spec : {M : Type 1} → statement M
+is_constant_spec = tie.close (tie.spec (λ c. search rules) returns returns-2 (λ c. search rules) (λ c. search rules) (λ c. search rules) returns-3)

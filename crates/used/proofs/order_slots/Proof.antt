@@ -23,8 +23,8 @@ room c =
     let here = c.before.before.before.before in
     used-below here.before.before.requires.0 here.loop-test.true here.before.loop.invariant c.before.before.if1.true c.if2.true
 
-pub order-slots-spec : {M : Type 1} → statement M
-order-slots-spec =
+pub order_slots_spec : {M : Type 1} → statement M
+order_slots_spec =
     tie.close
     (tie.spec invariant-loop decreases-loop
     (λ c. let a = c.args in ordering-starts a.token.now a.count a.order.now a.number.now c.requires.2)

@@ -15,8 +15,8 @@ returns-2 : tie.Need-returns-2
 unfolding renumbered atom_or
 returns-2 c = rw (lt-ltb c.before.before.args.token 16777216 c.before.if1.false)
 
-pub renumber-spec : {M : Type 1} → statement M
-renumber-spec =
+pub renumber_spec : {M : Type 1} → statement M
+renumber_spec =
     tie.close
     (tie.spec returns (λ c. search rules)
     (λ c. omega (arith, c.before.before.requires.0 c.before.if1.false))

@@ -11,8 +11,8 @@ invariant-loop number token count target₀ i₀ target i = Renumbering number t
 abbrev decreases-loop : tie.decreases-loop
 decreases-loop number token count target₀ i₀ target i = count - i
 
-pub renumber-all-spec : {M : Type 1} → statement M
-renumber-all-spec =
+pub renumber_all_spec : {M : Type 1} → statement M
+renumber_all_spec =
     tie.close
     (tie.spec invariant-loop decreases-loop
     (λ c. let a = c.before.before.before.args in renumbering-starts a.number.now a.token.now a.count a.target.now)

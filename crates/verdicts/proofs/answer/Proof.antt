@@ -9,5 +9,5 @@ use Rattle.verdicts.proofs.answer.Tie as tie
 slice-aggregate-evaluate : tie.Need-slice-aggregate-evaluate
 slice-aggregate-evaluate c = let s = c.before.before.before in sym (length-take-le s.args.count s.args.readings.now (omega arith))
 
-pub answer-spec : {M : Type 1} → statement M
-answer-spec = tie.close (tie.spec slice-aggregate-evaluate (λ c κs. search rules) (λ c κs. search rules) (λ c. search rules) (λ c. search rules) (λ c κs. search rules) (λ c κs. search rules) (λ c. search rules))
+pub answer_spec : {M : Type 1} → statement M
+answer_spec = tie.close (tie.spec slice-aggregate-evaluate (λ c κs. search rules) (λ c κs. search rules) (λ c. search rules) (λ c. search rules) (λ c κs. search rules) (λ c κs. search rules) (λ c. search rules))

@@ -273,9 +273,9 @@ why-meets {𝓤 = 𝓤} 𝓛 at_mem run 𝓣 explains fills gives =
     walk_Meets 𝓛 why.ended stayed (all_go 𝓛 at_mem run) (why.clauses 𝓛 at_mem run) (WpFn 𝓤 𝓛.H 𝓣.C 𝓣.Λ code.function)
     (WpFn-mono 𝓤 𝓛.H 𝓛.laws 𝓣 code.function) (why-walks 𝓛 at_mem run 𝓣.C 𝓣.Λ (fm_of 𝓤 𝓛.H 𝓛.laws 𝓣) explains fills gives)
 
-pub why-spec : {M : Type 1} → stated.statement M
+pub why_spec : {M : Type 1} → stated.statement M
 unfolding code.routine tables_of
-why-spec 𝓤 𝓛 𝓜 𝓡 =
+why_spec 𝓤 𝓛 𝓜 𝓡 =
     entered 𝓤 𝓛.H (triple_of 𝓛 why.signature (why.spec 𝓛 𝓜.mem 𝓡.run))
     (tables 𝓤 𝓛.H 𝓜 𝓡 code.env).C (tables 𝓤 𝓛.H 𝓜 𝓡 code.env).Λ #why code.function (code.unfolded 𝓤 𝓛.H 𝓜 𝓡)
     (why-meets 𝓛 𝓜.mem 𝓡.run (tables_of 𝓤 𝓛.H 𝓜 (tables 𝓤 𝓛.H 𝓜 𝓡 code.env))

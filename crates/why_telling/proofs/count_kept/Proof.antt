@@ -10,8 +10,8 @@ invariant-loop found kept₀ i₀ kept i = (i ≤ 255) × (kept ≤ i)
 abbrev decreases-loop : tie.decreases-loop
 decreases-loop found kept₀ i₀ kept i = 255 - i
 
-pub count-kept-spec : {M : Type 1} → statement M
-count-kept-spec =
+pub count_kept_spec : {M : Type 1} → statement M
+count_kept_spec =
     tie.close
     (tie.spec invariant-loop decreases-loop (λ c. search rules) (λ c. search rules) (λ c κs. search rules) (λ c κs. search rules) (λ c. search rules)
     (λ c. search rules)

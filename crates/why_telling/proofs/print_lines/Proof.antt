@@ -10,8 +10,8 @@ invariant-loop found coefficient token root i₀ i = Unit {0}
 abbrev decreases-loop : tie.decreases-loop
 decreases-loop found coefficient token root i₀ i = 255 - i
 
-pub print-lines-spec : {M : Type 1} → statement M
-print-lines-spec =
+pub print_lines_spec : {M : Type 1} → statement M
+print_lines_spec =
     tie.close
     (tie.spec invariant-loop decreases-loop (λ c. tt) (λ c. search rules) (λ c. search rules) (λ c κs. search rules) (λ c κs. search rules) (λ c. search rules)
     (λ c. tt) (λ c. search rules) (λ c. tt) (λ c. search rules) (λ c. tt) (λ c. tt))

@@ -10,8 +10,8 @@ invariant-loop places first₀ place₀ first place = Unit {0}
 abbrev decreases-loop : tie.decreases-loop
 decreases-loop places first₀ place₀ first place = 256 - place
 
-pub print-places-spec : {M : Type 1} → statement M
-print-places-spec =
+pub print_places_spec : {M : Type 1} → statement M
+print_places_spec =
     tie.close
     (tie.spec invariant-loop decreases-loop (λ c. tt) (λ c. search rules) (λ c κs. search rules) (λ c κs. search rules) (λ c. search rules) (λ c. tt)
     (λ c. search rules) (λ c. tt) (λ c. tt))

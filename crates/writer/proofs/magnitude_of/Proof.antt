@@ -3,8 +3,8 @@ use Rattle.writer.proofs.Signed.{long-fits, negation-fits, magnitude-below, magn
 use Rattle.writer.proofs.magnitude_of.Statement.{statement}
 use Rattle.writer.proofs.magnitude_of.Tie as tie
 
-pub magnitude-of-spec : {M : Type 1} → statement M
-magnitude-of-spec =
+pub magnitude_of_spec : {M : Type 1} → statement M
+magnitude_of_spec =
     tie.close
     (tie.spec (λ c. long-fits c.args.coefficient c.ranges.coefficient) (λ c. negation-fits c.before.args.coefficient c.before.ranges.coefficient)
     (λ c. (magnitude-below c.before.args.coefficient c.before.ranges.coefficient c.if1.true).0)

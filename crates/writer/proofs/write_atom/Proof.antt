@@ -5,8 +5,8 @@ use Rattle.writer.proofs.Writing.{wrote-both, room-first, room-second, two_runs,
 use Rattle.writer.proofs.write_atom.Statement.{statement}
 use Rattle.writer.proofs.write_atom.Tie as tie
 
-pub write-atom-spec : {M : Type 1} → statement M
-write-atom-spec =
+pub write_atom_spec : {M : Type 1} → statement M
+write_atom_spec =
     tie.close
     (tie.spec
     (λ c κs. (omega arith, room-first (atom-split _) c.before.before.requires))

@@ -7,8 +7,8 @@ use Rattle.bits.proofs.Fields.{length-field}
 use Rattle.writer.proofs.write_field.Statement.{statement}
 use Rattle.writer.proofs.write_field.Tie as tie
 
-pub write-field-spec : {M : Type 1} → statement M
-write-field-spec =
+pub write_field_spec : {M : Type 1} → statement M
+write_field_spec =
     tie.close
     (tie.spec (λ c κs. let s = c.before.before in (s.requires.0, omega (arith, s.requires.1.inside, length-field s.args.k s.args.v))) (λ c. search rules)
     (λ c. search rules)

@@ -5,8 +5,8 @@ use Rattle.writer.proofs.Writing.{wrote-both, room-first, room-second, two_runs,
 use Rattle.writer.proofs.write_head.Statement.{statement}
 use Rattle.writer.proofs.write_head.Tie as tie
 
-pub write-head-spec : {M : Type 1} → statement M
-write-head-spec =
+pub write_head_spec : {M : Type 1} → statement M
+write_head_spec =
     tie.close
     (tie.spec
     (λ c κs. let a = c.before.before.args in (

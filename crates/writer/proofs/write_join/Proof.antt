@@ -5,8 +5,8 @@ use Rattle.writer.proofs.Writing.{wrote-both, room-first, room-second, join-spli
 use Rattle.writer.proofs.write_join.Statement.{statement}
 use Rattle.writer.proofs.write_join.Tie as tie
 
-pub write-join-spec : {M : Type 1} → statement M
-write-join-spec =
+pub write_join_spec : {M : Type 1} → statement M
+write_join_spec =
     tie.close
     (tie.spec
     (λ c κs. (omega arith, room-first (join-split _ _) c.before.before.requires))

@@ -5,8 +5,8 @@ use Rattle.writer.proofs.Writing.{wrote-both, room-first, room-second, polynomia
 use Rattle.writer.proofs.write_polynomial.Statement.{statement}
 use Rattle.writer.proofs.write_polynomial.Tie as tie
 
-pub write-polynomial-spec : {M : Type 1} → statement M
-write-polynomial-spec =
+pub write_polynomial_spec : {M : Type 1} → statement M
+write_polynomial_spec =
     tie.close
     (tie.spec (λ c. search rules) (λ c. search rules)
     (λ c κs. let s = c.before.before.before.before.before in (omega arith, room-first (polynomial-split _ _ _ _ _ _) s.requires.5))

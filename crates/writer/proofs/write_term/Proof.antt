@@ -15,8 +15,8 @@ use Rattle.writer.proofs.write_term.Tie as tie
 back : (s : tie.Start) → to_z w32 (of_z w32 s.args.coefficient) ≡ s.args.coefficient
 back s = to_z-of_z w32 s.args.coefficient s.ranges.coefficient
 
-pub write-term-spec : {M : Type 1} → statement M
-write-term-spec =
+pub write_term_spec : {M : Type 1} → statement M
+write_term_spec =
     tie.close
     (tie.spec (λ c κs. search rules)
     (λ c κs. let s = c.before.before.before in (omega arith, room-first (term-split _ _ _ (c.minus-of.ensures ∙ ap minus_bit (back s)) refl) s.requires.1))

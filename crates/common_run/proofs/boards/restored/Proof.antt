@@ -24,8 +24,8 @@ returns c =
     let l = c.before.loop in
     (l.invariant.1.0, rw l.invariant.1.0 (restoring-last c.before.before.args.board.variables l.invariant.1.1 (omega arith)))
 
-pub restored-spec : {M : Type 1} → statement M
-restored-spec =
+pub restored_spec : {M : Type 1} → statement M
+restored_spec =
     tie.close
     (tie.spec invariant-loop decreases-loop (λ c. (omega arith, (refl, restoring-first _ _ (search rules)))) (λ c. omega (arith, c.before.before.requires))
     (λ c. omega (arith, c.before.before.requires, c.before.loop.invariant.0)) (λ c. omega (arith, c.before.before.requires, c.loop-test.true)) (λ c. omega (arith, c.before.loop-test.true))

@@ -18,8 +18,8 @@ loop-again c =
     let more = c.before.loop-test.true in
     (omega (arith, more), storing-next c.before.before.loop.invariant.1 (omega (arith, more, s.requires)))
 
-pub stored-spec : {M : Type 1} → statement M
-stored-spec =
+pub stored_spec : {M : Type 1} → statement M
+stored_spec =
     tie.close
     (tie.spec invariant-loop decreases-loop (λ c. (omega arith, storing-first _ _ _ (search rules))) (λ c. omega arith) (λ c. omega (arith, c.before.before.before.requires))
     (λ c. omega (arith, c.before.before.before.requires, c.before.before.loop.invariant.0)) (λ c. omega (arith, c.before.before.before.requires, c.before.loop-test.true))

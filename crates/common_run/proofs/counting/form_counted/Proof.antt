@@ -26,7 +26,7 @@ returns-2 c =
     let (forms, (remain, known)) = s.requires.0 in
     record { counts = c.before.by-common.ensures; known = known-left remain forms c.before.before.remade.ensures s.requires.1.0 s.requires.1.1 c.left2.ensures }
 
-pub form-counted-spec : {M : Type 1} → statement M
-form-counted-spec =
+pub form_counted_spec : {M : Type 1} → statement M
+form_counted_spec =
     tie.close
     (tie.spec (λ c κs. search rules) fresh-rounds-requires (λ c κs. search rules) returns (λ c κs. search rules) by-common-requires (λ c κs. search rules) returns-2)

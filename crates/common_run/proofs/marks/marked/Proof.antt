@@ -13,8 +13,8 @@ returns-3 c =
     let sixty-four : length s.args.t1.first ≡ 64 = search rules in
     marked-now _ _ _ _ _ (omega (arith, s.requires.0)) s.requires.1 (sym c.before.noted.ensures ∙ c.if2.false)
 
-pub marked-spec : {M : Type 1} → statement M
-marked-spec =
+pub marked_spec : {M : Type 1} → statement M
+marked_spec =
     tie.close
     (tie.spec (λ c. not-changed _ _ _ _ _ c.if1.true) (λ c. search rules) (λ c κs. search rules)
     (λ c. marked-before _ _ _ _ _ (sym c.before.noted.ensures ∙ c.if2.true)) (λ c. search rules) returns-3)

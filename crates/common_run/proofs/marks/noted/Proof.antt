@@ -4,8 +4,8 @@ use Rattle.common_run.proofs.Marking.{none-marked, some-marked}
 use Rattle.common_run.proofs.marks.noted.Statement.{statement}
 use Rattle.common_run.proofs.marks.noted.Tie as tie
 
-pub noted-spec : {M : Type 1} → statement M
-noted-spec =
+pub noted_spec : {M : Type 1} → statement M
+noted_spec =
     tie.close
     (tie.spec (λ c. rw c.if1.true (sym (none-marked c.before.args.round)))
     (λ c. sym (some-marked c.before.args.mark c.before.args.round c.if1.false)))

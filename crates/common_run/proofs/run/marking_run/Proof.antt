@@ -85,8 +85,8 @@ loop-again c =
     let same = sym (same-boards loop.stood c.before.before.before.before.before.before.before.before.before.before.turns-marking.result.board (m.turned.variables ∙ sym loop.invariant.0.variables) c.before.before.few.ensures c.before.same-sets.ensures) ∙ c.if2.false in
     (running-on loop.invariant.0 c.before.before.before.before.before.before.before.before.before.before.before.before.before.before.stored.ensures m same, (sixteen c.before.before.before.before.before.before.before.before.before.before, omega (arith, c.before.before.before.before.before.before.before.before.before.before.before.before.before.before.before.loop-test.true)))
 
-pub marking-run-spec : {M : Type 1} → statement M
-marking-run-spec =
+pub marking_run_spec : {M : Type 1} → statement M
+marking_run_spec =
     tie.close
     (tie.spec invariant-loop decreases-loop (λ c. search rules) (λ c κs. search rules) (λ c κs. search rules) (λ c κs. search rules) loop-holds (λ c. omega (arith, c.loop-test.true)) (λ c κs. c.loop-test.true)
     (λ c. omega (arith, c.before.loop-test.true)) (λ c κs. omega (arith, c.before.loop-test.true)) (λ c. omega (arith, c.before.before.before.loop-test.true)) (λ c. omega (arith, c.before.before.before.loop-test.true)) returns

@@ -14,5 +14,5 @@ search-board-requires c κs =
 returns : tie.Need-returns
 returns c e = nothing-found _ _ c.before.search-board.ensures.found (not-true _ e)
 
-pub no-pair-spec : {M : Type 1} → statement M
-no-pair-spec = tie.close (tie.spec search-board-requires returns)
+pub no_pair_spec : {M : Type 1} → statement M
+no_pair_spec = tie.close (tie.spec search-board-requires returns)

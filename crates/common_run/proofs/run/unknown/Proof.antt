@@ -4,5 +4,5 @@ use mathlib.Core.Bool.{false≢true}
 use Rattle.common_run.proofs.run.unknown.Statement.{statement}
 use Rattle.common_run.proofs.run.unknown.Tie as tie
 
-pub unknown-spec : {M : Type 1} → statement M
-unknown-spec = tie.close (tie.spec (λ c κs. search rules) (λ c κs. search rules) (λ c e. false≢true e))
+pub unknown_spec : {M : Type 1} → statement M
+unknown_spec = tie.close (tie.spec (λ c κs. search rules) (λ c κs. search rules) (λ c e. false≢true e))

@@ -4,5 +4,5 @@ use Rattle.common_run.proofs.Sole.{no-taker}
 use Rattle.common_run.proofs.takers.no_takers.Statement.{statement}
 use Rattle.common_run.proofs.takers.no_takers.Tie as tie
 
-pub no-takers-spec : {M : Type 1} → statement M
-no-takers-spec = tie.close (tie.spec (λ c. no-taker refl refl refl))
+pub no_takers_spec : {M : Type 1} → statement M
+no_takers_spec = tie.close (tie.spec (λ c. no-taker refl refl refl))

@@ -17,5 +17,5 @@ marked-requires c κs = (omega (arith, c.if2.false), c.before.before.requires)
 returns-3 : tie.Need-returns-3
 returns-3 c = sole-one _ _ _ c.before.before.if1.false c.marked.ensures
 
-pub sole-marked-spec : {M : Type 1} → statement M
-sole-marked-spec = tie.close (tie.spec returns returns-2 (λ c. search rules) marked-requires returns-3)
+pub sole_marked_spec : {M : Type 1} → statement M
+sole_marked_spec = tie.close (tie.spec returns returns-2 (λ c. search rules) marked-requires returns-3)

@@ -17,5 +17,5 @@ returns-3 c = its_own _ _ _ _ (omega arith) c.before.before.if1.false
 returns-4 : tie.Need-returns-4
 returns-4 c = of-several _ _ _ _ c.before.if2.false (λ e. c.if3.false (omega arith)) c.before.before.if1.false
 
-pub taker-spec : {M : Type 1} → statement M
-taker-spec = tie.close (tie.spec returns (λ c. search rules) (λ c. search rules) returns-2 returns-3 returns-4)
+pub taker_spec : {M : Type 1} → statement M
+taker_spec = tie.close (tie.spec returns (λ c. search rules) (λ c. search rules) returns-2 returns-3 returns-4)

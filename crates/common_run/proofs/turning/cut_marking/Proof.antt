@@ -47,8 +47,8 @@ returns c =
     let (ready, (low, some)) = s.requires in
     cut-marked s.args.marks (ready.forms.each_variable s.args.i low) l.invariant.1.0 l.invariant.1.1.0 l.invariant.1.1.1 c.needed-marked.ensures (omega arith) l.invariant.0
 
-pub cut-marking-spec : {M : Type 1} → statement M
-cut-marking-spec =
+pub cut_marking_spec : {M : Type 1} → statement M
+cut_marking_spec =
     tie.close
     (tie.spec invariant-loop decreases-loop (λ c κs. search rules) (λ c. search rules) (λ c κs. search rules) loop-holds
     (λ c. omega (arith, c.before.loop.invariant.1.0)) (λ c. omega arith) (λ c. omega (arith, c.before.before.loop.invariant.1.0, c.before.loop-test.true)) (λ c. omega (arith, c.before.before.before.before.before.before.before.before.before.before.requires.1.0, c.before.before.before.before.before.before.before.before.before.before.requires.0.forms.variables))

@@ -41,8 +41,8 @@ returns-3 c =
     turn-cuts (table s) s.args.atoms s.args.t5 refl s.args.i (place s) c.before.before.before.before.before.before.before.cut-marking.ensures (omega (arith, long, ready.forms.variables, s.requires.1.0))
     (rw c.before.before.sign-list.ensures (list-ready _ s.args.atoms _ ready.forms refl ready.places))
 
-pub turn-marking-spec : {M : Type 1} → statement M
-turn-marking-spec =
+pub turn_marking_spec : {M : Type 1} → statement M
+turn_marking_spec =
     tie.close
     (tie.spec (λ c. search rules) (λ c. search rules) returns (λ c κs. search rules) (λ c. search rules) returns-2 (λ c. search rules) (λ c κs. search rules)
     (λ c. search rules) returns-3)

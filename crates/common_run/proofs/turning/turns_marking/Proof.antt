@@ -40,7 +40,7 @@ loop-again c =
 returns : tie.Need-returns invariant-loop decreases-loop
 returns c = turnings-last c.before.loop.invariant.1.1 c.loop-test.false
 
-pub turns-marking-spec : {M : Type 1} → statement M
-turns-marking-spec =
+pub turns_marking_spec : {M : Type 1} → statement M
+turns_marking_spec =
     tie.close
     (tie.spec invariant-loop decreases-loop loop-holds turn-marking-requires (λ c. omega arith) (λ c. omega arith) loop-again (λ c. c.before.loop.invariant.0) returns)

@@ -11,5 +11,5 @@ returns c = record { whole = λ e. refl; fewer = λ e. absurd (false≢true (sym
 returns-2 : tie.Need-returns-2
 returns-2 c = record { whole = λ e. absurd (false≢true (sym c.before.before.if1.false ∙ e)); fewer = λ e. refl }
 
-pub mark-of-spec : {M : Type 1} → statement M
-mark-of-spec = tie.close (tie.spec (λ c. search rules) returns (λ c. search rules) returns-2)
+pub mark_of_spec : {M : Type 1} → statement M
+mark_of_spec = tie.close (tie.spec (λ c. search rules) returns (λ c. search rules) returns-2)

@@ -5,8 +5,8 @@ use Rattle.common_run.proofs.Knowing.{mark-zero, mark-above}
 use Rattle.common_run.proofs.without.shared.Statement.{statement}
 use Rattle.common_run.proofs.without.shared.Tie as tie
 
-pub shared-spec : {M : Type 1} → statement M
-shared-spec =
+pub shared_spec : {M : Type 1} → statement M
+shared_spec =
     tie.close
     (tie.spec (λ c. omega (arith, c.before.requires)) (λ c. (omega (arith, c.before.requires), mark-zero _ c.if1.true)) (λ c. omega (arith, c.before.before.requires))
     (λ c. (omega (arith, c.before.before.requires), mark-above _ _ (omega (arith, c.if2.true, c.before.before.requires)))) (λ c. search rules)

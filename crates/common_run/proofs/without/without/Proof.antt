@@ -54,7 +54,7 @@ returns-2 c =
     let from-there = turned ∙ ap (turned_rounds s.args.variables first.atoms (enough first)) (sets-are c.before.before) in
     c.turned-largest.ensures ∙ ap (λ (k : ℕ). max s.args.largest (shared.result + k)) from-there ∙ ap (max s.args.largest) (sym onward)
 
-pub without-spec : {M : Type 1} → statement M
-without-spec =
+pub without_spec : {M : Type 1} → statement M
+without_spec =
     tie.close
     (tie.spec (λ c κs. search rules) (λ c κs. search rules) (λ c κs. search rules) returns (λ c κs. c.before.before.before.before.before.requires.1.1.run.ran.some) (λ c κs. search rules) (λ c κs. omega (arith, c.before.before.before.before.shared.ensures.0, c.before.before.before.before.before.before.before.before.before.before.requires.1.1.run.ran.most)) turned-largest-requires returns-2)

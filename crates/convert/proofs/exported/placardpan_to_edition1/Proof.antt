@@ -14,5 +14,5 @@ returns c =
     let told = c.before.before.before.to-edition1.ensures in
     (c.number_in.ensures ∙ number-returned edition1 told, told.output)
 
-pub placardpan-to-edition1-spec : {M : Type 1} → statement M
-placardpan-to-edition1-spec = tie.close (tie.spec (λ c κs. search rules) number-in-requires (λ c. search rules) returns)
+pub placardpan_to_edition1_spec : {M : Type 1} → statement M
+placardpan_to_edition1_spec = tie.close (tie.spec (λ c κs. search rules) number-in-requires (λ c. search rules) returns)

@@ -14,5 +14,5 @@ returns c =
     let told = c.before.before.before.to-edition2.ensures in
     (c.number_in.ensures ∙ number-returned edition2 told, told.output)
 
-pub placardpan-to-edition2-spec : {M : Type 1} → statement M
-placardpan-to-edition2-spec = tie.close (tie.spec (λ c κs. search rules) number-in-requires (λ c. search rules) returns)
+pub placardpan_to_edition2_spec : {M : Type 1} → statement M
+placardpan_to_edition2_spec = tie.close (tie.spec (λ c κs. search rules) number-in-requires (λ c. search rules) returns)

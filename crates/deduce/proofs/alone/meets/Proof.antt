@@ -24,8 +24,8 @@ loop-again c = sym (met-later _ _ _ _ (omega arith) c.if1.false) ∙ c.before.be
 returns-2 : tie.Need-returns-2 invariant-loop decreases-loop
 returns-2 c = sym (met-nowhere _ _ _ _ (omega arith)) ∙ c.before.loop.invariant
 
-pub meets-spec : {M : Type 1} → statement M
-meets-spec =
+pub meets_spec : {M : Type 1} → statement M
+meets_spec =
     tie.close
     (tie.spec invariant-loop decreases-loop (λ c. refl) (λ c. omega arith) (λ c. search rules)
     (λ c. omega arith) returns (λ c. omega arith) loop-again returns-2)

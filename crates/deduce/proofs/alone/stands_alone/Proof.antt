@@ -41,8 +41,8 @@ returns-4 c =
     let filled = not_zero {z = get_or s.coefficient.now s.p.from (pos 0)} (record { sfits = fits }) c.before.before.if3.false in
     simp (eq-eqb _ 1 d.before.before.before.if1.false, asks, filled) (ap not c.meets.ensures)
 
-pub stands-alone-spec : {M : Type 1} → statement M
-stands-alone-spec =
+pub stands_alone_spec : {M : Type 1} → statement M
+stands_alone_spec =
     tie.close
     (tie.spec (λ c. omega arith) returns (λ c. omega arith) (λ c κs. search rules) returns-2 (λ c. omega arith) (λ c. omega arith) returns-3
     (λ c. omega arith) (λ c. omega arith) (λ c κs. search rules) returns-4)

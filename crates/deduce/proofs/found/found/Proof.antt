@@ -117,8 +117,8 @@ returns-4 c =
     let k : a.q.to ≤ l.j = omega arith in
     record { found = λ s t. c.finding.ensures ∙ ap (found_from _) (sym (of_none _ _ _ _ _ _ _ _ h k) ∙ l.invariant.rest s t) }
 
-pub found-spec : {M : Type 1} → statement M
-found-spec =
+pub found_spec : {M : Type 1} → statement M
+found_spec =
     tie.close
     (tie.spec invariant-loop decreases-loop loop-holds (λ c. omega arith) (λ c. omega arith) (λ c κs. search rules) (λ c κs. search rules) (λ c κs. search rules)
     found-at-zero-requires returns found-at-requires returns-2 (λ c κs. search rules) (λ c κs. search rules) returns-3

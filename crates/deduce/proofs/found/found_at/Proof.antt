@@ -58,8 +58,8 @@ returns-2 c =
 returns-3 : tie.Need-returns-3 invariant-loop decreases-loop
 returns-3 c = last_done c.before.before.loop.invariant c.before.before.before.before.before.requires.1.1 (omega arith) (omega arith) c.found.ensures
 
-pub found-at-spec : {M : Type 1} → statement M
-found-at-spec =
+pub found_at_spec : {M : Type 1} → statement M
+found_at_spec =
     tie.close
     (tie.spec invariant-loop decreases-loop (λ c. record { first = omega arith; second = omega arith; t = refl; rest = λ s t k e. refl }) (λ c. omega arith) (λ c. omega arith)
     (λ c κs. search rules) (λ c κs. search rules) (λ c κs. search rules) returns (λ c κs. search rules) (λ c κs. search rules) returns-2 (λ c. omega arith)

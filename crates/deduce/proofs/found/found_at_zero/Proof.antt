@@ -52,8 +52,8 @@ returns-2 c =
 returns-3 : tie.Need-returns-3 invariant-loop decreases-loop
 returns-3 c = zero-done c.before.before.loop.invariant c.before.before.before.before.requires.1 (omega arith) c.found.ensures
 
-pub found-at-zero-spec : {M : Type 1} → statement M
-found-at-zero-spec =
+pub found_at_zero_spec : {M : Type 1} → statement M
+found_at_zero_spec =
     tie.close
     (tie.spec invariant-loop decreases-loop (λ c. record { on = le_refl _; t = refl; rest = λ s k q z. refl }) (λ c. omega arith) (λ c. omega arith) (λ c. omega arith) (λ c. omega arith)
     (λ c κs. search rules) (λ c κs. search rules) returns (λ c κs. search rules) (λ c κs. search rules) returns-2 (λ c. omega arith)

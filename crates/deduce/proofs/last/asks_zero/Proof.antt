@@ -3,5 +3,5 @@ use Rattle.deduce.proofs.SignSets.{zero-asked, zero-asked-from}
 use Rattle.deduce.proofs.last.asks_zero.Statement.{statement}
 use Rattle.deduce.proofs.last.asks_zero.Tie as tie
 
-pub asks-zero-spec : {M : Type 1} → statement M
-asks-zero-spec = tie.close (tie.spec (λ c. zero-asked _ c.if1.true) (λ c. zero-asked-from _ c.if1.false))
+pub asks_zero_spec : {M : Type 1} → statement M
+asks_zero_spec = tie.close (tie.spec (λ c. zero-asked _ c.if1.true) (λ c. zero-asked-from _ c.if1.false))

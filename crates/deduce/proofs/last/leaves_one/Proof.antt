@@ -4,8 +4,8 @@ use Rattle.interval.specs.Coefficients.{is-zero, not_zero}
 use Rattle.deduce.proofs.last.leaves_one.Statement.{statement}
 use Rattle.deduce.proofs.last.leaves_one.Tie as tie
 
-pub leaves-one-spec : {M : Type 1} → statement M
-leaves-one-spec =
+pub leaves_one_spec : {M : Type 1} → statement M
+leaves_one_spec =
     tie.close
     (tie.spec (λ c κs. search rules) (λ c. rw (is-zero c.before.ranges.b c.if1.true))
     (λ c. rw (not_zero c.before.before.ranges.b c.before.if1.false) c.asks-zero.ensures))

@@ -4,8 +4,8 @@ use borrow.Author.Tests.{eq-eqb, ne_eqb}
 use Rattle.deduce.proofs.last.rules_out.Statement.{statement}
 use Rattle.deduce.proofs.last.rules_out.Tie as tie
 
-pub rules-out-spec : {M : Type 1} → statement M
-rules-out-spec =
+pub rules_out_spec : {M : Type 1} → statement M
+rules_out_spec =
     tie.close
     (tie.spec (λ c κs. search rules) (λ c. rw (eq-eqb _ _ c.if1.true))
     (λ c. rw (ne_eqb _ _ c.before.if1.false) c.asks-zero.ensures))

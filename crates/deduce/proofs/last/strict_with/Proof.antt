@@ -4,8 +4,8 @@ use mathlib.Core.Path.{sym, ◌∙◌}
 use Rattle.deduce.proofs.last.strict_with.Statement.{statement}
 use Rattle.deduce.proofs.last.strict_with.Tie as tie
 
-pub strict-with-spec : {M : Type 1} → statement M
-strict-with-spec =
+pub strict_with_spec : {M : Type 1} → statement M
+strict_with_spec =
     tie.close
     (tie.spec (λ c. search rules) (λ c κs. search rules)
     (λ c. let d = c.before.before.before in simp (d.if1.false, sym c.before.before.is-strict.ensures ∙ c.before.if2.true))

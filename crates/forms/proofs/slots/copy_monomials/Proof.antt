@@ -27,8 +27,8 @@ returns c =
     let a = c.before.before.args in
     sym (stores-end 0 (λ j. j) (λ j x. get_or a.source.now j 0) l.target l.i a.count (omega arith)) ∙ l.invariant.1
 
-pub copy-monomials-spec : {M : Type 1} → statement M
-copy-monomials-spec =
+pub copy_monomials_spec : {M : Type 1} → statement M
+copy_monomials_spec =
     tie.close
     (tie.spec invariant-loop decreases-loop (λ c. (refl, refl)) (λ c. omega arith) (λ c. omega arith) (λ c. omega arith) (λ c. omega arith) (λ c. omega arith)
     (λ c. omega arith) loop-again

@@ -13,5 +13,5 @@ returns-2 : tie.Need-returns-2
 unfolding is_own
 returns-2 c = rw (le-ltb _ _ c.if1.false)
 
-pub is-own-spec : {M : Type 1} → statement M
-is-own-spec = tie.close (tie.spec (λ c. search rules) (λ c κs. search rules) returns returns-2)
+pub is_own_spec : {M : Type 1} → statement M
+is_own_spec = tie.close (tie.spec (λ c. search rules) (λ c κs. search rules) returns returns-2)

@@ -62,8 +62,8 @@ returns c =
       sym (stores-end false (λ j. j) (λ j x. slot_turned a.coefficient.now a.terms.now j) l.turned l.i a.polynomials (omega arith)) ∙ l.invariant.3,
     )
 
-pub normalize-all-spec : {M : Type 1} → statement M
-normalize-all-spec =
+pub normalize_all_spec : {M : Type 1} → statement M
+normalize_all_spec =
     tie.close
     (tie.spec invariant-loop decreases-loop (λ c. (refl, refl, simp sub-zero, refl)) (λ c. omega arith) (λ c. omega arith) (λ c κs. search rules)
     (λ c. omega (arith, count-few c)) normalize-requires

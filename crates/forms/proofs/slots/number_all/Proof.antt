@@ -38,8 +38,8 @@ returns c =
     let a = c.before.before.before.before.before.args in
     sym (stores-end 0 (λ j. j) (λ j x. number_of a.coefficient.now a.monomial.now a.terms.now j) l.number l.i a.polynomials (omega arith)) ∙ l.invariant.1
 
-pub number-all-spec : {M : Type 1} → statement M
-number-all-spec =
+pub number_all_spec : {M : Type 1} → statement M
+number_all_spec =
     tie.close
     (tie.spec invariant-loop decreases-loop (λ c. (refl, refl)) (λ c κs. search rules) cast-number (λ c. omega arith) (λ c. omega arith) (λ c. omega arith) loop-again
     (λ c. c.before.loop.invariant.0) returns)

@@ -49,8 +49,8 @@ returns c =
       sym (stores-end 0 (λ j. 64 + j) (λ j x. 1) l.terms l.i n (omega arith)) ∙ l.invariant.6,
     )
 
-pub put-variables-spec : {M : Type 1} → statement M
-put-variables-spec =
+pub put_variables_spec : {M : Type 1} → statement M
+put_variables_spec =
     tie.close
     (tie.spec invariant-loop decreases-loop (λ c. (omega arith, refl, refl, refl, refl, refl, refl)) (λ c. omega arith) (λ c. omega arith) (λ c. omega arith) (λ c. omega arith)
     (λ c. omega arith)

@@ -31,7 +31,7 @@ returns-2 c =
     (terms_from a.coefficient.now a.monomial.now (16 * a.second) n))
     count (count ∙ c.before.before.if1.false)
 
-pub same-form-spec : {M : Type 1} → statement M
-same-form-spec =
+pub same_form_spec : {M : Type 1} → statement M
+same_form_spec =
     tie.close
     (tie.spec (λ c. search rules) (λ c. search rules) returns (λ c. search rules) (λ c. search rules) (λ c κs. search rules) same-terms-requires returns-2)

@@ -16,8 +16,8 @@ returns-2 c =
     let l = a.coefficient.now in
     simp (eq-eqb _ _ c.before.before.if1.false) (same_bits (get_or l a.first (pos 0)) (get_or l a.second (pos 0)) c.before.c.given c.d.given)
 
-pub same-term-spec : {M : Type 1} → statement M
-same-term-spec =
+pub same_term_spec : {M : Type 1} → statement M
+same_term_spec =
     tie.close
     (tie.spec (λ c. search rules) (λ c. search rules) (λ c. search rules) (λ c. search rules) returns (λ c. search rules) (λ c. search rules)
     (λ c. search rules) (λ c. search rules) returns-2)

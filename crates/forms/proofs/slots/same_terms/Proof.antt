@@ -37,8 +37,8 @@ returns-2 c =
     let a = c.before.before.before.args in
     same_end a.coefficient.now a.monomial.now a.first a.second l.i a.count (omega arith) ∙ l.invariant
 
-pub same-terms-spec : {M : Type 1} → statement M
-same-terms-spec =
+pub same_terms_spec : {M : Type 1} → statement M
+same_terms_spec =
     tie.close
     (tie.spec invariant-loop decreases-loop (λ c. simp (add-zero, sub-zero)) (λ c. omega arith) (λ c. omega arith) (λ c κs. omega arith) returns (λ c. omega arith) (λ c. omega arith)
     loop-again returns-2)

@@ -28,8 +28,8 @@ returns-3 c = rw (c.found-in-both3.ensures, c.before.match.keys3)
 returns-4 : tie.Need-returns-4
 returns-4 c = let m = c.match.rest in allowed-none _ _ _ _ m.0.0.1 m.0.1 m.1
 
-pub finding-spec : {M : Type 1} → statement M
-finding-spec =
+pub finding_spec : {M : Type 1} → statement M
+finding_spec =
     tie.close
     (tie.spec (λ c κs. search rules) (λ c κs. search rules) (λ c κs. search rules) (λ c κs. search rules) (λ c κs. search rules) (λ c κs. search rules)
     (λ c κs. search rules) returns returns-2 returns-3 returns-4)

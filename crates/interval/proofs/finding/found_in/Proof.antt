@@ -31,7 +31,7 @@ returns-3 c =
     let d = c.before.before.before.before.before in
     simp (sym d.before.has-t.ensures ∙ not-false _ d.if1.false, sym (strict-is c.before) ∙ c.if2.false)
 
-pub found-in-spec : {M : Type 1} → statement M
-found-in-spec =
+pub found_in_spec : {M : Type 1} → statement M
+found_in_spec =
     tie.close
     (tie.spec (λ c κs. search rules) returns (λ c κs. search rules) (λ c κs. search rules) (λ c κs. search rules) (λ c κs. search rules) returns-2 returns-3)

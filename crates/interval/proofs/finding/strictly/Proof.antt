@@ -12,5 +12,5 @@ returns c = rw c.if1.true (sym (or-true (c.before.args.q && c.before.args.other)
 returns-2 : tie.Need-returns-2
 returns-2 c = rw (c.before.if1.false, c.if2.true) (sym (or-false c.before.before.args.other))
 
-pub strictly-spec : {M : Type 1} → statement M
-strictly-spec = tie.close (tie.spec returns returns-2 (λ c. search rules))
+pub strictly_spec : {M : Type 1} → statement M
+strictly_spec = tie.close (tie.spec returns returns-2 (λ c. search rules))

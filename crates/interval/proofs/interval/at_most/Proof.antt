@@ -35,8 +35,8 @@ in-order c e h =
     (not_zero f.b c.before.before.before.if1.false) (not_zero f.d c.before.before.if2.false)
     (rw (back f.b) at e) (rw (back f.d) at h))
 
-pub at-most-spec : {M : Type 1} → statement M
-at-most-spec =
+pub at_most_spec : {M : Type 1} → statement M
+at_most_spec =
     tie.close
     (tie.spec returns returns-2 (λ c κs. search rules) (λ c κs. search rules) (λ c. in-order c.before.before c.before.if3.true c.if4.true)
     (λ c. in-order c.before.before c.before.if3.true c.if4.false) (λ c. in-order c.before.before c.before.if3.false c.if5.true)

@@ -23,5 +23,5 @@ returns-3 c =
     rw (c.at-most.ensures, back f.c, back f.d, back f.a, back f.b)
     (sym (below_other s.args.a s.args.b s.args.c s.args.d (not_zero f.b c.before.before.if1.false) (not_zero f.d c.before.if2.false)))
 
-pub below-spec : {M : Type 1} → statement M
-below-spec = tie.close (tie.spec returns returns-2 (λ c κs. search rules) returns-3)
+pub below_spec : {M : Type 1} → statement M
+below_spec = tie.close (tie.spec returns returns-2 (λ c κs. search rules) returns-3)

@@ -16,6 +16,6 @@ mul-result c =
     let f = c.ranges in
     rw (back f.a, back f.b, to_z-of_z w64 _ (widened f.a), to_z-of_z w64 _ (widened f.b)) (product-fits f.a f.b)
 
-pub cross-spec : {M : Type 1} → statement M
-cross-spec =
+pub cross_spec : {M : Type 1} → statement M
+cross_spec =
     tie.close (tie.spec (λ c. rw (back c.ranges.a) (widened c.ranges.a)) (λ c. rw (back c.ranges.b) (widened c.ranges.b)) mul-result returns)

@@ -26,5 +26,5 @@ returns-3 c =
     let y = to_z-of_z w64 _ s.ranges.y in
     between-below s.args.x s.args.y (rw (x, y) at c.if1.false)
 
-pub sign-between-spec : {M : Type 1} → statement M
-sign-between-spec = tie.close (tie.spec returns returns-2 returns-3)
+pub sign_between_spec : {M : Type 1} → statement M
+sign_between_spec = tie.close (tie.spec returns returns-2 returns-3)

@@ -20,5 +20,5 @@ returns c =
     )
     (ap not (zero-sign _))
 
-pub apart-spec : {M : Type 1} → statement M
-apart-spec = tie.close (tie.spec (λ c κs. search rules) (λ c κs. search rules) (λ c κs. search rules) returns)
+pub apart_spec : {M : Type 1} → statement M
+apart_spec = tie.close (tie.spec (λ c κs. search rules) (λ c κs. search rules) (λ c κs. search rules) returns)

@@ -14,8 +14,8 @@ invariant-loop token at place₀ due₀ place due = (d : ℕ) (kids : Forest) (r
 abbrev decreases-loop : tie.decreases-loop
 decreases-loop token at place₀ due₀ place due = length token - place
 
-pub skip-spec : {M : Type 1} → statement M
-skip-spec =
+pub skip_spec : {M : Type 1} → statement M
+skip_spec =
     tie.close
     (tie.spec
     invariant-loop

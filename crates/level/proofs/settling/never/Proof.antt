@@ -14,5 +14,5 @@ returns c list = record {
   lies = stored c.args.ors.now 0 0 c.requires [] (record { is = refl; size = refl });
 }
 
-pub never-spec : {M : Type 1} → statement M
-never-spec = tie.close (tie.spec (λ c. c.requires) (λ c. length-set c.args.ors.now 0 0) returns)
+pub never_spec : {M : Type 1} → statement M
+never_spec = tie.close (tie.spec (λ c. c.requires) (λ c. length-set c.args.ors.now 0 0) returns)

@@ -49,8 +49,8 @@ again c =
 returns : tie.Need-returns invariant-loop decreases-loop
 returns c l children h k = stage-end (c.before.before.loop.invariant.1.1 l children h k) (not-false _ c.if1.false)
 
-pub settle-spec : {M : Type 1} → statement M
-settle-spec =
+pub settle_spec : {M : Type 1} → statement M
+settle_spec =
     tie.close
     (tie.spec invariant-loop decreases-loop (λ c. (refl, (refl, λ l children h k. stage-start _ l children h k))) turn-requires less again
     (λ c. c.before.before.loop.invariant.0) (λ c. c.before.before.loop.invariant.1.0) returns)

@@ -14,5 +14,5 @@ one c = (rw (eq-eqb _ _ c.if1.true) (record { is = refl; size = refl }), omega a
 more : tie.Need-returns-2
 more c = (rw (ne_eqb _ _ c.if1.false) (stored c.before.args.out.now 0 _ c.before.requires.1 [] (record { is = refl; size = refl })), omega arith)
 
-pub opened-spec : {M : Type 1} → statement M
-opened-spec = tie.close (tie.spec one (λ c. search rules) (λ c. search rules) (λ c. search rules) more)
+pub opened_spec : {M : Type 1} → statement M
+opened_spec = tie.close (tie.spec one (λ c. search rules) (λ c. search rules) (λ c. search rules) more)

@@ -4,8 +4,8 @@ use borrow.Author.Tests.{eq-eqb, ne_eqb}
 use Rattle.level.proofs.writing.root_of.Statement.{statement}
 use Rattle.level.proofs.writing.root_of.Tie as tie
 
-pub root-of-spec : {M : Type 1} → statement M
-root-of-spec =
+pub root_of_spec : {M : Type 1} → statement M
+root_of_spec =
     tie.close
     (tie.spec (λ c. rw (eq-eqb _ _ c.before.if1.true, eq-eqb _ _ c.if2.true)) (λ c. rw (eq-eqb _ _ c.before.before.if1.true, ne_eqb _ _ c.before.if2.false, c.if3.true))
     (λ c. rw (eq-eqb _ _ c.before.before.if1.true, ne_eqb _ _ c.before.if2.false, c.if3.false)) (λ c. rw (ne_eqb _ _ c.before.if1.false, c.if4.true)) (λ c. rw (ne_eqb _ _ c.before.if1.false, c.if4.false)))

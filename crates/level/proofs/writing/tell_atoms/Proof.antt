@@ -44,8 +44,8 @@ returns c k l m p q h =
     let f : loop.place ≡ args.n + (args.to - args.from) = omega arith in
     counted (rw e at (loop.invariant.1.1.1.1 k l m p q h)) f
 
-pub tell-atoms-spec : {M : Type 1} → statement M
-tell-atoms-spec =
+pub tell_atoms_spec : {M : Type 1} → statement M
+tell_atoms_spec =
     tie.close
     (tie.spec invariant-loop decreases-loop (λ c. (omega arith, (omega arith, (refl, (refl, λ k l m p q h. tell-start c.before.before.args.conjunction m c.before.before.args.from p))))) (λ c. omega arith) (λ c. omega arith)
     (λ c κs. tt) (λ c. omega arith) (λ c. omega arith) (λ c. omega arith) (λ c. omega arith) (λ c. omega arith) loop-again (λ c. c.before.loop.invariant.1.1.1.0) returns)

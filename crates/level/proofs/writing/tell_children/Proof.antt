@@ -80,8 +80,8 @@ again c =
 returns : tie.Need-returns invariant-loop decreases-loop
 returns c children b l lies heads lists = told-end (c.before.loop.invariant.1.1.1.1 children b l lies heads lists) (omega (arith, lies.size, c.loop-test.false))
 
-pub tell-children-spec : {M : Type 1} → statement M
-tell-children-spec =
+pub tell_children_spec : {M : Type 1} → statement M
+tell_children_spec =
     tie.close
     (tie.spec invariant-loop decreases-loop (λ c. (omega arith, (omega arith, (refl, (refl, λ children b l lies heads lists. told-start children b l _ _ heads lists)))))
     (λ c. omega arith) (λ c. omega (arith, c.before.loop-test.true, c.before.before.loop.invariant.1.0, c.before.before.before.before.before.before.requires.1.1.1.fits, c.before.before.before.before.before.before.requires.1.0)) (λ c κs. tt) (λ c κs. tt)

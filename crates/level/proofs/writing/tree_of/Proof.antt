@@ -60,8 +60,8 @@ returns c t kids s =
     shown-tree s _ (start.args.level.atoms.count + mark.result) (omega (arith, s.lists.size, m.count)) start.requires.0 _
     (c.before.before.before.tell-children.ensures s.children _ _ s.lies m.heads (counted with-atoms (omega arith))) c.root-of.ensures
 
-pub tree-of-spec : {M : Type 1} → statement M
-tree-of-spec =
+pub tree_of_spec : {M : Type 1} → statement M
+tree_of_spec =
     tie.close
     (tie.spec (λ c. search rules) (λ c. search rules) mark-requires (λ c. search rules) (λ c. search rules) (λ c. search rules) (λ c κs. search rules) (λ c. search rules) (λ c. search rules) tell-atoms-requires
     (λ c. search rules) (λ c. search rules) (λ c. search rules) (λ c. search rules) tell-children-requires (λ c κs. search rules) returns)

@@ -29,5 +29,5 @@ returns-2 c =
       subst (λ (k : ℕ). k ≤ 161) (sym counted.rounds) (at-most-161 (length a.output.now) a.input.now),
     )
 
-pub with-rounds-spec : {M : Type 1} → statement M
-with-rounds-spec = tie.close (tie.spec returns (λ c. search rules) (λ c κs. search rules) (λ c. search rules) returns-2)
+pub with_rounds_spec : {M : Type 1} → statement M
+with_rounds_spec = tie.close (tie.spec returns (λ c. search rules) (λ c κs. search rules) (λ c. search rules) returns-2)

@@ -14,5 +14,5 @@ packed-requires c κs = subst (λ (a : Answer). length_in a < 65536) c.before.an
 returns-2 : tie.Need-returns-2
 returns-2 c = c.packed.ensures ∙ sym (ap number_in c.before.before.answer2.given.1)
 
-pub number-in-spec : {M : Type 1} → statement M
-number-in-spec = tie.close (tie.spec (λ c. search rules) (λ c. search rules) (λ c. search rules) packed-requires (λ c. search rules) returns-2)
+pub number_in_spec : {M : Type 1} → statement M
+number_in_spec = tie.close (tie.spec (λ c. search rules) (λ c. search rules) (λ c. search rules) packed-requires (λ c. search rules) returns-2)

@@ -15,8 +15,8 @@ returns-2 c = sym (ap (λ (v : Verdict). packed_of v c.before.before.args.size) 
 returns-3 : tie.Need-returns-3
 returns-3 c = sym (ap (λ (v : Verdict). packed_of v c.before.before.args.size) c.enum-told3.given.1)
 
-pub packed-spec : {M : Type 1} → statement M
-packed-spec =
+pub packed_spec : {M : Type 1} → statement M
+packed_spec =
     tie.close
     (tie.spec (λ c. search rules) (λ c. search rules) (λ c. search rules) (λ c. search rules) (λ c. search rules) (λ c. search rules)
     (λ c. search rules) (λ c. search rules) (λ c. search rules) returns returns-2 returns-3)

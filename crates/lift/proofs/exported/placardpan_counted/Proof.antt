@@ -23,5 +23,5 @@ returns c =
       ap (λ (k : Counts). k.polynomials_out) counts,
     )
 
-pub placardpan-counted-spec : {M : Type 1} → statement M
-placardpan-counted-spec = tie.close (tie.spec (λ c κs. search rules) (λ c κs. search rules) number-in-requires (λ c. search rules) returns)
+pub placardpan_counted_spec : {M : Type 1} → statement M
+placardpan_counted_spec = tie.close (tie.spec (λ c κs. search rules) (λ c κs. search rules) number-in-requires (λ c. search rules) returns)

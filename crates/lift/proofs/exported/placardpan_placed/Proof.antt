@@ -13,5 +13,5 @@ returns c =
     let answers = c.before.before.before.before.before.placed.ensures.0 in
     (c.number_in.ensures ∙ placed-number answers, answers.output, answers.places)
 
-pub placardpan-placed-spec : {M : Type 1} → statement M
-placardpan-placed-spec = tie.close (tie.spec (λ c κs. search rules) number-in-requires (λ c. search rules) (λ c. search rules) returns)
+pub placardpan_placed_spec : {M : Type 1} → statement M
+placardpan_placed_spec = tie.close (tie.spec (λ c κs. search rules) number-in-requires (λ c. search rules) (λ c. search rules) returns)

@@ -13,5 +13,5 @@ returns c =
     let known = c.before.before.before.with-rounds.ensures.0 in
     (c.number_in.ensures ∙ number-exported known.answers, known.answers.output, known.rounds)
 
-pub placardpan-rounds-spec : {M : Type 1} → statement M
-placardpan-rounds-spec = tie.close (tie.spec (λ c κs. search rules) number-in-requires (λ c. search rules) returns)
+pub placardpan_rounds_spec : {M : Type 1} → statement M
+placardpan_rounds_spec = tie.close (tie.spec (λ c κs. search rules) number-in-requires (λ c. search rules) returns)

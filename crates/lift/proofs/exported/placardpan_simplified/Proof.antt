@@ -10,5 +10,5 @@ returns c =
     let answers = c.before.before.before.simplify.ensures.0 in
     (c.length-in.ensures ∙ part_length answers, answers.output)
 
-pub placardpan-simplified-spec : {M : Type 1} → statement M
-placardpan-simplified-spec = tie.close (tie.spec (λ c κs. search rules) (λ c κs. search rules) (λ c. search rules) returns)
+pub placardpan_simplified_spec : {M : Type 1} → statement M
+placardpan_simplified_spec = tie.close (tie.spec (λ c κs. search rules) (λ c κs. search rules) (λ c. search rules) returns)

@@ -13,5 +13,5 @@ returns c =
     let answers = c.before.before.before.simplify-by.ensures.0 in
     (c.number_in.ensures ∙ number-exported answers, answers.output)
 
-pub placardpan-simplify-by-spec : {M : Type 1} → statement M
-placardpan-simplify-by-spec = tie.close (tie.spec (λ c κs. search rules) number-in-requires (λ c. search rules) returns)
+pub placardpan_simplify_by_spec : {M : Type 1} → statement M
+placardpan_simplify_by_spec = tie.close (tie.spec (λ c κs. search rules) number-in-requires (λ c. search rules) returns)

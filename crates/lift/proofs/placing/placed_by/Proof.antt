@@ -36,5 +36,5 @@ returns-3 c =
       places-tell a.input.now,
     )
 
-pub placed-by-spec : {M : Type 1} → statement M
-placed-by-spec = tie.close (tie.spec returns returns-2 (λ c κs. search rules) (λ c. search rules) (λ c. search rules) returns-3)
+pub placed_by_spec : {M : Type 1} → statement M
+placed_by_spec = tie.close (tie.spec returns returns-2 (λ c κs. search rules) (λ c. search rules) (λ c. search rules) returns-3)

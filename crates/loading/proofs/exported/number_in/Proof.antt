@@ -11,5 +11,5 @@ above-requires c κs = subst Short c.before.answer2.given.1 c.before.before.befo
 returns-2 : tie.Need-returns-2
 returns-2 c = c.above.ensures ∙ sym (ap number_of c.before.before.answer2.given.1)
 
-pub number-in-spec : {M : Type 1} → statement M
-number-in-spec = tie.close (tie.spec (λ c. search rules) (λ c. search rules) (λ c. search rules) above-requires (λ c. search rules) returns-2)
+pub number_in_spec : {M : Type 1} → statement M
+number_in_spec = tie.close (tie.spec (λ c. search rules) (λ c. search rules) (λ c. search rules) above-requires (λ c. search rules) returns-2)

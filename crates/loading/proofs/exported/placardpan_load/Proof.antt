@@ -17,5 +17,5 @@ returns c =
     let a = loading.before.before.before.before.args in
     (number-told (load_answer a.block.now a.area.now) loading.load.ensures.0 c.number_in.ensures, loading.load.ensures.1)
 
-pub placardpan-load-spec : {M : Type 1} → statement M
-placardpan-load-spec = tie.close (tie.spec (λ c κs. search rules) number-in-requires (λ c. search rules) returns)
+pub placardpan_load_spec : {M : Type 1} → statement M
+placardpan_load_spec = tie.close (tie.spec (λ c κs. search rules) number-in-requires (λ c. search rules) returns)

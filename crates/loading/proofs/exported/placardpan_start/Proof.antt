@@ -16,5 +16,5 @@ returns c =
     let a = starting.before.before.args in
     number-told (start_of a.area.now) starting.start.ensures c.number_in.ensures
 
-pub placardpan-start-spec : {M : Type 1} → statement M
-placardpan-start-spec = tie.close (tie.spec (λ c κs. search rules) number-in-requires returns)
+pub placardpan_start_spec : {M : Type 1} → statement M
+placardpan_start_spec = tie.close (tie.spec (λ c κs. search rules) number-in-requires returns)

@@ -4,8 +4,8 @@ use mathlib.Core.Path.{refl}
 use Rattle.masks.proofs.cutting.cut_by_masked_pair.Statement.{statement}
 use Rattle.masks.proofs.cutting.cut_by_masked_pair.Tie as tie
 
-pub cut-by-masked-pair-spec : {M : Type 1} → statement M
-cut-by-masked-pair-spec =
+pub cut_by_masked_pair_spec : {M : Type 1} → statement M
+cut_by_masked_pair_spec =
     tie.close
     (tie.spec (λ c κs. search rules) (λ c κs. search rules) (λ c. search rules)
     (λ c. c.before.may-cut.ensures.leaves c.if1.false c.before.before.before.before.requires.1 refl refl _))

@@ -5,8 +5,8 @@ use Rattle.masks.specs.Passes.{some-cut, neither-cuts}
 use Rattle.masks.proofs.cutting.may_cut.Statement.{statement}
 use Rattle.masks.proofs.cutting.may_cut.Tie as tie
 
-pub may-cut-spec : {M : Type 1} → statement M
-may-cut-spec =
+pub may_cut_spec : {M : Type 1} → statement M
+may_cut_spec =
     tie.close
     (tie.spec (λ c. some-cut) (λ c κs. search rules) (λ c. some-cut) (λ c κs. search rules)
     (λ c. neither-cuts (omega arith) c.before.before.may-raise.ensures c.before.if2.false c.may-lower.ensures))

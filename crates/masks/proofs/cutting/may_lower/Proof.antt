@@ -16,7 +16,7 @@ returns-2 c =
     first-allows refl (ap not (ne_eqb _ 0 c.before.before.if1.false))
     (c.some-both.ensures ∙ ap (λ (a : Mask). some_both a d.q1 (kind d.set1) d.q2 (kind d.set2)) c.before.swapped.ensures)
 
-pub may-lower-spec : {M : Type 1} → statement M
-may-lower-spec =
+pub may_lower_spec : {M : Type 1} → statement M
+may_lower_spec =
     tie.close
     (tie.spec (λ c. first-refuses _ refl (ap not (eq-eqb _ 0 c.if1.true))) (λ c κs. search rules) (λ c κs. search rules) returns-2)

@@ -7,8 +7,8 @@ use Rattle.masks.specs.Passes.{first-allows, first-refuses}
 use Rattle.masks.proofs.cutting.may_raise.Statement.{statement}
 use Rattle.masks.proofs.cutting.may_raise.Tie as tie
 
-pub may-raise-spec : {M : Type 1} → statement M
-may-raise-spec =
+pub may_raise_spec : {M : Type 1} → statement M
+may_raise_spec =
     tie.close
     (tie.spec (λ c κs. search rules) (λ c. first-allows refl (le-leb 2 c.before.before.args.set (omega arith)) c.some-both.ensures)
     (λ c. first-refuses _ refl (lt-leb 2 c.before.args.set (omega arith))))

@@ -14,8 +14,8 @@ returns c =
     first-allows c.before.before.before.non-positive.ensures c.before.before.if1.true
     (c.some-second.ensures ∙ ap (λ (a : Mask). some_second a d.q2 (kind d.set2)) c.before.joined.ensures)
 
-pub some-above-spec : {M : Type 1} → statement M
-some-above-spec =
+pub some_above_spec : {M : Type 1} → statement M
+some_above_spec =
     tie.close
     (tie.spec (λ c κs. search rules) (λ c κs. search rules) (λ c κs. search rules) returns
     (λ c. first-refuses _ c.before.non-positive.ensures c.if1.false))

@@ -15,8 +15,8 @@ returns c =
     (c.some-second.ensures ∙ ap (λ (a : Mask). some_second a d.q2 (kind d.set2))
     (c.before.joined.ensures ∙ ap (joined d.p) c.before.before.swapped.ensures))
 
-pub some-below-spec : {M : Type 1} → statement M
-some-below-spec =
+pub some_below_spec : {M : Type 1} → statement M
+some_below_spec =
     tie.close
     (tie.spec (λ c κs. search rules) (λ c κs. search rules) (λ c κs. search rules) (λ c κs. search rules) returns
     (λ c. first-refuses _ c.before.non-negative.ensures c.if1.false))

@@ -13,5 +13,5 @@ returns-2 : tie.Need-returns-2
 unfolding some_both some_way
 returns-2 c = second-tells c.before.before.some-above.ensures c.before.if1.false c.some_below.ensures
 
-pub some-both-spec : {M : Type 1} → statement M
-some-both-spec = tie.close (tie.spec (λ c κs. search rules) returns (λ c κs. search rules) returns-2)
+pub some_both_spec : {M : Type 1} → statement M
+some_both_spec = tie.close (tie.spec (λ c κs. search rules) returns (λ c κs. search rules) returns-2)

@@ -22,8 +22,8 @@ returns-2 c =
     (c.both2.ensures ∙ ap₂ ◌&&◌ c.before.before.before.before.non-negative.ensures
     (c.before.covered2.ensures ∙ ap covered (c.before.before.joined2.ensures ∙ ap (joined a) c.before.before.before.swapped.ensures)))
 
-pub some-second-spec : {M : Type 1} → statement M
-some-second-spec =
+pub some_second_spec : {M : Type 1} → statement M
+some_second_spec =
     tie.close
     (tie.spec (λ c κs. search rules) (λ c κs. search rules) (λ c κs. search rules) (λ c κs. search rules) returns
     (λ c κs. search rules) (λ c κs. search rules) (λ c κs. search rules) (λ c κs. search rules) (λ c κs. search rules) returns-2)

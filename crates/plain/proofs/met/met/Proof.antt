@@ -59,7 +59,7 @@ returns-2 c =
     let second = c.tested2.ensures (beside f.fraction (end_of n.neighbour.result)) (c.before.beside.ensures.1 f.fraction f.is) in
     record { on = λ t u. one-met (kind s.set) _ s.seen f.fraction f.is (n.neighbour.ensures.on t u) (first.on t u) (second.on t u) }
 
-pub met-spec : {M : Type 1} → statement M
-met-spec =
+pub met_spec : {M : Type 1} → statement M
+met_spec =
     tie.close
     (tie.spec returns (λ c κs. search rules) (λ c κs. there c.before) tested-requires beside-requires tested-requires-2 returns-2)

@@ -40,5 +40,5 @@ returns-3 c =
     let e = there d.before in
     (near-there (end_of s.args.f) (end_of s.args.near) e.fraction e.is false (sym d.below.ensures ∙ c.if2.false), s.requires.0)
 
-pub nearer-spec : {M : Type 1} → statement M
-nearer-spec = tie.close (tie.spec returns (λ c κs. search rules) (λ c κs. search rules) returns-2 returns-3)
+pub nearer_spec : {M : Type 1} → statement M
+nearer_spec = tie.close (tie.spec returns (λ c κs. search rules) (λ c κs. search rules) returns-2 returns-3)

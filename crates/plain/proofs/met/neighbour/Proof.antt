@@ -70,7 +70,7 @@ returns c =
       least = λ h. l.invariant.1.1 (zero-there h first.ensures.0);
     }
 
-pub neighbour-spec : {M : Type 1} → statement M
-neighbour-spec =
+pub neighbour_spec : {M : Type 1} → statement M
+neighbour_spec =
     tie.close
     (tie.spec invariant-loop decreases-loop nearer-requires loop-holds (λ c. omega arith) (λ c. omega arith) (λ c κs. search rules) nearer-requires-2 (λ c. omega arith) loop-again returns)

@@ -74,8 +74,8 @@ returns c =
       on = λ s t. met-last _ _ _ (zero.met2.ensures.on s t) (n.on s t) (last.on s t) ∙ walk-done l.invariant (omega arith) (omega arith) s t;
     }
 
-pub seen-spec : {M : Type 1} → statement M
-seen-spec =
+pub seen_spec : {M : Type 1} → statement M
+seen_spec =
     tie.close
     (tie.spec invariant-loop decreases-loop loop-holds (λ c. omega arith) (λ c. omega arith) (λ c κs. search rules) met-requires (λ c. omega arith) loop-again met-requires-2 (λ c κs. search rules)
     under-requires tested-requires returns)

@@ -14,5 +14,5 @@ returns c f i =
     let after = c.and_then.ensures in
     record { on = λ s t. seen-after _ _ f (rw sign at after) ((c.before.before.test-value.ensures f i).on s t) }
 
-pub tested-spec : {M : Type 1} → statement M
-tested-spec = tie.close (tie.spec (λ c κs. search rules) (λ c κs. search rules) (λ c κs. search rules) returns)
+pub tested_spec : {M : Type 1} → statement M
+tested_spec = tie.close (tie.spec (λ c κs. search rules) (λ c κs. search rules) (λ c κs. search rules) returns)

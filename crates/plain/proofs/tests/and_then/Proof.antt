@@ -21,8 +21,8 @@ returns c =
       below = rw (c.either4.ensures, c.before.both4.ensures, u.both2.ensures, u.before.inside2.ensures, u.before.before.mirror.ensures, wants.wanted.ensures, strict.strictly.ensures, strict.before.before.is-strict.ensures);
     }
 
-pub and-then-spec : {M : Type 1} → statement M
-and-then-spec =
+pub and_then_spec : {M : Type 1} → statement M
+and_then_spec =
     tie.close
     (tie.spec (λ c κs. search rules) (λ c κs. search rules) (λ c κs. search rules) (λ c κs. search rules) (λ c κs. search rules) (λ c κs. search rules) (λ c κs. search rules)
     (λ c κs. search rules) (λ c κs. search rules) (λ c κs. search rules) (λ c κs. search rules) (λ c κs. search rules) (λ c κs. search rules) (λ c κs. search rules) returns)

@@ -15,5 +15,5 @@ returns-3 : tie.Need-returns-3
 unfolding found
 returns-3 c = rw (c.before.if1.false, c.if2.false)
 
-pub found-spec : {M : Type 1} → statement M
-found-spec = tie.close (tie.spec returns returns-2 returns-3)
+pub found_spec : {M : Type 1} → statement M
+found_spec = tie.close (tie.spec returns returns-2 returns-3)

@@ -63,7 +63,7 @@ returns c f i =
           (sym (and-true l.passed.l) ∙ x, (sym (and-true l.passed.u) ∙ y, sym (or-false l.passed.strict) ∙ z));
     }
 
-pub test-value-spec : {M : Type 1} → statement M
-test-value-spec =
+pub test_value_spec : {M : Type 1} → statement M
+test_value_spec =
     tie.close
     (tie.spec invariant-loop decreases-loop loop-holds (λ c. omega arith) (λ c. omega arith) next-requires sign-at-requires (λ c κs. search rules) (λ c. omega arith) loop-again returns)

@@ -100,5 +100,5 @@ returns-2 c =
       λ t k. one-beside t (other e.before).fraction (other e.before).is (between_is (d.listed.ensures t k).c (d.listed.ensures t k).d (second e).c (second e).d),
     )
 
-pub beside-spec : {M : Type 1} → statement M
-beside-spec = tie.close (tie.spec (λ c κs. search rules) add-t7 returns (λ c κs. other c) add-t8 add-t9 returns-2)
+pub beside_spec : {M : Type 1} → statement M
+beside_spec = tie.close (tie.spec (λ c κs. search rules) add-t7 returns (λ c κs. other c) add-t8 add-t9 returns-2)

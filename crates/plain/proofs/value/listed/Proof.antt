@@ -41,5 +41,5 @@ returns-2 c t e =
     let r = rising-terms s.a s.b t (rw (wide b) at c.if1.false) e in
     rw (wide a, wide b, to_z-of_z w64 _ (negated_fits a)) (record { c = r.0; d = r.1 })
 
-pub listed-spec : {M : Type 1} → statement M
-listed-spec = tie.close (tie.spec cast-a cast-b sub-t6 sub-t7 returns returns-2)
+pub listed_spec : {M : Type 1} → statement M
+listed_spec = tie.close (tie.spec cast-a cast-b sub-t6 sub-t7 returns returns-2)

@@ -33,7 +33,7 @@ returns-2 c =
     let a = c.before.before.args in
     among_none a.order.now a.count a.slot l.i (omega arith) ∙ l.invariant
 
-pub is-among-spec : {M : Type 1} → statement M
-is-among-spec =
+pub is_among_spec : {M : Type 1} → statement M
+is_among_spec =
     tie.close
     (tie.spec invariant-loop decreases-loop (λ c. simp sub-zero) (λ c. omega arith) returns (λ c. omega arith) (λ c. omega arith) loop-again returns-2)

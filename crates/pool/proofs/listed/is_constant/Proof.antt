@@ -18,7 +18,7 @@ returns-3 : tie.Need-returns-3
 unfolding constant_in
 returns-3 c = one-term _ _ (omega (arith, c.before.before.if1.false)) c.before.if2.false
 
-pub is-constant-spec : {M : Type 1} → statement M
-is-constant-spec =
+pub is_constant_spec : {M : Type 1} → statement M
+is_constant_spec =
     tie.close
     (tie.spec (λ c. search rules) returns returns-2 (λ c. search rules) (λ c. search rules) (λ c. search rules) returns-3)

@@ -18,5 +18,5 @@ returns-2 c =
     c.is_among.ensures
     ∙ sym (ap (λ (b : Bool). b || among (numbers_from a.order.now 0 a.count) a.slot) (sym c.before.before.is-constant.ensures ∙ c.before.if1.false))
 
-pub is-out-spec : {M : Type 1} → statement M
-is-out-spec = tie.close (tie.spec (λ c κs. search rules) returns (λ c κs. search rules) returns-2)
+pub is_out_spec : {M : Type 1} → statement M
+is_out_spec = tie.close (tie.spec (λ c κs. search rules) returns (λ c κs. search rules) returns-2)

@@ -74,8 +74,8 @@ returns c =
       below = l.invariant.4;
     }
 
-pub listed-spec : {M : Type 1} → statement M
-listed-spec =
+pub listed_spec : {M : Type 1} → statement M
+listed_spec =
     tie.close
     (tie.spec invariant-loop decreases-loop loop-holds
     (λ c. omega (arith, c.before.before.before.before.before.before.before.requires.1.there)) (λ c. omega arith) is-out-requires

@@ -38,7 +38,7 @@ returns-2 c =
     let e : l.slot ≡ 128 = omega arith in
     first-none is_free a.pool.now ∙ ap (first_from is_free a.pool.now) (sym e) ∙ l.invariant.1
 
-pub first-free-spec : {M : Type 1} → statement M
-first-free-spec =
+pub first_free_spec : {M : Type 1} → statement M
+first_free_spec =
     tie.close
     (tie.spec invariant-loop decreases-loop loop-holds (λ c κs. omega arith) returns (λ c. omega arith) (λ c. omega arith) loop-again returns-2)

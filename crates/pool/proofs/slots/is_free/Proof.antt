@@ -16,5 +16,5 @@ returns c =
     let a = c.before.before.args in
     ap (λ (w : ℕ). eqb (w % 4294967296) 0) c.word.ensures ∙ no-mark (get_or a.pool.now (slot_place a.slot) 0)
 
-pub is-free-spec : {M : Type 1} → statement M
-is-free-spec = tie.close (tie.spec (λ c. search rules) (λ c. search rules) (λ c κs. search rules) returns)
+pub is_free_spec : {M : Type 1} → statement M
+is_free_spec = tie.close (tie.spec (λ c. search rules) (λ c. search rules) (λ c κs. search rules) returns)

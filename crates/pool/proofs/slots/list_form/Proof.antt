@@ -39,8 +39,8 @@ returns-2 c =
     listed-none a.number a.pool.now (terms_from a.coefficient.now a.monomial.now a.from a.count) placing.place-for.result
     placing.place-for.ensures (omega (arith, c.if1.false))
 
-pub list-form-spec : {M : Type 1} → statement M
-list-form-spec =
+pub list_form_spec : {M : Type 1} → statement M
+list_form_spec =
     tie.close
     (tie.spec (λ c κs. search rules) (λ c. search rules) (λ c. search rules) (λ c. search rules) (λ c. search rules) (λ c κs. search rules) (λ c. search rules)
     (λ c. search rules) (λ c. search rules) (λ c. search rules) slice-write-pool-2 (λ c. search rules) put-terms-requires same_length returns (λ c. search rules)

@@ -21,5 +21,5 @@ returns-2 c =
     c.first-free.ensures
     ∙ placed-free (terms_from a.coefficient.now a.monomial.now a.from a.count) a.pool.now (omega (arith, found, c.before.if1.false))
 
-pub place-for-spec : {M : Type 1} → statement M
-place-for-spec = tie.close (tie.spec (λ c κs. search rules) returns (λ c κs. search rules) returns-2)
+pub place_for_spec : {M : Type 1} → statement M
+place_for_spec = tie.close (tie.spec (λ c κs. search rules) returns (λ c κs. search rules) returns-2)

@@ -81,8 +81,8 @@ returns c =
     sym (put-end l.pool a.k a.coefficient.now a.monomial.now a.from a.count l.i (omega arith)) ∙ l.invariant.3
     ∙ c.before.before.before.loop.invariant.2
 
-pub put-terms-spec : {M : Type 1} → statement M
-put-terms-spec =
+pub put_terms_spec : {M : Type 1} → statement M
+put_terms_spec =
     tie.close
     (tie.spec invariant-loop decreases-loop invariant-loop2 decreases-loop2 loop-holds (λ c. omega arith) (λ c. omega arith) (λ c. omega arith) (λ c. omega arith) (λ c. omega arith)
     (λ c κs. omega arith) (λ c. omega arith) (λ c. omega arith) (λ c. omega arith) (λ c κs. omega arith) (λ c. omega arith) loop-again

@@ -27,7 +27,7 @@ returns-2 c =
     ∙ sym (ap (λ (b : Bool). b && same_number a.coefficient (coefficient_of (get_or a.pool.now a.k 0)))
     (eq-eqb a.monomial (get_or a.pool.now (a.k + 16) 0) (c.before.before.if1.false ∙ c.before.before.before.word.ensures)))
 
-pub same-term-spec : {M : Type 1} → statement M
-same-term-spec =
+pub same_term_spec : {M : Type 1} → statement M
+same_term_spec =
     tie.close
     (tie.spec (λ c. search rules) (λ c κs. search rules) returns (λ c κs. search rules) (λ c κs. search rules) returns-2)

@@ -42,7 +42,7 @@ returns-3 c =
     ∙ sym (ap (λ (b : Bool). not b && same (terms_from a.coefficient.now a.monomial.now a.from a.count) form)
     (sym c.before.before.before.before.is_free.ensures ∙ c.before.before.before.if1.false))
 
-pub stores-spec : {M : Type 1} → statement M
-stores-spec =
+pub stores_spec : {M : Type 1} → statement M
+stores_spec =
     tie.close
     (tie.spec (λ c κs. search rules) returns (λ c κs. search rules) returns-2 (λ c. search rules) (λ c. search rules) (λ c κs. search rules) returns-3)

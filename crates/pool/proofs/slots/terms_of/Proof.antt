@@ -19,5 +19,5 @@ returns c = omega (arith, place c.before)
 returns-2 : tie.Need-returns-2
 returns-2 c = omega (arith, place c.before)
 
-pub terms-of-spec : {M : Type 1} → statement M
-terms-of-spec = tie.close (tie.spec (λ c. search rules) (λ c. search rules) (λ c κs. search rules) returns returns-2)
+pub terms_of_spec : {M : Type 1} → statement M
+terms_of_spec = tie.close (tie.spec (λ c. search rules) (λ c. search rules) (λ c κs. search rules) returns returns-2)

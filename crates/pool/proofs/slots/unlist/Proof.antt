@@ -33,8 +33,8 @@ returns-2 c =
     ∙ sym (ap (λ (b : Bool). either b (zeros a.pool.now a.at 34) (set a.pool.now a.at (row_word row)))
     (count_word row ∙ ne_eqb (row_word row) 0 (λ e. c.if1.false (c.before.with-mark.ensures ∙ e))))
 
-pub unlist-spec : {M : Type 1} → statement M
-unlist-spec =
+pub unlist_spec : {M : Type 1} → statement M
+unlist_spec =
     tie.close
     (tie.spec (λ c. search rules) (λ c. search rules) (λ c κs. search rules) (λ c κs. search rules) (λ c. search rules) returns (λ c. search rules)
     (λ c. search rules) (λ c. search rules) returns-2)

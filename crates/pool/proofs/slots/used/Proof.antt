@@ -37,8 +37,8 @@ returns c =
     let e : l.slot ≡ 128 = omega arith in
     (omega (arith, l.invariant.2, ap (used_from a.pool.now) e ∙ used-none a.pool.now), omega arith)
 
-pub used-spec : {M : Type 1} → statement M
-used-spec =
+pub used_spec : {M : Type 1} → statement M
+used_spec =
     tie.close
     (tie.spec invariant-loop decreases-loop (λ c. (omega arith, omega arith, omega arith)) (λ c. omega arith) (λ c κs. omega arith) (λ c. omega arith) (λ c. omega arith)
     loop-again (λ c. omega arith) loop-again-2 returns)

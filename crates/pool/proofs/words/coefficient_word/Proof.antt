@@ -52,8 +52,8 @@ mul-result-2 c =
 returns-2 : tie.Need-returns-2
 returns-2 c = let z = c.before.args.c in rw (wide_back z c.before.ranges.c) (whole_word z (not-below c))
 
-pub coefficient-word-spec : {M : Type 1} → statement M
-coefficient-word-spec =
+pub coefficient_word_spec : {M : Type 1} → statement M
+coefficient_word_spec =
     tie.close
     (tie.spec (λ c. wide_fits c.args.c c.ranges.c) (λ c. minus-fits c.before.args.c c.before.ranges.c) cast-result mul-result sub-result-2 returns
     cast-result-2 mul-result-2 returns-2)

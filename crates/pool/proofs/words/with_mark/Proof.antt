@@ -36,7 +36,7 @@ returns-4 c =
     let s = c.before.before.before in
     rw c.if3.false (mark-kept s.args.word s.args.number s.requires _ (sym c.before.before.mark.ensures ∙ c.before.if1.false))
 
-pub with-mark-spec : {M : Type 1} → statement M
-with-mark-spec =
+pub with_mark_spec : {M : Type 1} → statement M
+with_mark_spec =
     tie.close
     (tie.spec (λ c κs. search rules) returns (λ c. search rules) sub-result returns-2 (λ c. search rules) add-result returns-3 returns-4)

@@ -5,8 +5,8 @@ use borrow.Author.Rules.{rules}
 use Rattle.pool.proofs.words.word.Statement.{statement}
 use Rattle.pool.proofs.words.word.Tie as tie
 
-pub word-spec : {M : Type 1} → statement M
-word-spec =
+pub word_spec : {M : Type 1} → statement M
+word_spec =
     tie.close
     (tie.spec (λ c. search rules) (λ c. search rules) (λ c. search rules)
     (λ c. sym (get_or-eq_default c.before.args.pool.now 0 c.if1.false)))

@@ -263,9 +263,9 @@ after-turns-meets {𝓤 = 𝓤} 𝓛 at_mem run 𝓣 known =
     (WpFn 𝓤 𝓛.H 𝓣.C 𝓣.Λ code.function)
     (WpFn-mono 𝓤 𝓛.H 𝓛.laws 𝓣 code.function) (after-turns-walks 𝓛 at_mem run 𝓣.C 𝓣.Λ (fm_of 𝓤 𝓛.H 𝓛.laws 𝓣) known)
 
-pub after-turns-spec : {M : Type 1} → stated.statement M
+pub after_turns_spec : {M : Type 1} → stated.statement M
 unfolding code.routine tables_of
-after-turns-spec 𝓤 𝓛 𝓜 𝓡 =
+after_turns_spec 𝓤 𝓛 𝓜 𝓡 =
     entered 𝓤 𝓛.H (triple_of 𝓛 after-turns.signature (after-turns.spec 𝓛 𝓜.mem 𝓡.run))
     (tables 𝓤 𝓛.H 𝓜 𝓡 code.env).C (tables 𝓤 𝓛.H 𝓜 𝓡 code.env).Λ #after-turns code.function (code.unfolded 𝓤 𝓛.H 𝓜 𝓡)
     (after-turns-meets 𝓛 𝓜.mem 𝓡.run (tables_of 𝓤 𝓛.H 𝓜 (tables 𝓤 𝓛.H 𝓜 𝓡 code.env))

@@ -397,9 +397,9 @@ turns-meets {𝓤 = 𝓤} 𝓛 at_mem run 𝓣 known =
     walk_Meets 𝓛 turns.ended stayed (all_go 𝓛 at_mem run) (turns.clauses 𝓛 at_mem run) (WpFn 𝓤 𝓛.H 𝓣.C 𝓣.Λ code.function)
     (WpFn-mono 𝓤 𝓛.H 𝓛.laws 𝓣 code.function) (turns-walks 𝓛 at_mem run 𝓣 known)
 
-pub turns-spec : {M : Type 1} → stated.statement M
+pub turns_spec : {M : Type 1} → stated.statement M
 unfolding code.routine tables_of
-turns-spec 𝓤 𝓛 𝓜 𝓡 =
+turns_spec 𝓤 𝓛 𝓜 𝓡 =
     entered 𝓤 𝓛.H (triple_of 𝓛 turns.signature (turns.spec 𝓛 𝓜.mem 𝓡.run))
     (tables 𝓤 𝓛.H 𝓜 𝓡 code.env).C (tables 𝓤 𝓛.H 𝓜 𝓡 code.env).Λ #turns code.function (code.unfolded 𝓤 𝓛.H 𝓜 𝓡)
     (turns-meets 𝓛 𝓜.mem 𝓡.run (tables_of 𝓤 𝓛.H 𝓜 (tables 𝓤 𝓛.H 𝓜 𝓡 code.env))

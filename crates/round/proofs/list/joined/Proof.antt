@@ -41,8 +41,8 @@ returns c t =
     let list = c.before.before.before.args.t2 in
     sym (append-nil (atoms_of t l.atoms)) ∙ ap (λ (r : List Atom). atoms_of t l.atoms ++ r) (sym (rest-nil t list l.i (omega arith))) ∙ l.invariant.1.1 t
 
-pub joined-spec : {M : Type 1} → statement M
-joined-spec =
+pub joined_spec : {M : Type 1} → statement M
+joined_spec =
     tie.close
     (tie.spec invariant-loop decreases-loop (λ c κs. search rules) (λ c. (c.many.ensures, (omega (arith, c.many.ensures, c.before.requires), λ t. refl))) (λ c. omega arith)
     (λ c. omega arith) (λ c. omega arith) (λ c κs. omega arith) (λ c. omega arith) loop-again returns)

@@ -38,8 +38,8 @@ loop-again c =
 returns-2 : tie.Need-returns-2 invariant-loop decreases-loop
 returns-2 c t forms = sym (listed-nowhere forms _ _ _ _ _ c.before.before.before.requires c.loop-test.false) ∙ c.before.loop.invariant.1.1 t forms
 
-pub listed-spec : {M : Type 1} → statement M
-listed-spec =
+pub listed_spec : {M : Type 1} → statement M
+listed_spec =
     tie.close
     (tie.spec invariant-loop decreases-loop (λ c κs. search rules) (λ c. (omega arith, (c.many.ensures, λ t forms. rw (c.many.ensures, sub-zero)))) (λ c. omega arith)
     (λ c. omega arith) (λ c. omega arith) (λ c. omega arith) returns (λ c. omega arith) loop-again returns-2)

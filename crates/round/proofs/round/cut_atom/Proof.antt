@@ -60,8 +60,8 @@ returns c =
       sub-zero,
     ) (sym (cut-append _ _ _ _ _))
 
-pub cut-atom-spec : {M : Type 1} → statement M
-cut-atom-spec =
+pub cut_atom_spec : {M : Type 1} → statement M
+cut_atom_spec =
     tie.close
     (tie.spec (λ c κs. search rules) (λ c. search rules) (λ c. search rules) (λ c. search rules) (λ c κs. search rules)
     (λ c κs. ((held_at c).coefficients, (held_at c).signs)) (λ c κs. search rules) cut-by-requires (λ c. search rules) cut-by-requires-2 returns)

@@ -64,8 +64,8 @@ returns c =
     (λ (k : ℕ) (h : k < many a.count). cutting.sets k (omega arith)) in
     record { count = cutting.count; number = cutting.number; atoms = rw (cutting.count, cutting.number) all }
 
-pub cut-atoms-spec : {M : Type 1} → statement M
-cut-atoms-spec =
+pub cut_atoms_spec : {M : Type 1} → statement M
+cut_atoms_spec =
     tie.close
     (tie.spec invariant-loop decreases-loop (λ c κs. search rules) loop-holds
     (λ c κs. (c.before.before.before.before.before.before.requires, omega (arith, c.before.loop.invariant.all)))

@@ -9,5 +9,5 @@ cut-down-requires c κs =
     let s = c.before.before.before in
     (s.requires.0, (s.requires.1, (lit< tt, record { each = λ x h. in-empty h })))
 
-pub cut-by-spec : {M : Type 1} → statement M
-cut-by-spec = tie.close (tie.spec cut-down-requires (λ c. c.cut_down.ensures))
+pub cut_by_spec : {M : Type 1} → statement M
+cut_by_spec = tie.close (tie.spec cut-down-requires (λ c. c.cut_down.ensures))

@@ -108,8 +108,8 @@ returns-3 c =
 returns-4 : tie.Need-returns-4 invariant-loop decreases-loop
 returns-4 c = sym (cut-end _ _ _ _ _ _ _ _ c.loop-test.false) ∙ c.before.loop.invariant _ _ (stands c.before.before.before)
 
-pub cut-down-spec : {M : Type 1} → statement M
-cut-down-spec =
+pub cut_down_spec : {M : Type 1} → statement M
+cut_down_spec =
     tie.close
     (tie.spec invariant-loop decreases-loop (λ c κs. search rules) returns returns-2 (λ c κs. search rules) (λ c v b h. refl)
     (λ c. omega arith) (λ c. omega arith) (λ c. omega arith) (λ c. omega arith)

@@ -30,7 +30,7 @@ returns c =
     let cut = cut-over _ _ _ turns.ensures.variables (sets_of turns.result) c.cut-atoms.ensures in
     record { variables = turns.ensures.variables; count = cut.count; number = cut.number; state = rw (cut.atoms, turns.ensures.sets) }
 
-pub round-spec : {M : Type 1} → statement M
-round-spec =
+pub round_spec : {M : Type 1} → statement M
+round_spec =
     tie.close
     (tie.spec (λ c. search rules) (λ c κs. search rules) (λ c. search rules) after-turns-requires (λ c. search rules) cut-atoms-requires returns)

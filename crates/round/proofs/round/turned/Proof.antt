@@ -77,8 +77,8 @@ returns-3 c =
       ready = rw c.before.before.sign-list.ensures (list-ready _ s.args.atoms _ ready.forms refl ready.places);
     }
 
-pub turned-spec : {M : Type 1} → statement M
-turned-spec =
+pub turned_spec : {M : Type 1} → statement M
+turned_spec =
     tie.close
     (tie.spec (λ c. search rules) (λ c. search rules) returns (λ c κs. search rules) (λ c. search rules) cut-down-requires (λ c. search rules)
     returns-2 (λ c. search rules) (λ c κs. search rules) (λ c. search rules) returns-3)

@@ -4,8 +4,8 @@ use native.Mathlib.Omega.{arith}
 use Rattle.round.proofs.slots.places.Statement.{statement}
 use Rattle.round.proofs.slots.places.Tie as tie
 
-pub places-spec : {M : Type 1} → statement M
-places-spec =
+pub places_spec : {M : Type 1} → statement M
+places_spec =
     tie.close
     (tie.spec (λ c. search rules) (λ c. search rules) (λ c. search rules)
     (λ c. omega (arith, c.shared-slice-known.given c.before.args.k))

@@ -41,8 +41,8 @@ loop-again c =
 returns : tie.Need-returns invariant-loop decreases-loop
 returns c = λ board of. sym (signing_end _ _ _ _ _ _ _ c.loop-test.false) ∙ c.before.loop.invariant.1.1 board of
 
-pub sign-atoms-spec : {M : Type 1} → statement M
-sign-atoms-spec =
+pub sign_atoms_spec : {M : Type 1} → statement M
+sign_atoms_spec =
     tie.close
     (tie.spec invariant-loop decreases-loop (λ c κs. search rules) (λ c. (c.many.ensures, (refl, λ board of. rw (c.many.ensures, sub-zero)))) (λ c. omega arith)
     (λ c. omega arith) slot-by-requires (λ c. omega arith) (λ c. omega arith) loop-again (λ c. c.before.loop.invariant.1.0) returns)

@@ -9,5 +9,5 @@ returns c =
     let of = variables.before.before.masks-of.ensures in
     rw (variables.sign-variables.ensures _ of) at (c.before.before.sign-atoms.ensures _ of)
 
-pub sign-list-spec : {M : Type 1} → statement M
-sign-list-spec = tie.close (tie.spec (λ c κs. search rules) (λ c κs. search rules) (λ c κs. search rules) (λ c. search rules) returns)
+pub sign_list_spec : {M : Type 1} → statement M
+sign_list_spec = tie.close (tie.spec (λ c κs. search rules) (λ c κs. search rules) (λ c κs. search rules) (λ c. search rules) returns)

@@ -3,8 +3,8 @@ use borrow.Author.Rules.{rules}
 use Rattle.round.proofs.slots.sign_slot.Statement.{statement}
 use Rattle.round.proofs.slots.sign_slot.Tie as tie
 
-pub sign-slot-spec : {M : Type 1} → statement M
-sign-slot-spec =
+pub sign_slot_spec : {M : Type 1} → statement M
+sign_slot_spec =
     tie.close
     (tie.spec (λ c κs. search rules) (λ c κs. search rules) (λ c. search rules)
     (λ c. c.before.before.slot-by.ensures _ c.before.before.before.before.masks-of.ensures))

@@ -34,8 +34,8 @@ returns : tie.Need-returns invariant-loop decreases-loop
 returns c =
     sym (signing_end _ _ _ _ _ _ _ c.loop-test.false) ∙ c.before.loop.invariant.1 _ c.before.before.masks-of.ensures
 
-pub sign-table-spec : {M : Type 1} → statement M
-sign-table-spec =
+pub sign_table_spec : {M : Type 1} → statement M
+sign_table_spec =
     tie.close
     (tie.spec invariant-loop decreases-loop (λ c κs. search rules) (λ c. (refl, λ board of. refl)) slot-by-requires (λ c. omega arith) (λ c. omega arith) loop-again
     (λ c. c.before.loop.invariant.0) returns)

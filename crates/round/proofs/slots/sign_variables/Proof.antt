@@ -36,8 +36,8 @@ loop-again c =
 returns : tie.Need-returns invariant-loop decreases-loop
 returns c = λ board of. sym (signing_end _ _ _ _ _ _ _ c.loop-test.false) ∙ c.before.loop.invariant.1 board of
 
-pub sign-variables-spec : {M : Type 1} → statement M
-sign-variables-spec =
+pub sign_variables_spec : {M : Type 1} → statement M
+sign_variables_spec =
     tie.close
     (tie.spec invariant-loop decreases-loop (λ c. (refl, λ board of. rw sub-zero)) (λ c. omega arith) slot-by-requires (λ c. omega arith) (λ c. omega arith) loop-again
     (λ c. c.before.loop.invariant.0) returns)

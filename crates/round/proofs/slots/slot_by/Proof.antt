@@ -14,5 +14,5 @@ returns c =
     let p = c.before.before.before.before.places.ensures in
     λ board of. rw (p.0, p.1) at (c.before.before.sign-by.ensures board of)
 
-pub slot-by-spec : {M : Type 1} → statement M
-slot-by-spec = tie.close (tie.spec (λ c κs. search rules) sign-by-requires (λ c. search rules) returns)
+pub slot_by_spec : {M : Type 1} → statement M
+slot_by_spec = tie.close (tie.spec (λ c κs. search rules) sign-by-requires (λ c. search rules) returns)

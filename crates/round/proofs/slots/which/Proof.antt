@@ -57,9 +57,9 @@ returns-4 c =
     let e : l.i ≡ 0 = omega arith in
     (rw e at l.invariant.1, tt)
 
-pub which-spec : {M : Type 1} → statement M
+pub which_spec : {M : Type 1} → statement M
 unfolding which_in
-which-spec =
+which_spec =
     tie.close
     (tie.spec invariant-loop decreases-loop (λ c. omega (arith, c.before.requires.0.counts)) (λ c. omega arith) (λ c. omega arith)
     (λ c. omega (arith, c.before.requires.0.coefficients)) (λ c. omega arith) (λ c. omega arith)

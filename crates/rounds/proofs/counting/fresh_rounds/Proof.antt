@@ -27,7 +27,7 @@ returns-2 c =
     let start = c.before.before.start in
     from-none s.args.largest c.turned-largest.ensures (turned-is _ _ _ start.ensures.0 s.args.others s.requires.1 start.result start.ensures.1 refl)
 
-pub fresh-rounds-spec : {M : Type 1} → statement M
-fresh-rounds-spec =
+pub fresh_rounds_spec : {M : Type 1} → statement M
+fresh_rounds_spec =
     tie.close
     (tie.spec (λ c κs. search rules) (λ c. search rules) (λ c. search rules) (λ c. search rules) returns (λ c κs. search rules) turned-largest-requires returns-2)

@@ -11,5 +11,5 @@ returns c = let s = c.before.args.set in spare-is s 0 (omega (arith, size_is s, 
 returns-2 : tie.Need-returns-2
 returns-2 c = let s = c.before.args.set in spare-is s ((s / 4 % 2) + (s / 2 % 2) + (s % 2) - 1) (omega (arith, size_is s))
 
-pub spare-spec : {M : Type 1} → statement M
-spare-spec = tie.close (tie.spec (λ c. omega arith) (λ c. omega arith) returns (λ c. omega arith) (λ c. omega arith) returns-2)
+pub spare_spec : {M : Type 1} → statement M
+spare_spec = tie.close (tie.spec (λ c. omega arith) (λ c. omega arith) returns (λ c. omega arith) (λ c. omega arith) returns-2)

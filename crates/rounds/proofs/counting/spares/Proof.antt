@@ -29,8 +29,8 @@ returns c =
     let none = spares-none s.args.sets.now loop.i s.args.n c.loop-test.false in
     (omega (arith, loop.invariant.1.0, none), omega (arith, loop.invariant.0, loop.invariant.1.1, s.requires.1))
 
-pub spares-spec : {M : Type 1} → statement M
-spares-spec =
+pub spares_spec : {M : Type 1} → statement M
+spares_spec =
     tie.close
     (tie.spec invariant-loop decreases-loop (λ c. (omega arith, (rw sub-zero (omega arith), omega arith))) (λ c. omega arith) (λ c. omega arith) (λ c κs. tt)
     (λ c. omega (arith, c.before.before.before.loop.invariant.1.1, c.spare.ensures.1)) (λ c. omega arith) loop-again returns)

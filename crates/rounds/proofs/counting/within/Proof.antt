@@ -38,8 +38,8 @@ returns-2 c e =
     let less = ltb-true (s.args.begun + c.before.before.before.before.spares.result) (s.args.largest + c.before.spares2.result) e in
     omega (arith, less, above-is c.before.before.before.before, below-is c.before)
 
-pub within-spec : {M : Type 1} → statement M
-within-spec =
+pub within_spec : {M : Type 1} → statement M
+within_spec =
     tie.close
     (tie.spec (λ c. search rules) (λ c κs. search rules) spares-requires (λ c. search (rules, c.before.before.before.before.before.before.well-formed.1.0)) (λ c κs. search rules) spares-requires-2
     (λ c. omega (arith, c.before.before.before.spares.ensures.1, c.before.before.before.before.before.before.before.before.requires)) returns (λ c. omega (arith, c.before.before.before.before.spares.ensures.1, c.before.before.before.before.before.before.before.before.before.requires))

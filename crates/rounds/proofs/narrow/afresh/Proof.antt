@@ -20,5 +20,5 @@ returns-2 c =
     let begin = c.before.before.before.before.before.settled-start.ensures.narrowed in
     run-narrowed begin (ended-over _ _ _ begin.variables c.before.rounds.ensures)
 
-pub afresh-spec : {M : Type 1} → statement M
-afresh-spec = tie.close (tie.spec (λ c κs. search rules) returns rounds-requires returns-2)
+pub afresh_spec : {M : Type 1} → statement M
+afresh_spec = tie.close (tie.spec (λ c κs. search rules) returns rounds-requires returns-2)

@@ -28,7 +28,7 @@ returns c =
     let (same, is_start) = c.before.before.before.before.before.before.before.start.ensures in
     narrowed-start _ _ _ same {first = c.before.before.before.before.before.before.before.start.result} s.args.list is_start c.before.before.before.ahead.ensures
 
-pub narrowed-spec : {M : Type 1} → statement M
-narrowed-spec =
+pub narrowed_spec : {M : Type 1} → statement M
+narrowed_spec =
     tie.close
     (tie.spec (λ c κs. search rules) (λ c. search rules) ahead-requires returns)

@@ -27,5 +27,5 @@ returns c =
     let (same, is_start) = c.before.before.before.before.before.before.before.before.start.ensures in
     settled-start _ _ _ same {first = c.before.before.before.before.before.before.before.before.start.result} c.before.before.before.before.before.before.before.before.before.before.before.args.others is_start c.before.before.before.settling.ensures
 
-pub settled-start-spec : {M : Type 1} → statement M
-settled-start-spec = tie.close (tie.spec (λ c κs. search rules) (λ c. search rules) settling-requires returns)
+pub settled_start_spec : {M : Type 1} → statement M
+settled_start_spec = tie.close (tie.spec (λ c κs. search rules) (λ c. search rules) settling-requires returns)

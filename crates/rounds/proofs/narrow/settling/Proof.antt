@@ -76,8 +76,8 @@ loop-again c =
       turned.ready.places,
     )
 
-pub settling-spec : {M : Type 1} → statement M
-settling-spec =
+pub settling_spec : {M : Type 1} → statement M
+settling_spec =
     tie.close
     (tie.spec invariant-loop decreases-loop (λ c. omega (arith, c.before.before.before.before.requires.0.0.variables)) (λ c. omega (arith, c.before.before.before.before.requires.0.0.variables)) loop-holds (λ c. omega arith)
     ahead-requires (λ c. search rules) returns search-board-requires (λ c. (passed c.before.before.before.before.before.before.before.before.before.before).ready.places ∙ sym c.before.before.before.before.before.before.before.before.before.before.before.before.before.before.before.before.before.before.requires.0.1) returns-2 (λ c. omega (arith, c.before.before.before.before.before.before.before.before.before.before.before.before.before.loop-test.true)) loop-again

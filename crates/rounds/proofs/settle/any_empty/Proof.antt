@@ -15,8 +15,8 @@ invariant-loop sets n i₀ i = any_empty (numbers_from sets i (n - i)) ≡ any_e
 abbrev decreases-loop : tie.decreases-loop
 decreases-loop sets n i₀ i = n - i
 
-pub any-empty-spec : {M : Type 1} → statement M
-any-empty-spec =
+pub any_empty_spec : {M : Type 1} → statement M
+any_empty_spec =
     tie.close
     (tie.spec invariant-loop decreases-loop (λ c. rw sub-zero) (λ c. omega arith) (λ c. omega arith)
     (λ c. sym (empty-here _ _ _ c.before.before.before.loop-test.true c.if1.true) ∙ c.before.before.before.before.loop.invariant) (λ c. omega arith)

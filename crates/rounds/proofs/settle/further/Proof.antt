@@ -20,5 +20,5 @@ returns-2 c =
     let s = c.before.before.before.before in
     further-changed {t = table s} s.args.before s.args.after refl (sym (c.before.unchanged.ensures (table s)) ∙ c.if1.false)
 
-pub further-spec : {M : Type 1} → statement M
-further-spec = tie.close (tie.spec (λ c κs. search rules) (λ c κs. search rules) returns returns-2)
+pub further_spec : {M : Type 1} → statement M
+further_spec = tie.close (tie.spec (λ c κs. search rules) (λ c κs. search rules) returns returns-2)

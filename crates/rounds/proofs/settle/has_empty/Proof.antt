@@ -30,8 +30,8 @@ returns-2 c t =
     let none-on-board = sym (of-board c.before.before.before.before) ∙ c.before.before.before.if1.false in
     c.any-empty2.ensures ∙ rw c.before.many.ensures (sym (empty-in-list t _ none-on-board))
 
-pub has-empty-spec : {M : Type 1} → statement M
-has-empty-spec =
+pub has_empty_spec : {M : Type 1} → statement M
+has_empty_spec =
     tie.close
     (tie.spec (λ c. search rules) (λ c κs. search rules) any-empty-requires (λ c. search rules) (λ c κs. search rules) any-empty-requires-2
     (λ c t. sym (empty-on-board t _ (sym (of-board c.before) ∙ c.if1.true))) returns-2)

@@ -70,8 +70,8 @@ loop-again c =
     onward c.before.before.before.before.before.before.before.before.before.before.loop.invariant c.before.before.before.before.before.before.before.before.before.loop-test.true (rounded c.before.before.before.before.before.before.before.before) (furthered c.before.before.before.before.before) (filled c.before.before.before.before.before.before) (not-false _ c.before.before.if2.false)
     (sym (c.before.has-empty2.ensures (table c.before.before.before.before.before.before.before.before.before.before.before.before.before.before.before.before.before)) ∙ c.if3.false)
 
-pub rounds-spec : {M : Type 1} → statement M
-rounds-spec =
+pub rounds_spec : {M : Type 1} → statement M
+rounds_spec =
     tie.close
     (tie.spec invariant-loop decreases-loop (λ c κs. search rules) (λ c. omega arith) (λ c. omega arith) (λ c. omega arith) loop-holds (λ c. omega arith) round-requires
     (λ c κs. search rules) (λ c. omega arith) returns further-requires (λ c. omega arith) returns-2 (λ c κs. search rules) (λ c. omega arith) returns-3 (λ c. omega arith) loop-again

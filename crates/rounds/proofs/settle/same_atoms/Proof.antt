@@ -13,7 +13,7 @@ same-sets-requires c κs =
     let new : length s.args.last.atoms.set ≡ 64 = search rules in
     (omega (arith, c.many.ensures), omega (arith, c.many.ensures))
 
-pub same-atoms-spec : {M : Type 1} → statement M
-same-atoms-spec =
+pub same_atoms_spec : {M : Type 1} → statement M
+same_atoms_spec =
     tie.close
     (tie.spec (λ c. search rules) (λ c. search rules) (λ c κs. search rules) same-sets-requires (λ c. c.same-sets.ensures ∙ rw c.before.many.ensures))

@@ -15,8 +15,8 @@ invariant-loop before after n i₀ i = same_sets (numbers_from before i (n - i))
 abbrev decreases-loop : tie.decreases-loop
 decreases-loop before after n i₀ i = n - i
 
-pub same-sets-spec : {M : Type 1} → statement M
-same-sets-spec =
+pub same_sets_spec : {M : Type 1} → statement M
+same_sets_spec =
     tie.close
     (tie.spec invariant-loop decreases-loop (λ c. rw sub-zero) (λ c. omega arith) (λ c. omega arith) (λ c. omega arith)
     (λ c. sym (differ-here _ _ _ _ c.before.before.before.loop-test.true c.if1.true) ∙ c.before.before.before.before.loop.invariant) (λ c. omega arith)

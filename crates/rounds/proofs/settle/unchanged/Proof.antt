@@ -45,8 +45,8 @@ returns c t =
     let same-board = sym (of-board c.before.before.before.before.before) ∙ c.before.before.before.before.if1.true in
     of-list c ∙ sym (list-changed t _ _ same-board)
 
-pub unchanged-spec : {M : Type 1} → statement M
-unchanged-spec =
+pub unchanged_spec : {M : Type 1} → statement M
+unchanged_spec =
     tie.close
     (tie.spec (λ c. search rules) (λ c. search rules) (λ c κs. search rules) same-sets-requires (λ c. search rules) (λ c. search rules)
     (λ c κs. search rules) same-sets-requires-2 returns (λ c t. sym (board-changed t _ _ (sym (of-board c.before) ∙ c.if1.false))))

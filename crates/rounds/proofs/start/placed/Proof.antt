@@ -26,8 +26,8 @@ returns-2 c =
     let sixteen : length s.args.t1.sets ≡ 16 = search rules in
     placed_at s.args.t1 c.before.before.before.holds.given.1 (omega (arith, s.requires.0)) (omega (arith, s.requires.0)) c.intersect.ensures
 
-pub placed-spec : {M : Type 1} → statement M
-placed-spec =
+pub placed_spec : {M : Type 1} → statement M
+placed_spec =
     tie.close
     (tie.spec (λ c. search rules) (λ c. search rules) element-copy-out-old (λ c κs. search rules) element-write-narrowed
     (λ c. not-placed _ _ c.enum_told.given.1) returns-2)

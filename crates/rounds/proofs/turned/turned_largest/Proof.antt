@@ -85,8 +85,8 @@ returns-4 c =
     let last = stand-last c.before.before.loop.invariant (omega (arith, c.before.loop-test.false)) in
     c.larger2.ensures ∙ ap (λ (k : ℕ). max s.args.largest (s.args.before + k)) last ∙ enough-of c.before.before
 
-pub turned-largest-spec : {M : Type 1} → statement M
-turned-largest-spec =
+pub turned_largest_spec : {M : Type 1} → statement M
+turned_largest_spec =
     tie.close
     (tie.spec invariant-loop decreases-loop (λ c κs. omega (arith, c.before.before.before.before.requires.1.1)) returns (λ c κs. search rules) (λ c. omega (arith, c.before.before.before.before.before.before.before.before.requires.0.variables, c.before.many.ensures)) (λ c. omega (arith, c.before.before.before.before.before.before.before.before.requires.0.variables, c.before.many.ensures)) (λ c. omega (arith, c.before.before.before.before.before.before.before.before.requires.0.variables, c.before.many.ensures)) (λ c. search rules) sign-list-requires loop-holds
     (λ c. omega (arith, c.loop-test.true)) (λ c. omega (arith, c.before.loop.invariant.most)) (λ c. omega (arith, c.before.before.before.before.before.before.before.before.before.before.before.before.before.requires.1.1, c.before.before.before.before.before.before.before.before.before.before.before.before.before.requires.0.variables, c.before.before.before.before.before.before.many.ensures)) (λ c. search (rules, c.before.before.loop.invariant.ready)) turned-round-requires (λ c κs. search rules) returns-2

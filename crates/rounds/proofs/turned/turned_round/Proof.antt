@@ -66,7 +66,7 @@ sign-list-requires c κs =
     let after = c.before.before.before.before.before.before.before.before.before.before.before.before.before.after-turns in
     (form-slots {t = table s} s.requires.0.forms after.ensures.ready.places, rw (c.before.before.search-board.ensures.variables ∙ after.ensures.variables) s.requires.0.forms.variables)
 
-pub turned-round-spec : {M : Type 1} → statement M
-turned-round-spec =
+pub turned_round_spec : {M : Type 1} → statement M
+turned_round_spec =
     tie.close
     (tie.spec after-turns-requires (λ c. search rules) (λ c. search rules) (λ c κs. search rules) same-sets-requires (λ c. search rules) returns search-board-requires sign-list-requires (λ c. search rules) returns-2)

@@ -4,8 +4,8 @@ use Rattle.script_back.proofs.Forks.{all-sixteen, none_yet, by-second}
 use Rattle.script_back.proofs.declarations.all_declared.Statement.{statement}
 use Rattle.script_back.proofs.declarations.all_declared.Tie as tie
 
-pub all-declared-spec : {M : Type 1} → statement M
-all-declared-spec =
+pub all_declared_spec : {M : Type 1} → statement M
+all_declared_spec =
     tie.close
     (tie.spec
     (λ c. let a = c.before.before.args in all-sixteen a.text.now a.at a.i c.if1.true)

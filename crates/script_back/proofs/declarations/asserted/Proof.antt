@@ -7,8 +7,8 @@ use Rattle.script_back.proofs.declarations.asserted.Tie as tie
 abbrev start : tie.After-said → tie.Start
 start c = c.before.before.before
 
-pub asserted-spec : {M : Type 1} → statement M
-asserted-spec =
+pub asserted_spec : {M : Type 1} → statement M
+asserted_spec =
     tie.close
     (tie.spec (λ c. search rules) (λ c κs. search rules) (λ c. search rules) (λ c. search rules)
     (λ c.

@@ -13,8 +13,8 @@ returns-2 : tie.Need-returns-2
 unfolding declaration
 returns-2 c = said-both _ c.before.before.before.before.said.ensures c.before.before.step2.given.1 c.named.ensures
 
-pub declared-one-spec : {M : Type 1} → statement M
-declared-one-spec =
+pub declared_one_spec : {M : Type 1} → statement M
+declared_one_spec =
     tie.close
     (tie.spec (λ c. search rules) (λ c κs. search rules) (λ c. search rules) (λ c. search rules)
     (λ c κs. (said-inside c.before.before.before.said.ensures c.before.step2.given.1, c.before.before.before.before.before.before.requires.1)) returns returns-2)

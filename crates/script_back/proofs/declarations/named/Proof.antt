@@ -26,5 +26,5 @@ returns-2 : tie.Need-returns-2
 unfolding letter
 returns-2 c = let a = c.before.before.before.args in byte-stops a.text.now a.at (97 + a.i) _ (λ e. c.if1.false (c.before.byte_at.ensures ∙ e))
 
-pub named-spec : {M : Type 1} → statement M
-named-spec = tie.close (tie.spec (λ c κs. search rules) (λ c. search rules) (λ c. search rules) (λ c. search rules) said-requires returns returns-2)
+pub named_spec : {M : Type 1} → statement M
+named_spec = tie.close (tie.spec (λ c κs. search rules) (λ c. search rules) (λ c. search rules) (λ c. search rules) said-requires returns returns-2)

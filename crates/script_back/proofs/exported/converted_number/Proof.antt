@@ -11,5 +11,5 @@ above-requires c κs = subst Short c.before.converted2.given.1 c.before.before.b
 returns-2 : tie.Need-returns-2
 returns-2 c = c.above.ensures ∙ sym (ap number_of c.before.before.converted2.given.1)
 
-pub converted-number-spec : {M : Type 1} → statement M
-converted-number-spec = tie.close (tie.spec (λ c. search rules) (λ c. search rules) (λ c. search rules) above-requires (λ c. search rules) returns-2)
+pub converted_number_spec : {M : Type 1} → statement M
+converted_number_spec = tie.close (tie.spec (λ c. search rules) (λ c. search rules) (λ c. search rules) above-requires (λ c. search rules) returns-2)

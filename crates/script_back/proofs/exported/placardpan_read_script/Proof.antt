@@ -4,8 +4,8 @@ use Rattle.script_back.specs.Back.{short-told, exports-told}
 use Rattle.script_back.proofs.exported.placardpan_read_script.Statement.{statement}
 use Rattle.script_back.proofs.exported.placardpan_read_script.Tie as tie
 
-pub placardpan-read-script-spec : {M : Type 1} → statement M
-placardpan-read-script-spec =
+pub placardpan_read_script_spec : {M : Type 1} → statement M
+placardpan_read_script_spec =
     tie.close
     (tie.spec (λ c κs. search rules) (λ c κs. search rules)
     (λ c κs. short-told c.before.before.before.Block-of.ensures)

@@ -4,8 +4,8 @@ use Rattle.script_back.proofs.Opens.{beginning-stops, beginning-found}
 use Rattle.script_back.proofs.opening.beginning.Statement.{statement}
 use Rattle.script_back.proofs.opening.beginning.Tie as tie
 
-pub beginning-spec : {M : Type 1} → statement M
-beginning-spec =
+pub beginning_spec : {M : Type 1} → statement M
+beginning_spec =
     tie.close
     (tie.spec (λ c κs. search rules) (λ c. search rules) (λ c. search rules)
     (λ c. beginning-stops c.before.before.before.said.ensures _ c.before.step.given.1)

@@ -5,8 +5,8 @@ use Rattle.script_back.proofs.Opens.{compared-zero, compared-strict}
 use Rattle.script_back.proofs.opening.compared.Statement.{statement}
 use Rattle.script_back.proofs.opening.compared.Tie as tie
 
-pub compared-spec : {M : Type 1} → statement M
-compared-spec =
+pub compared_spec : {M : Type 1} → statement M
+compared_spec =
     tie.close
     (tie.spec (λ c κs. search rules) (λ c. search rules) (λ c. search rules) (λ c κs. search rules)
     (λ c.

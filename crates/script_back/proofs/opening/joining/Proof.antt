@@ -4,8 +4,8 @@ use Rattle.script_back.proofs.Opens.{joining-stops, joining-goes-on}
 use Rattle.script_back.proofs.opening.joining.Statement.{statement}
 use Rattle.script_back.proofs.opening.joining.Tie as tie
 
-pub joining-spec : {M : Type 1} → statement M
-joining-spec =
+pub joining_spec : {M : Type 1} → statement M
+joining_spec =
     tie.close
     (tie.spec (λ c κs. search rules)
     (λ c. joining-goes-on _ c.before.if1.true c.beginning.ensures)

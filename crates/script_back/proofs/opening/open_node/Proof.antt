@@ -19,8 +19,8 @@ first-is c = sym c.before.before.byte_at.ensures ∙ c.before.if1.false
 second-inside : (c : tie.After-byte-at2) (byte : ℕ) → c.byte-at2.result ≡ byte → 0 < byte → (start c).args.at + 2 ≤ length (start c).args.text.now
 second-inside c byte e some = omega (arith, stands-inside (start c).args.text.now ((start c).args.at + 1) byte (sym c.byte-at2.ensures ∙ e) some)
 
-pub open-node-spec : {M : Type 1} → statement M
-open-node-spec =
+pub open_node_spec : {M : Type 1} → statement M
+open_node_spec =
     tie.close
     (tie.spec (λ c κs. search rules)
     (λ c. node-stops _ _ _ _ (λ e. c.if1.true (c.before.byte_at.ensures ∙ e)))

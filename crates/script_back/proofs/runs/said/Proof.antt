@@ -13,8 +13,8 @@ invariant-loop text at bytes i₀ i = Sofar text at bytes i
 abbrev decreases-loop : tie.decreases-loop
 decreases-loop text at bytes i₀ i = length bytes - i
 
-pub said-spec : {M : Type 1} → statement M
-said-spec =
+pub said_spec : {M : Type 1} → statement M
+said_spec =
     tie.close
     (tie.spec invariant-loop decreases-loop
     (λ c. sofar-none _ _ _ c.requires)

@@ -5,8 +5,8 @@ use Rattle.script_back.proofs.Walk.{close-stops, close-reads}
 use Rattle.script_back.proofs.tree.close_atom.Statement.{statement}
 use Rattle.script_back.proofs.tree.close_atom.Tie as tie
 
-pub close-atom-spec : {M : Type 1} → statement M
-close-atom-spec =
+pub close_atom_spec : {M : Type 1} → statement M
+close_atom_spec =
     tie.close
     (tie.spec (λ c κs. search rules) (λ c. search rules) (λ c. search rules) (λ c. search rules) (λ c. search rules) (λ c. search rules) (λ c. search rules) (λ c. search rules)
     (λ c. close-stops c.before.before.before.closing.ensures c.before.step.given.1)

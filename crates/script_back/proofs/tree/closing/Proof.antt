@@ -6,8 +6,8 @@ use Rattle.script_back.proofs.Positions.{said-as}
 use Rattle.script_back.proofs.tree.closing.Statement.{statement}
 use Rattle.script_back.proofs.tree.closing.Tie as tie
 
-pub closing-spec : {M : Type 1} → statement M
-closing-spec =
+pub closing_spec : {M : Type 1} → statement M
+closing_spec =
     tie.close
     (tie.spec (λ c. search rules) (λ c κs. search rules)
     (λ c. said-as (closing-other _ c.before.before.if1.true) c.said.ensures)

@@ -3,8 +3,8 @@ use Rattle.script_back.proofs.Walk.{no-nesting, same_kind, may-join}
 use Rattle.script_back.proofs.tree.may_join.Statement.{statement}
 use Rattle.script_back.proofs.tree.may_join.Tie as tie
 
-pub may-join-spec : {M : Type 1} → statement M
-may-join-spec =
+pub may_join_spec : {M : Type 1} → statement M
+may_join_spec =
     tie.close
     (tie.spec
     (λ c. let a = c.before.args in no-nesting a.nesting a.parent a.room a.kind c.if1.true)

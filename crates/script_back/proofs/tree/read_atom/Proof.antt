@@ -26,7 +26,7 @@ returns-2 c =
     let read = piece.before.before.before.before.before.before.before in
     atom-reads (start read).args.place read.known-polynomial.ensures piece.piece2.given.1 close.close-atom.ensures
 
-pub read-atom-spec : {M : Type 1} → statement M
-read-atom-spec =
+pub read_atom_spec : {M : Type 1} → statement M
+read_atom_spec =
     tie.close
     (tie.spec (λ c κs. search rules) (λ c. search rules) (λ c. search rules) close-atom-requires (λ c. search rules) (λ c. search rules) (λ c. search rules) returns (λ c. search rules) (λ c. search rules) (λ c. search rules) (λ c. search rules) returns-2)

@@ -6,8 +6,8 @@ use Rattle.script_back.proofs.Turns.{turn-few, turn-stops, turn-ends, turn_one, 
 use Rattle.script_back.proofs.tree.turn_at.Statement.{statement}
 use Rattle.script_back.proofs.tree.turn_at.Tie as tie
 
-pub turn-at-spec : {M : Type 1} → statement M
-turn-at-spec =
+pub turn_at_spec : {M : Type 1} → statement M
+turn_at_spec =
     tie.close
     (tie.spec (λ c κs. search rules)
     (λ c. turn_one _ _ _ (sym c.before.before.byte_at.ensures ∙ c.if2.true) _ c.before.if1.true)

@@ -4,8 +4,8 @@ use Rattle.script_back.proofs.Texts.{assertion-stops, root-inside, assertion-end
 use Rattle.script_back.proofs.whole.read_assertion.Statement.{statement}
 use Rattle.script_back.proofs.whole.read_assertion.Tie as tie
 
-pub read-assertion-spec : {M : Type 1} → statement M
-read-assertion-spec =
+pub read_assertion_spec : {M : Type 1} → statement M
+read_assertion_spec =
     tie.close
     (tie.spec (λ c κs. search rules) (λ c. search rules) (λ c. search rules)
     (λ c κs. root-inside c.before.before.before.before.before.before.before.before.before.before.read-root.ensures c.before.branch2.given.1)

@@ -4,8 +4,8 @@ use Rattle.script_back.proofs.Texts.{end-stops, end-goes-on, end_reads}
 use Rattle.script_back.proofs.whole.read_end.Statement.{statement}
 use Rattle.script_back.proofs.whole.read_end.Tie as tie
 
-pub read-end-spec : {M : Type 1} → statement M
-read-end-spec =
+pub read_end_spec : {M : Type 1} → statement M
+read_end_spec =
     tie.close
     (tie.spec (λ c. search rules) (λ c κs. search rules) (λ c. search rules) (λ c. search rules)
     (λ c. let said = c.before.before.before.before in end-goes-on said.before.before.before.args.place said.said.ensures c.before.before.step2.given.1 c.if1.true)

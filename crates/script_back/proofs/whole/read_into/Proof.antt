@@ -5,8 +5,8 @@ use Rattle.script_back.proofs.Texts.{script-stops, script-reads}
 use Rattle.script_back.proofs.whole.read_into.Statement.{statement}
 use Rattle.script_back.proofs.whole.read_into.Tie as tie
 
-pub read-into-spec : {M : Type 1} → statement M
-read-into-spec =
+pub read_into_spec : {M : Type 1} → statement M
+read_into_spec =
     tie.close
     (tie.spec (λ c. search rules) (λ c κs. search rules) (λ c. search rules) (λ c. search rules)
     (λ c κs. let said = c.before.before.before.before.before.before.before in (said.before.before.before.before.before.before.requires, said-inside said.said.ensures c.before.before.before.before.before.step2.given.1))

@@ -4,8 +4,8 @@ use Rattle.script_back.proofs.Texts.{none-stops, none_reads}
 use Rattle.script_back.proofs.whole.read_none.Statement.{statement}
 use Rattle.script_back.proofs.whole.read_none.Tie as tie
 
-pub read-none-spec : {M : Type 1} → statement M
-read-none-spec =
+pub read_none_spec : {M : Type 1} → statement M
+read_none_spec =
     tie.close
     (tie.spec (λ c κs. search rules) (λ c. search rules) (λ c. search rules) (λ c. search rules)
     (λ c. none-stops c.before.before.before.said.ensures c.before.step.given.1)

@@ -4,8 +4,8 @@ use Rattle.script_back.proofs.Texts.{rest-stops, declared-all, rest-reads}
 use Rattle.script_back.proofs.whole.read_rest.Statement.{statement}
 use Rattle.script_back.proofs.whole.read_rest.Tie as tie
 
-pub read-rest-spec : {M : Type 1} → statement M
-read-rest-spec =
+pub read_rest_spec : {M : Type 1} → statement M
+read_rest_spec =
     tie.close
     (tie.spec (λ c κs. search rules) (λ c. search rules) (λ c. search rules)
     (λ c κs.

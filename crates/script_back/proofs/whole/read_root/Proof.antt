@@ -6,8 +6,8 @@ use Rattle.script_back.proofs.Texts.{blank-some, root-is-true, root-is-false, ro
 use Rattle.script_back.proofs.whole.read_root.Statement.{statement}
 use Rattle.script_back.proofs.whole.read_root.Tie as tie
 
-pub read-root-spec : {M : Type 1} → statement M
-read-root-spec =
+pub read_root_spec : {M : Type 1} → statement M
+read_root_spec =
     tie.close
     (tie.spec (λ c κs. search rules) (λ c. search rules) (λ c κs. search rules) (λ c. search rules)
     (λ c.

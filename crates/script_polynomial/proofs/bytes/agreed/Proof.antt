@@ -43,8 +43,8 @@ returns-3 c =
     let a = c.before.before.args in
     omega (arith, l.invariant.2, bytes-end a.text.now a.bytes.now a.at l.i (omega arith))
 
-pub agreed-spec : {M : Type 1} → statement M
-agreed-spec =
+pub agreed_spec : {M : Type 1} → statement M
+agreed_spec =
     tie.close
     (tie.spec invariant-loop decreases-loop loop-holds (λ c. omega arith) (λ c. omega arith) returns (λ c. omega arith) (λ c. omega arith) (λ c. omega arith)
     (λ c. omega arith)

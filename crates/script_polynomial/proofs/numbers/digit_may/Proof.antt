@@ -18,5 +18,5 @@ returns-3 : tie.Need-returns-3
 unfolding digit_may
 returns-3 c = rw (le-leb 48 c.before.before.args.byte (omega arith), le-leb c.before.before.args.byte 57 (omega arith))
 
-pub digit-may-spec : {M : Type 1} → statement M
-digit-may-spec = tie.close (tie.spec returns returns-2 (λ c. search rules) (λ c. search rules) (λ c. search rules) returns-3)
+pub digit_may_spec : {M : Type 1} → statement M
+digit_may_spec = tie.close (tie.spec returns returns-2 (λ c. search rules) (λ c. search rules) (λ c. search rules) returns-3)

@@ -17,8 +17,8 @@ returns-3 c =
     let byte = c.before.before.before in
     magnitude-on _ _ _ byte.byte_at.ensures c.before.before.if1.false c.before.if2.false c.read-digits.ensures
 
-pub read-magnitude-spec : {M : Type 1} → statement M
-read-magnitude-spec =
+pub read_magnitude_spec : {M : Type 1} → statement M
+read_magnitude_spec =
     tie.close
     (tie.spec (λ c κs. search rules) (λ c. magnitude-low _ _ _ c.before.byte_at.ensures c.if1.true)
     (λ c. magnitude-high _ _ _ c.before.before.byte_at.ensures c.if2.true) (λ c. search rules) (λ c. search rules) (λ c. search rules)

@@ -52,8 +52,8 @@ returns-4 c =
     c.if2.false
     one.before.before.before.before.before.requires.1 (minus-value (number_read one.read-magnitude.ensures e).1)
 
-pub read-minus-spec : {M : Type 1} → statement M
-read-minus-spec =
+pub read_minus_spec : {M : Type 1} → statement M
+read_minus_spec =
     tie.close
     (tie.spec (λ c. search rules) (λ c κs. search rules) (λ c. search rules) (λ c. minus-unsaid _ _ _ c.before.agreed.ensures c.if1.true)
     read-magnitude-requires (λ c. search rules) (λ c. search rules) (λ c κs. search rules) returns-2 cast-t17 sub-t18 add-t19 returns-3 returns-4)

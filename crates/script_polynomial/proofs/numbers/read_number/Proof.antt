@@ -4,8 +4,8 @@ use Rattle.script_polynomial.proofs.Signed.{value_as, number-minus, number-plain
 use Rattle.script_polynomial.proofs.numbers.read_number.Statement.{statement}
 use Rattle.script_polynomial.proofs.numbers.read_number.Tie as tie
 
-pub read-number-spec : {M : Type 1} → statement M
-read-number-spec =
+pub read_number_spec : {M : Type 1} → statement M
+read_number_spec =
     tie.close
     (tie.spec (λ c κs. search rules) (λ c κs. search rules)
     (λ c. value_as _ (number-minus _ _ _ c.before.before.byte_at.ensures c.before.if1.true) c.read-minus.ensures)

@@ -16,8 +16,8 @@ returns-2 c =
     let e = c.before.found2.given.1 in
     plain-read _ h e (plain_value (number_read h e).1)
 
-pub read-plain-spec : {M : Type 1} → statement M
-read-plain-spec =
+pub read_plain_spec : {M : Type 1} → statement M
+read_plain_spec =
     tie.close
     (tie.spec (λ c κs. search rules) (λ c. search rules) (λ c. search rules) cast-t9
     (λ c. plain-stopped _ c.before.before.before.read-magnitude.ensures c.before.found.given.1) returns-2)

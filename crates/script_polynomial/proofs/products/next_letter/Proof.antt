@@ -5,8 +5,8 @@ use Rattle.script_polynomial.proofs.Factors.{letter-low, letter-far, letter-befo
 use Rattle.script_polynomial.proofs.products.next_letter.Statement.{statement}
 use Rattle.script_polynomial.proofs.products.next_letter.Tie as tie
 
-pub next-letter-spec : {M : Type 1} → statement M
-next-letter-spec =
+pub next_letter_spec : {M : Type 1} → statement M
+next_letter_spec =
     tie.close
     (tie.spec (λ c. letter-low _ _ _ _ _ c.before.requires.0 c.if1.true) (λ c. search rules)
     (λ c. letter-far _ _ _ _ _ c.before.before.requires.0 c.if2.true) (λ c. search rules) (λ c. search rules)

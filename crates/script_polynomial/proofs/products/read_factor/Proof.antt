@@ -59,8 +59,8 @@ returns-4 c =
     rw (power told) (factor-more _ _ _ _ _ _ s.requires.1 s.requires.3 told.before.before.before.before.byte_at.ensures _ (letter-found told)
     c.before.before.before.byte-at2.ensures both)
 
-pub read-factor-spec : {M : Type 1} → statement M
-read-factor-spec =
+pub read_factor_spec : {M : Type 1} → statement M
+read_factor_spec =
     tie.close
     (tie.spec (λ c κs. search rules) (λ c κs. search rules) (λ c. search rules) (λ c. search rules)
     (λ c. omega (arith, small c)) (λ c. omega (arith, small c)) (λ c. omega (arith, power c, room c)) (λ c. search rules) (λ c κs. search rules)

@@ -12,8 +12,8 @@ invariant-loop text at n limit next₀ after₀ product₀ next after product = 
 abbrev decreases-loop : tie.decreases-loop
 decreases-loop text at n limit next₀ after₀ product₀ next after product = limit - product
 
-pub read-factors-spec : {M : Type 1} → statement M
-read-factors-spec =
+pub read_factors_spec : {M : Type 1} → statement M
+read_factors_spec =
     tie.close
     (tie.spec invariant-loop decreases-loop (λ c. omega arith)
     (λ c. let s = c.before in factors-begin _ _ _ _ s.requires.0 s.requires.1 s.requires.3)

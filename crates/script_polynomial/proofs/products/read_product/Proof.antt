@@ -17,8 +17,8 @@ returns-2 c =
     product-read _ _ _ _ told.before.before.before.read_number.ensures told.before.number2.given.1
     (to_z-of_z w32 _ (record { sfits = told.known-told2.given.0.1 })) c.with-factors.ensures
 
-pub read-product-spec : {M : Type 1} → statement M
-read-product-spec =
+pub read_product_spec : {M : Type 1} → statement M
+read_product_spec =
     tie.close
     (tie.spec (λ c κs. search rules) (λ c. search rules) (λ c. search rules) with-factors-requires
     (λ c. product-stopped _ _ _ _ c.before.before.before.read_number.ensures c.before.number.given.1) returns-2)

@@ -6,9 +6,9 @@ use Rattle.rules.specs.Reading.{any_may}
 use Rattle.script_polynomial.proofs.products.space_may.Statement.{statement}
 use Rattle.script_polynomial.proofs.products.space_may.Tie as tie
 
-pub space-may-spec : {M : Type 1} → statement M
+pub space_may_spec : {M : Type 1} → statement M
 unfolding any_may
-space-may-spec =
+space_may_spec =
     tie.close
     (tie.spec (λ c. rw (ne_eqb c.before.args.byte 32 c.if1.true))
     (λ c. rw (eq-eqb c.before.before.args.byte 32 c.before.if1.false, le-ltb (c.before.before.args.monomial % 16) 15 (omega arith)))

@@ -11,8 +11,8 @@ returns-2 c =
     let s = c.before.before.before.before.before in
     with_read _ _ _ _ _ c.before.before.before.read-factors.ensures c.before.found2.given.1 (to_z-of_z w32 _ s.ranges.coefficient)
 
-pub with-factors-spec : {M : Type 1} → statement M
-with-factors-spec =
+pub with_factors_spec : {M : Type 1} → statement M
+with_factors_spec =
     tie.close
     (tie.spec (λ c κs. search rules) (λ c. search rules) (λ c. search rules)
     (λ c. with-stopped _ _ _ _ _ c.before.before.before.read-factors.ensures c.before.found.given.1) returns-2)

@@ -4,8 +4,8 @@ use Rattle.script_polynomial.proofs.Added.{after-end, after-spent, after-other, 
 use Rattle.script_polynomial.proofs.sums.after_term.Statement.{statement}
 use Rattle.script_polynomial.proofs.sums.after_term.Tie as tie
 
-pub after-term-spec : {M : Type 1} → statement M
-after-term-spec =
+pub after_term_spec : {M : Type 1} → statement M
+after_term_spec =
     tie.close
     (tie.spec (λ c κs. search rules) (λ c. search rules)
     (λ c. λ n. after-end _ _ c.before.byte_at.ensures n _ _ c.if1.true)

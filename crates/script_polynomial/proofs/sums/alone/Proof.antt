@@ -4,9 +4,9 @@ use Rattle.script_polynomial.specs.Terms.{alone_of}
 use Rattle.script_polynomial.proofs.sums.alone.Statement.{statement}
 use Rattle.script_polynomial.proofs.sums.alone.Tie as tie
 
-pub alone-spec : {M : Type 1} → statement M
+pub alone_spec : {M : Type 1} → statement M
 unfolding alone_of
-alone-spec =
+alone_spec =
     tie.close
     (tie.spec (λ c. search rules) (λ c. search rules) (λ c. search rules) (λ c. rw c.before.found.given.1)
     (λ c. rw c.before.found2.given.1)

@@ -11,8 +11,8 @@ returns c =
     let p = c.requires in
     rw (half_is n p.0 p.1) (two-halves n p.0 p.1, omega (arith, half-some n p.0 p.1))
 
-pub highest-spec : {M : Type 1} → statement M
-highest-spec =
+pub highest_spec : {M : Type 1} → statement M
+highest_spec =
     tie.close
     (tie.spec (λ c. search rules) (λ c. search rules) (λ c. search rules)
     (λ c. let p = c.requires in rw (half_is c.args.n p.0 p.1) (half-some c.args.n p.0 p.1))

@@ -9,7 +9,7 @@ add-t6 : tie.Need-overflow-add-t6
 unfolding CountedOf
 add-t6 c = omega (arith, (rw c.before.found2.given.1 at c.before.before.before.requires).is_counted)
 
-pub one-more-spec : {M : Type 1} → statement M
+pub one_more_spec : {M : Type 1} → statement M
 unfolding one_more_of
-one-more-spec =
+one_more_spec =
     tie.close (tie.spec (λ c. search rules) (λ c. search rules) add-t6 (λ c. rw c.before.found.given.1) (λ c. rw c.before.found2.given.1))

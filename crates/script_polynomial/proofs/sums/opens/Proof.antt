@@ -14,5 +14,5 @@ returns-2 c =
     let first = c.before.before in
     rw (← first.byte_at.ensures, eq-eqb first.byte_at.result 40 c.before.if1.false, ← c.byte-at2.ensures)
 
-pub opens-spec : {M : Type 1} → statement M
-opens-spec = tie.close (tie.spec (λ c κs. search rules) returns (λ c. search rules) (λ c κs. search rules) returns-2)
+pub opens_spec : {M : Type 1} → statement M
+opens_spec = tie.close (tie.spec (λ c κs. search rules) returns (λ c. search rules) (λ c κs. search rules) returns-2)

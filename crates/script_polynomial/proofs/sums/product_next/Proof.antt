@@ -11,5 +11,5 @@ returns c = rw (le-ltb 1 c.before.before.args.above (omega arith))
 returns-2 : tie.Need-returns-2
 returns-2 c = rw (lt-ltb 1 c.before.before.before.args.above (omega arith)) c.opens.ensures
 
-pub product-next-spec : {M : Type 1} → statement M
-product-next-spec = tie.close (tie.spec returns (λ c κs. search rules) returns-2)
+pub product_next_spec : {M : Type 1} → statement M
+product_next_spec = tie.close (tie.spec returns (λ c κs. search rules) returns-2)

@@ -21,8 +21,8 @@ returns-2 c =
     alone-read _ _ _ one.before.highest.ensures.0 one.read-term.ensures told.before.found2.given.1
     one.before.before.before.before.before.before.requires.3 _ c.spaced.ensures
 
-pub read-alone-spec : {M : Type 1} → statement M
-read-alone-spec =
+pub read_alone_spec : {M : Type 1} → statement M
+read_alone_spec =
     tie.close
     (tie.spec (λ c κs. search rules) (λ c κs. search rules) (λ c. search rules) (λ c. search rules) spaced-requires (λ c. search rules)
     (λ c. search rules) returns

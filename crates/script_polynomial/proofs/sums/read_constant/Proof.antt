@@ -12,8 +12,8 @@ returns-2 c =
     constant-read _ _ _ c.before.before.before.read_number.ensures c.before.found2.given.1
     (to_z-of_z w32 _ (record { sfits = c.known-told2.given.0.1 })) s.requires.2
 
-pub read-constant-spec : {M : Type 1} → statement M
-read-constant-spec =
+pub read_constant_spec : {M : Type 1} → statement M
+read_constant_spec =
     tie.close
     (tie.spec (λ c κs. search rules) (λ c. search rules) (λ c. search rules) (λ c. search rules) (λ c. search rules) (λ c. search rules)
     (λ c. search rules)

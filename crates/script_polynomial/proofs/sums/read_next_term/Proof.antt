@@ -42,8 +42,8 @@ returns-3 c =
     step-read _ _ _ _ _ tested.before.product-next.ensures tested.if1.false one.read-term.ensures told.before.found2.given.1
     tested.before.before.before.before.requires.3 _ (c.after-term.ensures _)
 
-pub read-next-term-spec : {M : Type 1} → statement M
-read-next-term-spec =
+pub read_next_term_spec : {M : Type 1} → statement M
+read_next_term_spec =
     tie.close
     (tie.spec (λ c κs. search rules) (λ c κs. search rules) (λ c. search rules) (λ c. search rules) returns
     (λ c. omega (arith, many c)) read-term-requires

@@ -42,8 +42,8 @@ returns-3 c =
     others-read _ _ _ _ tested.before.byte_at.ensures tested.if1.false one.read-next-terms.ensures told.before.found2.given.1 _
     c.spaced.ensures
 
-pub read-others-spec : {M : Type 1} → statement M
-read-others-spec =
+pub read_others_spec : {M : Type 1} → statement M
+read_others_spec =
     tie.close
     (tie.spec (λ c κs. search rules) (λ c. others-unspaced _ _ _ _ c.before.byte_at.ensures c.if1.true)
     (λ c. search rules) read-next-terms-requires

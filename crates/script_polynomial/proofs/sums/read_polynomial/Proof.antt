@@ -25,8 +25,8 @@ returns-3 c =
     tested.if2.false _
     one.read-constant.ensures c.alone.ensures
 
-pub read-polynomial-spec : {M : Type 1} → statement M
-read-polynomial-spec =
+pub read_polynomial_spec : {M : Type 1} → statement M
+read_polynomial_spec =
     tie.close
     (tie.spec (λ c κs. search rules) (λ c κs. search rules) (λ c. search rules) (λ c. search rules) returns (λ c κs. search rules)
     (λ c κs. search rules)

@@ -47,8 +47,8 @@ returns-3 c =
     told.before.found2.given.1
     _ others.read-others.ensures
 
-pub read-sum-spec : {M : Type 1} → statement M
-read-sum-spec =
+pub read_sum_spec : {M : Type 1} → statement M
+read_sum_spec =
     tie.close
     (tie.spec (λ c. search rules) (λ c κs. search rules) (λ c. search rules) (λ c. sum-unsaid _ _ _ c.before.agreed.ensures c.if1.true)
     (λ c κs. search rules)

@@ -24,8 +24,8 @@ returns-3 c =
     term-read _ _ _ _ one.before.before.agreed.ensures one.before.if1.false one.read-product.ensures c.before.found2.given.1
     (to_z-of_z w32 _ (record { sfits = c.known-told2.given.0.1 }))
 
-pub read-term-spec : {M : Type 1} → statement M
-read-term-spec =
+pub read_term_spec : {M : Type 1} → statement M
+read_term_spec =
     tie.close
     (tie.spec (λ c. search rules) (λ c κs. search rules) (λ c. search rules) (λ c. term-unsaid _ _ _ _ c.before.agreed.ensures c.if1.true)
     read-product-requires (λ c. search rules) (λ c. search rules) (λ c. search rules) (λ c. search rules) (λ c. search rules)

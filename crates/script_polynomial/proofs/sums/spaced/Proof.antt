@@ -4,8 +4,8 @@ use Rattle.script_polynomial.proofs.Polynomials.{no-space, one-space}
 use Rattle.script_polynomial.proofs.sums.spaced.Statement.{statement}
 use Rattle.script_polynomial.proofs.sums.spaced.Tie as tie
 
-pub spaced-spec : {M : Type 1} → statement M
-spaced-spec =
+pub spaced_spec : {M : Type 1} → statement M
+spaced_spec =
     tie.close
     (tie.spec (λ c κs. search rules) (λ c. no-space _ _ _ c.before.byte_at.ensures c.if1.true) (λ c. search rules)
     (λ c. one-space _ _ _ c.before.byte_at.ensures c.if1.false))

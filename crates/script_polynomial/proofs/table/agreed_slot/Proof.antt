@@ -52,8 +52,8 @@ returns c =
     c.agreed.ensures ∙ ap (λ (x : List ℕ). a.at + common x (drop a.at a.text.now))
     (text ∙ ap (λ (k : ℕ). polynomial_text a.n (terms_from a.coefficient.now a.monomial.now (16 * a.slot) k) ++ (32 ∷ [])) same)
 
-pub agreed-slot-spec : {M : Type 1} → statement M
-agreed-slot-spec =
+pub agreed_slot_spec : {M : Type 1} → statement M
+agreed_slot_spec =
     tie.close
     (tie.spec (λ c. search rules) (λ c κs. search rules) (λ c. search rules) (λ c. search rules) put-polynomial-requires (λ c. end-small c.before)
     (λ c. omega (arith, end-small c.before)) (λ c. simp length-set (omega (arith, long c.before, end-small c.before)))

@@ -43,7 +43,7 @@ returns c =
     let none : l.i ≡ 0 = omega arith in
     rw (none, sub-zero) at l.invariant.1
 
-pub longest-spec : {M : Type 1} → statement M
-longest-spec =
+pub longest_spec : {M : Type 1} → statement M
+longest_spec =
     tie.close
     (tie.spec invariant-loop decreases-loop loop-holds (λ c. omega arith) agreed-slot-requires (λ c κs. search rules) (λ c. omega arith) loop-again returns)

@@ -23,6 +23,6 @@ returns-2 c =
     let same = sym c.before.before.wide.ensures ∙ c.before.if1.false in
     rw same c.same-terms.ensures
 
-pub same-slot-spec : {M : Type 1} → statement M
-same-slot-spec =
+pub same_slot_spec : {M : Type 1} → statement M
+same_slot_spec =
     tie.close (tie.spec (λ c. search rules) (λ c κs. search rules) returns (λ c. search rules) same-terms-requires returns-2)

@@ -13,8 +13,8 @@ returns-2 c =
     simp (eq-eqb _ _ c.before.before.if1.false)
     (same_bits (get_or a.value.now a.i (pos 0)) (get_or a.coefficient.now a.place (pos 0)) c.before.c.given c.d.given)
 
-pub same-term-spec : {M : Type 1} → statement M
-same-term-spec =
+pub same_term_spec : {M : Type 1} → statement M
+same_term_spec =
     tie.close
     (tie.spec (λ c. search rules) (λ c. search rules) (λ c. search rules) (λ c. search rules) (λ c. simp (ne_eqb _ _ c.if1.true))
     (λ c. search rules)

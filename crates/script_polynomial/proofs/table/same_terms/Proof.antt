@@ -43,8 +43,8 @@ returns-2 c =
     let a = c.before.before.before.before.args in
     same_end a.coefficient.now a.monomial.now a.value.now a.powers.now a.place a.count l.i (omega arith) ∙ l.invariant
 
-pub same-terms-spec : {M : Type 1} → statement M
-same-terms-spec =
+pub same_terms_spec : {M : Type 1} → statement M
+same_terms_spec =
     tie.close
     (tie.spec invariant-loop decreases-loop (λ c. simp (add-zero, sub-zero)) (λ c. omega
     (arith, c.before.before.before.before.requires.0.coefficients)) same-term-requires returns

@@ -8,8 +8,8 @@ use Rattle.script_text.proofs.Texts.{polynomial-none, polynomial-one, polynomial
 use Rattle.script_text.proofs.polynomials.put_polynomial.Statement.{statement}
 use Rattle.script_text.proofs.polynomials.put_polynomial.Tie as tie
 
-pub put-polynomial-spec : {M : Type 1} → statement M
-put-polynomial-spec =
+pub put_polynomial_spec : {M : Type 1} → statement M
+put_polynomial_spec =
     tie.close
     (tie.spec (λ c. polynomial-none _ _ _ _ _ c.if1.true) (λ c. search rules) (λ c. search rules) (λ c. search rules) (λ c. search rules)
     (λ c κs.

@@ -15,8 +15,8 @@ use Rattle.script_text.proofs.polynomials.put_term.Tie as tie
 back : (s : tie.Start) → to_z w32 (of_z w32 s.args.coefficient) ≡ s.args.coefficient
 back s = to_z-of_z w32 s.args.coefficient s.ranges.coefficient
 
-pub put-term-spec : {M : Type 1} → statement M
-put-term-spec =
+pub put_term_spec : {M : Type 1} → statement M
+put_term_spec =
     tie.close
     (tie.spec
     (λ c κs. let s = c.before.before.before in fits-as (term-constant _ _ _ (back s) c.before.if1.true) s.requires.1)

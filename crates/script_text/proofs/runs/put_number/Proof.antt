@@ -22,8 +22,8 @@ sign p = p.minus-of.ensures ∙ ap minus_bit (back p.before.before.before)
 size : (p : tie.After-magnitude-of) → p.magnitude-of.result ≡ nat_abs p.before.before.args.x
 size p = p.magnitude-of.ensures ∙ ap nat_abs (back p.before.before)
 
-pub put-number-spec : {M : Type 1} → statement M
-put-number-spec =
+pub put_number_spec : {M : Type 1} → statement M
+put_number_spec =
     tie.close
     (tie.spec (λ c κs. search rules) (λ c κs. search rules)
     (λ c κs.

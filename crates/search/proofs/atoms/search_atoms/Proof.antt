@@ -27,8 +27,8 @@ search-atoms-by-requires c κs =
     let s = c.before.before.before.before.before.before.before.before.before.before.before.before in
     (s.requires, c.before.before.before.before.words_of.ensures)
 
-pub search-atoms-spec : {M : Type 1} → statement M
-search-atoms-spec =
+pub search_atoms_spec : {M : Type 1} → statement M
+search_atoms_spec =
     tie.close
     (tie.spec returns (λ c. search rules) (λ c. search rules) words-of-requires (λ c. search rules) (λ c. search rules) search-atoms-by-requires
     (λ c. c.search-atoms-by.ensures))

@@ -99,8 +99,8 @@ returns-2 c =
     let h : many a.count ≤ l.i = omega (arith, all) in
     atoms-nothing (table s) s.args.board a (λ j low. l.invariant j (omega arith))
 
-pub search-atoms-by-spec : {M : Type 1} → statement M
-search-atoms-by-spec =
+pub search_atoms_by_spec : {M : Type 1} → statement M
+search_atoms_by_spec =
     tie.close
     (tie.spec invariant-loop decreases-loop (λ c κs. search rules) (λ c j h. absurd (omega arith)) (λ c. search rules) (λ c. search rules) (λ c. search rules)
     (λ c κs. omega (arith, c.before.before.before.before.many.ensures)) cut-by-pairs-requires

@@ -36,8 +36,8 @@ returns-2 c e =
     let l = c.before.loop in
     record { each = λ j h. l.invariant.1 j (omega (arith, h, l.invariant.0, c.loop-test.false)) }
 
-pub all-fall-spec : {M : Type 1} → statement M
-all-fall-spec =
+pub all_fall_spec : {M : Type 1} → statement M
+all_fall_spec =
     tie.close
     (tie.spec invariant-loop decreases-loop (λ c κs. search rules) (λ c. (c.many.ensures, λ j h. absurd (omega arith))) (λ c. omega arith) (λ c. search rules)
     (λ c. omega arith) slot-falls-requires (λ c e. absurd (true≢false (sym e))) (λ c. omega arith) loop-again returns-2)

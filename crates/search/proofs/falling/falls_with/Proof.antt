@@ -8,5 +8,5 @@ use Rattle.search.proofs.falling.falls_with.Tie as tie
 returns : tie.Need-returns
 returns c e = (c.before.if1.true, c.slot-falls.ensures e)
 
-pub falls-with-spec : {M : Type 1} → statement M
-falls-with-spec = tie.close (tie.spec (λ c κs. search rules) returns (λ c e. absurd (true≢false (sym e))))
+pub falls_with_spec : {M : Type 1} → statement M
+falls_with_spec = tie.close (tie.spec (λ c κs. search rules) returns (λ c e. absurd (true≢false (sym e))))

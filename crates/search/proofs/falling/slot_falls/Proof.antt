@@ -16,5 +16,5 @@ returns c e =
     let s = c.before.before.before.before in
     let (f, g) = c.before.places.ensures in falls-slot s.args.terms.now s.args.k f g (c.falls.ensures e)
 
-pub slot-falls-spec : {M : Type 1} → statement M
-slot-falls-spec = tie.close (tie.spec (λ c κs. search rules) falls-requires returns)
+pub slot_falls_spec : {M : Type 1} → statement M
+slot_falls_spec = tie.close (tie.spec (λ c κs. search rules) falls-requires returns)

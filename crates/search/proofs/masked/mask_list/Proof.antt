@@ -46,8 +46,8 @@ returns c =
     let l = c.before.loop in
     record { words = l.invariant.1.0; atoms = λ j h. l.invariant.1.1 j (omega (arith, l.invariant.0)) }
 
-pub mask-list-spec : {M : Type 1} → statement M
-mask-list-spec =
+pub mask_list_spec : {M : Type 1} → statement M
+mask_list_spec =
     tie.close
     (tie.spec invariant-loop decreases-loop (λ c κs. search rules)
     (λ c. (c.many.ensures, (c.before.before.before.before.before.requires.1.1, λ j h. absurd (omega arith)))) (λ c. omega arith)

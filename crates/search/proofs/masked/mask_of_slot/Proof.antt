@@ -23,5 +23,5 @@ returns c =
     let (f, g) = c.before.places.ensures in
     at_slot s.args.terms.now s.args.k f g c.mask-of.ensures
 
-pub mask-of-slot-spec : {M : Type 1} → statement M
-mask-of-slot-spec = tie.close (tie.spec (λ c κs. search rules) mask-of-requires returns)
+pub mask_of_slot_spec : {M : Type 1} → statement M
+mask_of_slot_spec = tie.close (tie.spec (λ c κs. search rules) mask-of-requires returns)

@@ -89,8 +89,8 @@ returns-2 c =
     let h : many s.args.atoms.count ≤ d.loop.i = omega (arith, all, c.loop-test.false) in
     walk_end s.args.all d.loop.invariant (tries-end (table s) s.args.atoms _ _ _ h)
 
-pub cut-by-pairs-spec : {M : Type 1} → statement M
-cut-by-pairs-spec =
+pub cut_by_pairs_spec : {M : Type 1} → statement M
+cut_by_pairs_spec =
     tie.close
     (tie.spec invariant-loop decreases-loop (λ c κs. search rules) mask-of-slot-requires falls-with-requires (λ c. rw sub-zero) cut-with-requires
     (λ c. search rules) (λ c κs. search rules) returns (λ c. search rules) loop-again returns-2)

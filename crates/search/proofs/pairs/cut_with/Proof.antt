@@ -193,8 +193,8 @@ returns-2 c =
     let h : many s.args.t8.count ≤ d.loop.j = omega (arith, all) in
     walk_end s.args.all (d.loop.invariant.1 _ _ (stands s)) (with-end (table s) s.args.t8 _ _ _ _ h)
 
-pub cut-with-spec : {M : Type 1} → statement M
-cut-with-spec =
+pub cut_with_spec : {M : Type 1} → statement M
+cut_with_spec =
     tie.close
     (tie.spec invariant-loop decreases-loop (λ c κs. search rules) (λ c κs. search rules) (λ c. search rules) (λ c. search rules) (λ c. search rules)
     (λ c κs. search rules) mask-at-requires candidates-requires (λ c. search rules) next-requires loop-holds (λ c. search rules) (λ c. search rules)

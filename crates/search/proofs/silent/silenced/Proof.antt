@@ -12,5 +12,5 @@ returns c =
     let places : length c.args.atoms.set ≡ 64 = search rules in
     silenced-at c.args.atoms c.args.i c.requires (omega (arith, places, c.requires))
 
-pub silenced-spec : {M : Type 1} → statement M
-silenced-spec = tie.close (tie.spec (λ c. search rules) returns)
+pub silenced_spec : {M : Type 1} → statement M
+silenced_spec = tie.close (tie.spec (λ c. search rules) returns)

@@ -24,8 +24,8 @@ loop-again c =
 returns-2 : tie.Need-returns-2 invariant-loop decreases-loop
 returns-2 c e = record { each = λ j h. c.before.loop.invariant j (omega arith) }
 
-pub above-spec : {M : Type 1} → statement M
-above-spec =
+pub above_spec : {M : Type 1} → statement M
+above_spec =
     tie.close
     (tie.spec invariant-loop decreases-loop (λ c j h. absurd (omega arith)) (λ c. search rules) (λ c. search rules) (λ c. search rules)
     (λ c e. absurd (true≢false e)) (λ c. omega arith) loop-again returns-2)

@@ -42,5 +42,5 @@ returns-2 c =
     let s = c.before.before.before.before.before.before.before.before.before in
     c.cut-by-pairs.ensures ∙ rw (s.requires.0.0.forms.each_variable s.args.i s.requires.1.1.1)
 
-pub cut-variable-spec : {M : Type 1} → statement M
-cut-variable-spec = tie.close (tie.spec (λ c. search rules) (λ c. search rules) returns (λ c. search rules) cut-by-pairs-requires returns-2)
+pub cut_variable_spec : {M : Type 1} → statement M
+cut_variable_spec = tie.close (tie.spec (λ c. search rules) (λ c. search rules) returns (λ c. search rules) cut-by-pairs-requires returns-2)

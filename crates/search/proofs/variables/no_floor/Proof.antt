@@ -10,5 +10,5 @@ nothing-at zero i = refl
 nothing-at (suc n) zero = refl
 nothing-at (suc n) (suc i) = nothing-at n i
 
-pub no-floor-spec : {M : Type 1} → statement M
-no-floor-spec = tie.close (tie.spec (λ c. record { variables = refl; sets = λ i h. nothing-at 16 i }))
+pub no_floor_spec : {M : Type 1} → statement M
+no_floor_spec = tie.close (tie.spec (λ c. record { variables = refl; sets = λ i h. nothing-at 16 i }))

@@ -35,8 +35,8 @@ search-board-by-requires c κs =
     let s = c.before.before.before.before.before.before.before.before.before.before.before.before.before.before in
     (s.requires.0, (s.requires.1, c.before.before.before.before.words_of.ensures))
 
-pub search-board-spec : {M : Type 1} → statement M
-search-board-spec =
+pub search_board_spec : {M : Type 1} → statement M
+search_board_spec =
     tie.close
     (tie.spec returns (λ c κs. search rules) returns-2 (λ c. search rules) (λ c. search rules) words-of-requires (λ c. search rules)
     (λ c. search rules) search-board-by-requires (λ c. c.search-board-by.ensures))

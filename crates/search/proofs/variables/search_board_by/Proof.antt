@@ -88,8 +88,8 @@ returns-2 c =
     let h : b.variables ≤ l.i = omega arith in
     board-nothing (table s) b s.args.atoms (λ j low. l.invariant j (omega arith))
 
-pub search-board-by-spec : {M : Type 1} → statement M
-search-board-by-spec =
+pub search_board_by_spec : {M : Type 1} → statement M
+search_board_by_spec =
     tie.close
     (tie.spec invariant-loop decreases-loop (λ c j h. absurd (omega arith))
     (λ c. omega (arith, c.before.before.before.before.before.before.before.requires.0.0.forms.variables)) cut-variable-requires

@@ -36,5 +36,5 @@ returns-2 c =
     ∙ ap (cut_by_all s.args.set.0)
     (tries-quieted (quiet.ensures.quieted t ready.forms) (sets_of s.args.board) (form_at t s.args.number))
 
-pub cut-by-others-spec : {M : Type 1} → statement M
-cut-by-others-spec = tie.close (tie.spec returns (λ c κs. search rules) cut-by-pairs-requires returns-2)
+pub cut_by_others_spec : {M : Type 1} → statement M
+cut_by_others_spec = tie.close (tie.spec returns (λ c κs. search rules) cut-by-pairs-requires returns-2)

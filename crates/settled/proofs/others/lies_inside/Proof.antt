@@ -19,5 +19,5 @@ returns c =
     let left = rw (cut.before.intersect.ensures, cut.before.before.complement.ensures) at cut.cut-by-others.ensures in
     ap (λ (x : SignSet). eqb x 0) left ∙ inside-by-outside s.args.set.0 s.args.bound.0 _ s.requires.1.1.1
 
-pub lies-inside-spec : {M : Type 1} → statement M
-lies-inside-spec = tie.close (tie.spec (λ c κs. search rules) (λ c κs. search rules) cut-by-others-requires returns)
+pub lies_inside_spec : {M : Type 1} → statement M
+lies_inside_spec = tie.close (tie.spec (λ c κs. search rules) (λ c κs. search rules) cut-by-others-requires returns)

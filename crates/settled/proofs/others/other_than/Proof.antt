@@ -45,8 +45,8 @@ loop-again-2 c =
 returns : tie.Need-returns invariant-loop decreases-loop
 returns c = others-last c.before.loop.invariant.1.1 (omega arith) (omega arith)
 
-pub other-than-spec : {M : Type 1} → statement M
-other-than-spec =
+pub other_than_spec : {M : Type 1} → statement M
+other_than_spec =
     tie.close
     (tie.spec invariant-loop decreases-loop (λ c κs. search rules) loop-holds (λ c. omega arith) (λ c. omega arith) (λ c. omega arith) (λ c. omega arith)
     (λ c. omega (arith, room c, c.before.before.before.before.loop.invariant.1.1.numbers))

@@ -37,8 +37,8 @@ returns c =
     let none : c.before.loop.i ≡ 0 = omega arith in
     silent-first c.before.before.before.requires (rw none at c.before.loop.invariant.1)
 
-pub silent-spec : {M : Type 1} → statement M
-silent-spec =
+pub silent_spec : {M : Type 1} → statement M
+silent_spec =
     tie.close
     (tie.spec invariant-loop decreases-loop (λ c κs. search rules) loop-holds (λ c. omega arith) (λ c. omega arith) (λ c. omega arith) (λ c. omega arith)
     (λ c. omega arith) loop-again (λ c. omega arith) loop-again-2 returns)

@@ -17,5 +17,5 @@ returns c = rw (sym c.before.stays.ensures, c.if1.true)
 returns-2 : tie.Need-returns-2
 returns-2 c = rw (sym c.before.before.stays.ensures, c.before.if1.false) c.implied.ensures
 
-pub goes-spec : {M : Type 1} → statement M
-goes-spec = tie.close (tie.spec stays-requires returns (λ c κs. search rules) returns-2)
+pub goes_spec : {M : Type 1} → statement M
+goes_spec = tie.close (tie.spec stays-requires returns (λ c κs. search rules) returns-2)

@@ -43,8 +43,8 @@ returns-2 c =
     let settled = c.before.before.before.before.before.before.before.before.before.before.before.if1.false in
     c.says-inside.ensures ∙ implied-by-state (table s) _ _ r.result.ran r.ensures.outcome settled
 
-pub implied-spec : {M : Type 1} → statement M
-implied-spec =
+pub implied_spec : {M : Type 1} → statement M
+implied_spec =
     tie.close
     (tie.spec (λ c κs. search rules) (λ c κs. search rules) returns (λ c. search rules) (λ c κs. search rules) (λ c. search rules) (λ c κs. search rules)
     (λ c. search rules) says-inside-requires returns-2)

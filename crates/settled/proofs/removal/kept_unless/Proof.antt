@@ -4,8 +4,8 @@ use Rattle.settled.proofs.Removing.{removed-one, kept-one}
 use Rattle.settled.proofs.removal.kept_unless.Statement.{statement}
 use Rattle.settled.proofs.removal.kept_unless.Tie as tie
 
-pub kept-unless-spec : {M : Type 1} → statement M
-kept-unless-spec =
+pub kept_unless_spec : {M : Type 1} → statement M
+kept_unless_spec =
     tie.close
     (tie.spec (λ c. search rules) (λ c. search rules) (λ c. search rules) (λ c. removed-one _ _ _ c.if1.true) (λ c κs. search rules)
     (λ c. kept-one _ _ _ c.before.before.if1.false c.push.ensures))

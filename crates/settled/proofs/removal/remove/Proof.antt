@@ -75,8 +75,8 @@ returns c = (
   counting-last c.before.loop.invariant.1.1.1.1 (omega arith),
 )
 
-pub remove-spec : {M : Type 1} → statement M
-remove-spec =
+pub remove_spec : {M : Type 1} → statement M
+remove_spec =
     tie.close
     (tie.spec invariant-loop decreases-loop (λ c κs. search rules) (λ c κs. search rules)
     (λ c. (omega arith, (c.before.many.ensures, (removing-first _ _ _ _ _ _ (length-replicate {A = Bool} 64 false), (some_first _ _ _ _, counting-first _ _ _ _ _ _ _)))))

@@ -90,8 +90,8 @@ returns c = (
   counting-last c.before.loop.invariant.1.1.1.1.0 (omega arith),
 )
 
-pub remove-counting-spec : {M : Type 1} → statement M
-remove-counting-spec =
+pub remove_counting_spec : {M : Type 1} → statement M
+remove_counting_spec =
     tie.close
     (tie.spec invariant-loop decreases-loop (λ c κs. search rules) (λ c κs. search rules) (λ c κs. search rules)
     (λ c. (omega arith, (c.before.before.many.ensures, (removing-first _ _ _ _ _ _ (length-replicate {A = Bool} 64 false), (some_first _ _ _ _, (counting-first _ _ _ _ _ _ _, λ e. absurd (c.unknown.ensures e)))))))

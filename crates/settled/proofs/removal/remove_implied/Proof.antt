@@ -76,8 +76,8 @@ returns-2 c =
 small : (c : tie.After-many) → ((start c.before.before.before.before.before.before.before.before).args.variables ≤ 16) × (c.many.result ≤ 64)
 small c = ((start c.before.before.before.before.before.before.before.before).requires.0.variables, omega (arith, c.many.ensures))
 
-pub remove-implied-spec : {M : Type 1} → statement M
-remove-implied-spec =
+pub remove_implied_spec : {M : Type 1} → statement M
+remove_implied_spec =
     tie.close
     (tie.spec (λ c. search rules) (λ c κs. search rules) (λ c. search rules) (λ c κs. search rules) (λ c. search rules) (λ c. search rules)
     (λ c. search rules) words-of-requires (λ c κs. search rules)

@@ -44,7 +44,7 @@ returns c =
     cut-by-over _ _ _ s.requires.0.1.0 (sets_of s.args.board) number s.args.others _ _ _ c.cut_by.ensures
     ∙ rw (by, c.before.before.before.many.ensures, sub-zero)
 
-pub said-before-pairs-spec : {M : Type 1} → statement M
-said-before-pairs-spec =
+pub said_before_pairs_spec : {M : Type 1} → statement M
+said_before_pairs_spec =
     tie.close
     (tie.spec (λ c κs. search rules) (λ c κs. search rules) (λ c κs. ((held_at c).coefficients, (held_at c).signs)) cut-by-requires returns)

@@ -34,5 +34,5 @@ returns c =
     ∙ ap (λ (x : SignSet). inside_of x s.args.set.0)
     (said-by-pairs (state_of t s.args.state) (form_at t s.args.number) others c.before.said-before-pairs.ensures)
 
-pub said-inside-spec : {M : Type 1} → statement M
-said-inside-spec = tie.close (tie.spec (λ c κs. search rules) said-before-pairs-requires lies-inside-requires returns)
+pub said_inside_spec : {M : Type 1} → statement M
+said_inside_spec = tie.close (tie.spec (λ c κs. search rules) said-before-pairs-requires lies-inside-requires returns)

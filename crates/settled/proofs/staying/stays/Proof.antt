@@ -17,5 +17,5 @@ returns-2 c =
     let s = c.before.before.before.before.before.before.before.before.before in
     form-stays (table s) _ _ c.before.before.before.which.ensures.0 c.before.enum_told.given.1 c.said-inside.ensures
 
-pub stays-spec : {M : Type 1} → statement M
-stays-spec = tie.close (tie.spec (λ c κs. search rules) (λ c. search rules) (λ c. search rules) (λ c κs. search rules) returns returns-2)
+pub stays_spec : {M : Type 1} → statement M
+stays_spec = tie.close (tie.spec (λ c κs. search rules) (λ c. search rules) (λ c. search rules) (λ c κs. search rules) returns returns-2)

@@ -10,8 +10,8 @@ any-left-requires c κs = let s = c.before.before.before.before in (s.requires.0
 cut-by-pair-requires : tie.Need-cut-by-pair-requires
 cut-by-pair-requires c κs = c.before.before.before.before.before.before.requires.0.0
 
-pub cut-by-sifted-pair-spec : {M : Type 1} → statement M
-cut-by-sifted-pair-spec =
+pub cut_by_sifted_pair_spec : {M : Type 1} → statement M
+cut_by_sifted_pair_spec =
     tie.close
     (tie.spec (λ c κs. search rules) any-left-requires cut-by-pair-requires (λ c. c.cut-by-pair.ensures)
     (λ c. c.before.any_left.ensures.leaves c.if2.false _)

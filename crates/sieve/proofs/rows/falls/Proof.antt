@@ -21,8 +21,8 @@ loop-again c = falls-more c.before.before.before.before.before.loop.invariant (�
 loop-again-2 : tie.Need-loop-preserved-2 invariant-loop decreases-loop
 loop-again-2 c = falls-more c.before.before.before.loop.invariant (λ l. absurd (omega arith))
 
-pub falls-spec : {M : Type 1} → statement M
-falls-spec =
+pub falls_spec : {M : Type 1} → statement M
+falls_spec =
     tie.close
     (tie.spec invariant-loop decreases-loop (λ c. record { each = λ j a b d. absurd (omega (arith, a, b)) }) (λ c. omega arith) (λ c. omega arith)
     (λ c. omega arith) (λ c. omega arith) (λ c. omega arith) (λ c e. absurd (true≢false (sym e))) (λ c. omega arith) loop-again (λ c. omega arith)

@@ -36,8 +36,8 @@ taken-requires-3 c κs =
     let s = c.before.before.before.before.before.before.before.before.before in
     let x = s.requires.0 in record { coefficients = x.q2.coefficients; monomials = x.q2.monomials; signs = x.q2.signs }
 
-pub next-row-spec : {M : Type 1} → statement M
-next-row-spec =
+pub next_row_spec : {M : Type 1} → statement M
+next_row_spec =
     tie.close
     (tie.spec (λ c κs. search rules) (λ c κs. search rules) (λ c κs. search rules) (λ c κs. search rules) (λ c κs. search rules)
     (λ c κs. search rules)

@@ -5,5 +5,5 @@ use Rattle.sieve.specs.Rows.{first, second, third}
 use Rattle.sieve.proofs.rows.shared.Statement.{statement}
 use Rattle.sieve.proofs.rows.shared.Tie as tie
 
-pub shared-spec : {M : Type 1} → statement M
-shared-spec = tie.close (tie.spec (λ c. first refl) (λ c. second refl) (λ c. third refl))
+pub shared_spec : {M : Type 1} → statement M
+shared_spec = tie.close (tie.spec (λ c. first refl) (λ c. second refl) (λ c. third refl))

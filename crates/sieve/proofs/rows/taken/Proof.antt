@@ -17,8 +17,8 @@ returns-2 c = other (λ l e. c.if2.false e) refl refl refl
 returns-3 : tie.Need-returns-3
 returns-3 c = other (λ l e. omega (arith, l, c.if1.false)) refl refl refl
 
-pub taken-spec : {M : Type 1} → statement M
-taken-spec =
+pub taken_spec : {M : Type 1} → statement M
+taken_spec =
     tie.close
     (tie.spec (λ c. search rules) (λ c. search rules) (λ c. search rules) (λ c. search rules) (λ c. search rules) (λ c. search rules)
     returns returns-2 returns-3)

@@ -9,5 +9,5 @@ returns c = can-be-positive _ c.if1.true
 returns-2 : tie.Need-returns-2
 returns-2 c = can-be-negative _ c.if1.false
 
-pub can-be-spec : {M : Type 1} → statement M
-can-be-spec = tie.close (tie.spec returns returns-2)
+pub can_be_spec : {M : Type 1} → statement M
+can_be_spec = tie.close (tie.spec returns returns-2)

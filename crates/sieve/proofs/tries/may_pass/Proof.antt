@@ -27,8 +27,8 @@ returns c =
       to_z-of_z w32 _ (record { sfits = c.before.before.before.z.given }),
     ) at c.before.row-bars.ensures) c.if1.true
 
-pub may-pass-spec : {M : Type 1} → statement M
-may-pass-spec =
+pub may_pass_spec : {M : Type 1} → statement M
+may_pass_spec =
     tie.close
     (tie.spec invariant-loop decreases-loop (λ c. tt) (λ c κs. search rules)
     (λ c. omega (arith, low c)) (λ c. omega (arith, low c, c.before.before.before.before.requires.first))

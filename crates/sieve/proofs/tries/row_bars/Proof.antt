@@ -17,7 +17,7 @@ returns-3 c =
     bars-above (sum-above f.a f.u f.b f.w f.c c.before.before.before.plus.ensures c.before.before.cross.ensures
     c.before.if1.false) c.can-be2.ensures
 
-pub row-bars-spec : {M : Type 1} → statement M
-row-bars-spec =
+pub row_bars_spec : {M : Type 1} → statement M
+row_bars_spec =
     tie.close
     (tie.spec (λ c κs. search rules) (λ c κs. search rules) (λ c. bars-none) (λ c κs. search rules) returns-2 (λ c κs. search rules) returns-3)

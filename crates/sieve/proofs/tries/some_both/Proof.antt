@@ -24,8 +24,8 @@ returns-2 c = both-ended c.before.loop.invariant (omega arith)
 some-second-requires : tie.Need-some-second-requires invariant-loop decreases-loop
 some-second-requires c κs = let s = c.before.before.before.before in (s.requires.0, s.requires.1.1)
 
-pub some-both-spec : {M : Type 1} → statement M
-some-both-spec =
+pub some_both_spec : {M : Type 1} → statement M
+some_both_spec =
     tie.close
     (tie.spec invariant-loop decreases-loop (λ c. both-begun) (λ c κs. search rules) (λ c. omega arith) some-second-requires
     (λ c. both-pass) (λ c. omega arith) loop-again returns-2)

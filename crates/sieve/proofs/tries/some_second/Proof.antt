@@ -23,8 +23,8 @@ loop-again c =
 returns-2 : tie.Need-returns-2 invariant-loop decreases-loop
 returns-2 c = second_ended c.before.before.before.ranges.u c.before.loop.invariant (omega arith)
 
-pub some-second-spec : {M : Type 1} → statement M
-some-second-spec =
+pub some_second_spec : {M : Type 1} → statement M
+some_second_spec =
     tie.close
     (tie.spec invariant-loop decreases-loop (λ c. second-begun) (λ c κs. search rules) (λ c. omega arith) (λ c κs. c.before.before.before.before.requires.0)
     (λ c. second-passes) (λ c. omega arith) loop-again returns-2)

@@ -25,8 +25,8 @@ returns-5 c =
     (omega (arith, c.before.before.if4.false))
     c.before.both4.ensures c.some-halves4.ensures (λ e. leb-false _ _ e)
 
-pub some-test-spec : {M : Type 1} → statement M
-some-test-spec =
+pub some_test_spec : {M : Type 1} → statement M
+some_test_spec =
     tie.close
     (tie.spec returns (λ c κs. search rules) (λ c κs. search rules) (λ c κs. search rules) (λ c κs. search rules)
     (λ c κs. search rules) (λ c κs. search rules) (λ c. test-passes) (λ c κs. search rules) (λ c κs. search rules) (λ c. test-passes)

@@ -11,5 +11,5 @@ returns : tie.Need-returns
 unfolding open_signs three_bits
 returns c = at_one three_bits bits-remainder c.before.args.self.0 (λ x e So so. rw e at so) refl
 
-pub bits-spec : {M : Type 1} → statement M
-bits-spec = tie.close (tie.spec returns)
+pub bits_spec : {M : Type 1} → statement M
+bits_spec = tie.close (tie.spec returns)

@@ -11,5 +11,5 @@ returns : tie.Need-returns
 unfolding open_signs
 returns c = at_one complement complement-remainder c.before.args.self.0 (λ x e So so. rw e at so) refl
 
-pub complement-spec : {M : Type 1} → statement M
-complement-spec = tie.close (tie.spec (λ c. search rules) returns)
+pub complement_spec : {M : Type 1} → statement M
+complement_spec = tie.close (tie.spec (λ c. search rules) returns)

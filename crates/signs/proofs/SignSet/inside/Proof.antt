@@ -11,5 +11,5 @@ returns : tie.Need-returns
 unfolding inside
 returns c = ap (λ (n : ℕ). eqb n c.before.before.before.args.self.0) c.before.before.intersect.ensures
 
-pub inside-spec : {M : Type 1} → statement M
-inside-spec = tie.close (tie.spec (λ c κs. search rules) returns)
+pub inside_spec : {M : Type 1} → statement M
+inside_spec = tie.close (tie.spec (λ c κs. search rules) returns)

@@ -10,5 +10,5 @@ returns : tie.Need-returns
 unfolding open_signs
 returns c = let s = c.before.before.args in at-two intersect intersect-remainder s.self.0 s.other.0 (λ x y e d So so. rw (e, d) at so) refl
 
-pub intersect-spec : {M : Type 1} → statement M
-intersect-spec = tie.close (tie.spec returns)
+pub intersect_spec : {M : Type 1} → statement M
+intersect_spec = tie.close (tie.spec returns)

@@ -15,5 +15,5 @@ returns c =
     let a = m.before.args.self.0 in
     c.set-of.ensures ∙ at_one mirror mirror-remainder a (λ x e So so. rw (bits_of a x m.bits.ensures e) at so) refl
 
-pub mirror-spec : {M : Type 1} → statement M
-mirror-spec = tie.close (tie.spec (λ c κs. search rules) (λ c κs. search rules) returns)
+pub mirror_spec : {M : Type 1} → statement M
+mirror_spec = tie.close (tie.spec (λ c κs. search rules) (λ c κs. search rules) returns)

@@ -17,5 +17,5 @@ returns c =
     c.set-of.ensures ∙
     at-two product product-remainder a b (λ x y e d So so. rw (bits_of a x m.before.bits.ensures e, bits_of b y m.bits2.ensures d) at so) refl
 
-pub product-spec : {M : Type 1} → statement M
-product-spec = tie.close (tie.spec (λ c κs. search rules) (λ c κs. search rules) (λ c κs. search rules) returns)
+pub product_spec : {M : Type 1} → statement M
+product_spec = tie.close (tie.spec (λ c κs. search rules) (λ c κs. search rules) (λ c κs. search rules) returns)

@@ -15,5 +15,5 @@ returns c =
     let a = m.before.args.self.0 in
     c.set-of.ensures ∙ at_one square square-remainder a (λ x e So so. rw (bits_of a x m.bits.ensures e) at so) refl
 
-pub square-spec : {M : Type 1} → statement M
-square-spec = tie.close (tie.spec (λ c κs. search rules) (λ c κs. search rules) returns)
+pub square_spec : {M : Type 1} → statement M
+square_spec = tie.close (tie.spec (λ c κs. search rules) (λ c κs. search rules) returns)

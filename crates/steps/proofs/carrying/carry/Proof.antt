@@ -20,7 +20,7 @@ carries c l h =
     c.before.before.before.before.before.before.before.run-largest.ensures c.before.before.before.before.before.if1.false
     c.before.before.before.before.carried.ensures _ (c.before.before.with-sets.ensures l h)
 
-pub carry-spec : {M : Type 1} → statement M
-carry-spec =
+pub carry_spec : {M : Type 1} → statement M
+carry_spec =
     tie.close
     (tie.spec (λ c κs. search rules) (λ c κs. search rules) (λ c. search rules) contradiction (λ c κs. search rules) (λ c κs. search rules) (λ c. search rules) carries)

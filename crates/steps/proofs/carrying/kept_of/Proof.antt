@@ -56,8 +56,8 @@ removes c =
 returns : tie.Need-returns invariant-loop decreases-loop
 returns c l h = leave-end (rw (rest-none l c.before.loop.i (omega (arith, h.size, c.loop-test.false))) at (c.before.loop.invariant.1.1.1.1 l h))
 
-pub kept-of-spec : {M : Type 1} → statement M
-kept-of-spec =
+pub kept_of_spec : {M : Type 1} → statement M
+kept_of_spec =
     tie.close
     (tie.spec invariant-loop decreases-loop (λ c. (omega arith, (omega arith, (refl, (ahead-start _ 0, λ l h. leave-start _ l _ (record { is = refl; size = refl })))))) (λ c. omega arith) (λ c. omega arith)
     (λ c. omega arith) (λ c. omega arith) (λ c. omega arith) (λ c. omega arith) (λ c. omega arith) (λ c. omega arith) keeps (λ c. omega arith) removes (λ c. c.before.loop.invariant.1.1.0) returns)

@@ -38,8 +38,8 @@ returns c l h =
     let loop = c.before.loop in
     counted (set-end (rw (rest-none l loop.i (omega (arith, h.size, c.loop-test.false))) at (loop.invariant.1.1.1 l h))) (omega (arith, loop.invariant.0, c.loop-test.false))
 
-pub with-sets-spec : {M : Type 1} → statement M
-with-sets-spec =
+pub with_sets_spec : {M : Type 1} → statement M
+with_sets_spec =
     tie.close
     (tie.spec invariant-loop decreases-loop (λ c. (omega arith, (refl, (ahead-start _ 0, λ l h. set-start _ l _ (record { is = refl; size = refl }))))) (λ c. omega arith) (λ c. omega arith)
     (λ c. omega arith) (λ c κs. tt) (λ c. omega arith) (λ c. omega arith) (λ c. omega arith) (λ c. omega arith) loop-again (λ c. c.before.loop.invariant.1.0) returns)

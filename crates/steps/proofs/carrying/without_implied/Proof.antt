@@ -16,6 +16,6 @@ returns c l h =
     let removed = c.before.before.before.before.before.remove-implied in
     remains atoms.result (atoms.ensures.1 _ l h) removed.ensures.0 removed.ensures.1 _ (c.before.before.kept_of.ensures l h)
 
-pub without-implied-spec : {M : Type 1} → statement M
-without-implied-spec =
+pub without_implied_spec : {M : Type 1} → statement M
+without_implied_spec =
     tie.close (tie.spec (λ c κs. search rules) remove-implied-requires (λ c κs. search rules) (λ c. search rules) returns)

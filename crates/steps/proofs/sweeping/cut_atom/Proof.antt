@@ -15,7 +15,7 @@ returns c =
     cut-is _ _ c.before.before.before.before.before.before.before.before.before.before.before.before.before.before.before.args.token _ _ _ _ _ _ _ (rw c.before.before.before.before.before.before.before.before.before.slot_of.ensures at c.before.before.before.before.before.before.before.before.says.ensures) (rw c.before.before.before.before.before.before.before.set-of.ensures at c.before.before.before.before.before.before.complement.ensures) c.before.before.before.before.before.inside.ensures
     c.before.before.before.before.intersect.ensures refl c.before.before.before.complement2.ensures c.before.before.with-set.ensures
 
-pub cut-atom-spec : {M : Type 1} → statement M
-cut-atom-spec =
+pub cut_atom_spec : {M : Type 1} → statement M
+cut_atom_spec =
     tie.close
     (tie.spec (λ c κs. search rules) says-requires (λ c κs. search rules) (λ c κs. search rules) (λ c κs. search rules) (λ c κs. search rules) (λ c κs. search rules) (λ c κs. search rules) returns)

@@ -13,6 +13,6 @@ enters c k walk all l own rest s h place =
     child-enters (rw (its-atoms place) at (c.before.before.before.before.prune.ensures.1 k all h (omega (arith, child-ends place)))) c.before.before.before.if1.false _ _
     (rw (its_own place) at (c.before.before.part.ensures.1 k all h (omega (arith, child-ends place)))) (λ kids shows. c.add.ensures _ walk kids s shows)
 
-pub enter-pruned-spec : {M : Type 1} → statement M
-enter-pruned-spec =
+pub enter_pruned_spec : {M : Type 1} → statement M
+enter_pruned_spec =
     tie.close (tie.spec (λ c. search rules) (λ c. search rules) (λ c. search rules) (λ c κs. search rules) dropped (λ c. search rules) (λ c κs. search rules) (λ c κs. search rules) enters)

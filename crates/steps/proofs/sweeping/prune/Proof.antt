@@ -65,8 +65,8 @@ returns c = (
   λ n l h k. prune-end (rw (part-done l c.before.loop.i _ c.loop-test.false) at (c.before.loop.invariant.1.1.1 n l h k)),
 )
 
-pub prune-spec : {M : Type 1} → statement M
-prune-spec =
+pub prune_spec : {M : Type 1} → statement M
+prune_spec =
     tie.close
     (tie.spec invariant-loop decreases-loop
     (λ c. (c.before.before.before.before.before.before.requires.1.0, (omega arith, (refl, λ n l h k. prune-start _ _ _ _ (record { is = refl; size = refl })))))

@@ -29,8 +29,8 @@ walk-over-requires c κs =
       pre.1.1,
     )
 
-pub sweep-spec : {M : Type 1} → statement M
-sweep-spec =
+pub sweep_spec : {M : Type 1} → statement M
+sweep_spec =
     tie.close
     (tie.spec (λ c. search rules) (λ c κs. search rules) (λ c. search rules) (λ c. search rules) (λ c. search rules) words-of-requires
     (λ c. search rules) (λ c. search rules) (λ c. search rules) walk-over-requires (λ c. c.walk-over.ensures))

@@ -26,8 +26,8 @@ loop-again c children h =
     let q = sweep-here (c.before.before.before.before.before.loop.invariant children h) _ h _ _ c.before.before.atoms-of.ensures.0 c.before.tokens-of.ensures.0 c.before.before.before.before.before.before.before.before.before.before.before.before.before.requires.1.1.0 c.before.before.before.before.loop-test.true in
     sweep-turn q _ (c.enter-pruned.ensures _ q.walk _ q.atoms q.own _ q.stands h q.at)
 
-pub walk-over-spec : {M : Type 1} → statement M
-walk-over-spec =
+pub walk_over_spec : {M : Type 1} → statement M
+walk_over_spec =
     tie.close
     (tie.spec invariant-loop decreases-loop (λ c κs. tt) (λ c children h. sweep-start _ _ children _ c.begin.ensures.0 (c.begin.ensures.1.1 _))
     (λ c. omega (arith, c.loop-test.true, c.before.before.before.before.before.before.before.before.before.requires.1.1.0, c.before.before.before.before.before.before.before.before.before.requires.1.0)) (λ c. omega (arith, c.before.loop-test.true, c.before.before.before.before.before.before.before.before.before.before.requires.1.1.0, c.before.before.before.before.before.before.before.before.before.before.requires.1.0)) (λ c κs. tt) (λ c κs. tt) enter-pruned-requires

@@ -29,8 +29,8 @@ returns c =
           rw inv.1.0 (fill_end refl (omega arith) (rw e at inv.1.1.1.1) t l h),
     )
 
-pub atoms-in-spec : {M : Type 1} → statement M
-atoms-in-spec =
+pub atoms_in_spec : {M : Type 1} → statement M
+atoms_in_spec =
     tie.close
     (tie.spec invariant-loop decreases-loop (λ c. (omega arith, (refl, (refl, (refl, fill_start _ _ _))))) (λ c. omega arith) (λ c. omega arith) (λ c. omega arith) (λ c. omega arith)
     (λ c. omega arith) (λ c. omega arith) (λ c. omega arith) (λ c. omega arith) loop-again returns)

@@ -20,8 +20,8 @@ one c =
 variable : tie.Need-returns-4
 variable c = truth-variable c.before.before.before.before.before.before.before.before.requires _ _ c.before.before.before.before.before.slot_of.ensures c.before.before.before.if1.false c.before.before.if2.false c.if3.false
 
-pub if-constant-spec : {M : Type 1} → statement M
-if-constant-spec =
+pub if_constant_spec : {M : Type 1} → statement M
+if_constant_spec =
     tie.close
     (tie.spec (λ c κs. search rules) (λ c. search rules) many (λ c κs. search rules) none (λ c. search rules) (λ c. search rules) (λ c. search rules) (λ c. search rules)
     (λ c. search rules) (λ c. search rules) (λ c κs. search rules) (λ c κs. search rules) one variable)

@@ -78,8 +78,8 @@ returns c = (
   λ l h. merge-end (rw (rest-none l c.before.loop.i (omega (arith, h.size, c.loop-test.false))) at (c.before.loop.invariant.1.1.1.1 l h)),
 )
 
-pub merge-spec : {M : Type 1} → statement M
-merge-spec =
+pub merge_spec : {M : Type 1} → statement M
+merge_spec =
     tie.close
     (tie.spec invariant-loop decreases-loop (λ c. (omega arith, (omega arith, (refl, (ahead-start _ 0, λ l h. merge-start _ l _ (record { is = refl; size = refl })))))) (λ c. omega arith) (λ c. omega arith) (λ c. omega arith)
     (λ c κs. c.before.before.before.before.before.before.requires.0) (λ c. c.match.keys1)

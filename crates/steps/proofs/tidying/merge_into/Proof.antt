@@ -62,8 +62,8 @@ pushed c =
       ),
     )
 
-pub merge-into-spec : {M : Type 1} → statement M
-merge-into-spec =
+pub merge_into_spec : {M : Type 1} → statement M
+merge_into_spec =
     tie.close
     (tie.spec invariant-loop decreases-loop (λ c κs. tt) (λ c. (omega arith, (refl, (ahead-start _ _, λ t l forms h. (h, into-start t _ l))))) (λ c. omega arith) (λ c. omega arith) (λ c κs. tt)
     (λ c κs. tt) (λ c κs. tt) (λ c κs. tt) (λ c κs. tt) (λ c. omega arith) (λ c. omega arith) (λ c. simp length-set c.before.before.before.before.before.before.before.before.loop.invariant.1.0) found (λ c. omega arith) (λ c. omega arith) again

@@ -17,5 +17,5 @@ goes c l h =
     let m = merged.1 l h in
     tidy-goes h merged.0 m c.before.before.before.before.if1.false (c.before.before.without-full.ensures _ m.list m.lists)
 
-pub tidy-spec : {M : Type 1} → statement M
-tidy-spec = tie.close (tie.spec (λ c κs. search rules) (λ c. search rules) broken without-full-requires (λ c. search rules) goes)
+pub tidy_spec : {M : Type 1} → statement M
+tidy_spec = tie.close (tie.spec (λ c κs. search rules) (λ c. search rules) broken without-full-requires (λ c. search rules) goes)

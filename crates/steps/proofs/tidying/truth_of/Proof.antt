@@ -12,5 +12,5 @@ returns-2 : tie.Need-returns-2
 unfolding truth_if
 returns-2 c = rw (sym c.before.before.set-of.ensures, sym c.before.inside.ensures, c.if1.false)
 
-pub truth-of-spec : {M : Type 1} → statement M
-truth-of-spec = tie.close (tie.spec (λ c κs. search rules) (λ c κs. search rules) returns returns-2)
+pub truth_of_spec : {M : Type 1} → statement M
+truth_of_spec = tie.close (tie.spec (λ c κs. search rules) (λ c κs. search rules) returns returns-2)

@@ -68,8 +68,8 @@ is-full c =
 returns : tie.Need-returns-2 invariant-loop decreases-loop
 returns c t l h = keep-end (rw (rest-none l c.before.loop.i (omega (arith, h.size, c.loop-test.false))) at (c.before.loop.invariant.1.1.1.1 t l h))
 
-pub without-full-spec : {M : Type 1} → statement M
-without-full-spec =
+pub without_full_spec : {M : Type 1} → statement M
+without_full_spec =
     tie.close
     (tie.spec invariant-loop decreases-loop (λ c. (omega arith, (omega arith, (refl, (ahead-start _ 0, λ t l h. keep-start t l _ (record { is = refl; size = refl })))))) (λ c. omega arith) (λ c. omega arith)
     (λ c. omega arith) (λ c κs. tt) (λ c. c.before.before.before.before.before.before.loop.invariant.1.1.0) is-empty (λ c. omega arith) (λ c. omega arith) (λ c. omega arith)

@@ -11,7 +11,7 @@ lay-requires c κs =
     let other-long = length_unmapped ℕ start.args.other.token 256 start.well-formed.1.0.1.1.0.1.0.1 in
     (start.requires.0, (omega (arith, start.requires.1.0, other-long), omega (arith, start.requires.1.1, long)))
 
-pub append-spec : {M : Type 1} → statement M
-append-spec =
+pub append_spec : {M : Type 1} → statement M
+append_spec =
     tie.close
     (tie.spec (λ c. search rules) (λ c. search rules) lay-requires (λ c. search rules) (λ c. search rules) (λ c. (omega (arith, c.before.before.before.before.before.before.requires.0), λ l m p q h. c.before.lay.ensures _ l m p q h)))

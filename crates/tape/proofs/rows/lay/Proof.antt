@@ -33,8 +33,8 @@ returns c k l m p q h =
     let f : loop.place ≡ args.n + (args.to - args.from) = omega arith in
     counted (rw e at (loop.invariant.1.1.1.1 k l m p q h)) f
 
-pub lay-spec : {M : Type 1} → statement M
-lay-spec =
+pub lay_spec : {M : Type 1} → statement M
+lay_spec =
     tie.close
     (tie.spec invariant-loop decreases-loop (λ c. (omega arith, (omega arith, (refl, (refl, λ k l m p q h. part-start m c.args.from p))))) (λ c. omega arith) (λ c. omega arith) (λ c. omega arith) (λ c. omega arith)
     (λ c. omega arith) (λ c. omega arith) (λ c. omega arith) loop-again (λ c. c.before.loop.invariant.1.1.1.0) returns)

@@ -39,8 +39,8 @@ returns c =
           child-made earlier l own _ _ b.size d.size (counted with-inner (omega arith)),
     )
 
-pub put-child-spec : {M : Type 1} → statement M
-put-child-spec =
+pub put_child_spec : {M : Type 1} → statement M
+put_child_spec =
     tie.close
     (tie.spec (λ c. search rules) (λ c. search rules) (λ c. search rules) (λ c. search rules) (λ c. search rules) (λ c. search rules) (λ c. search rules) (λ c. search rules) lay-requires (λ c. search rules) (λ c. search rules)
     (λ c. search rules) (λ c. search rules) lay-requires-2 (λ c. search rules) (λ c. search rules) (λ c. search rules) returns)

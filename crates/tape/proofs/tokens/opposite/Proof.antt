@@ -11,5 +11,5 @@ returns c =
     let small = complement-below c.before.before.set-of.result.0 in
     rw (sym c.before.before.set-of.ensures) (omega (arith, c.with-set.ensures, set, small))
 
-pub opposite-spec : {M : Type 1} → statement M
-opposite-spec = tie.close (tie.spec (λ c κs. search rules) (λ c κs. search rules) (λ c κs. search rules) returns)
+pub opposite_spec : {M : Type 1} → statement M
+opposite_spec = tie.close (tie.spec (λ c κs. search rules) (λ c κs. search rules) (λ c κs. search rules) returns)

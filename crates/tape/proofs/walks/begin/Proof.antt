@@ -10,5 +10,5 @@ returns c = (
   (omega (arith, c.before.empty.ensures.0, c.empty2.ensures.0), λ t. begins t _ _ c.before.empty.ensures.1 c.empty2.ensures.1),
 )
 
-pub begin-spec : {M : Type 1} → statement M
-begin-spec = tie.close (tie.spec (λ c κs. search rules) (λ c κs. search rules) returns)
+pub begin_spec : {M : Type 1} → statement M
+begin_spec = tie.close (tie.spec (λ c κs. search rules) (λ c κs. search rules) returns)

@@ -2,5 +2,5 @@ use Rattle.tape.specs.Entering.{goes-fails}
 use Rattle.tape.proofs.walks.fallen.Statement.{statement}
 use Rattle.tape.proofs.walks.fallen.Tie as tie
 
-pub fallen-spec : {M : Type 1} → statement M
-fallen-spec = tie.close (tie.spec (λ c t walk s. goes-fails s))
+pub fallen_spec : {M : Type 1} → statement M
+fallen_spec = tie.close (tie.spec (λ c t walk s. goes-fails s))

@@ -6,5 +6,5 @@ use Rattle.tape.proofs.walks.joined.Tie as tie
 returns : tie.Need-returns
 returns c t walk s = goes-atom s c.before.before.before.before.args.token c.push.result (rw c.before.opposite.ensures at (c.push.ensures.1 s.new s.lists))
 
-pub joined-spec : {M : Type 1} → statement M
-joined-spec = tie.close (tie.spec (λ c κs. search rules) (λ c κs. search rules) returns)
+pub joined_spec : {M : Type 1} → statement M
+joined_spec = tie.close (tie.spec (λ c κs. search rules) (λ c κs. search rules) returns)

@@ -10,5 +10,5 @@ returns c t walk l own s h e =
     (c.before.append.ensures.1 _ _ s.lists h (omega (arith, h.size)))
     (c.append2.ensures.1 _ _ s.lies h (omega (arith, h.size)))
 
-pub spliced-spec : {M : Type 1} → statement M
-spliced-spec = tie.close (tie.spec (λ c. search rules) (λ c κs. search rules) (λ c. search rules) (λ c κs. search rules) returns)
+pub spliced_spec : {M : Type 1} → statement M
+spliced_spec = tie.close (tie.spec (λ c. search rules) (λ c κs. search rules) (λ c. search rules) (λ c κs. search rules) returns)

@@ -80,8 +80,8 @@ returns c =
       positive = built-all (has positive) _ _ h w.positive-built;
     })
 
-pub masks-of-spec : {M : Type 1} → statement M
-masks-of-spec =
+pub masks_of_spec : {M : Type 1} → statement M
+masks_of_spec =
     tie.close
     (tie.spec invariant-loop decreases-loop (λ c κs. search rules) loop-holds (λ c. omega arith) (λ c. omega arith) (λ c. omega arith)
     (λ c. omega (arith, (fits c).0)) (λ c. omega (arith, (fits c).0))

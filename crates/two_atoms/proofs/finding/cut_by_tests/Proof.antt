@@ -22,8 +22,8 @@ returns-3 c = c.intersect4.ensures ∙ ap (intersect _) c.before.mirrored2.ensur
 returns-4 : tie.Need-returns-4
 returns-4 c = no_test _ _ _ c.before.if1.false c.if3.false
 
-pub cut-by-tests-spec : {M : Type 1} → statement M
-cut-by-tests-spec =
+pub cut_by_tests_spec : {M : Type 1} → statement M
+cut_by_tests_spec =
     tie.close
     (tie.spec (λ c κs. search rules) (λ c κs. search rules) (λ c κs. search rules) (λ c κs. search rules) returns (λ c κs. search rules) returns-2
     (λ c κs. search rules) (λ c κs. search rules) returns-3 returns-4)

@@ -19,5 +19,5 @@ returns-2 c = found-weakly _ _ (sym c.before.before.before.before.inside.ensures
 returns-3 : tie.Need-returns-3
 returns-3 c = not_found _ _ (sym c.before.inside.ensures ∙ c.if1.false)
 
-pub found-spec : {M : Type 1} → statement M
-found-spec = tie.close (tie.spec (λ c κs. search rules) (λ c κs. search rules) (λ c κs. search rules) returns returns-2 returns-3)
+pub found_spec : {M : Type 1} → statement M
+found_spec = tie.close (tie.spec (λ c κs. search rules) (λ c κs. search rules) (λ c κs. search rules) returns returns-2 returns-3)

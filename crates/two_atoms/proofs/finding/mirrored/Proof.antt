@@ -11,5 +11,5 @@ unfolding pair_mirrored
 returns c = c.mirror2.ensures ∙ ap mirror (c.before.found.ensures
     ∙ ap (λ (s : SignSet). pair_found s c.before.before.before.args.strict) c.before.before.mirror.ensures)
 
-pub mirrored-spec : {M : Type 1} → statement M
-mirrored-spec = tie.close (tie.spec (λ c κs. search rules) (λ c κs. search rules) (λ c κs. search rules) returns)
+pub mirrored_spec : {M : Type 1} → statement M
+mirrored_spec = tie.close (tie.spec (λ c κs. search rules) (λ c κs. search rules) (λ c κs. search rules) returns)

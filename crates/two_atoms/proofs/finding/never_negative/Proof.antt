@@ -6,8 +6,8 @@ use Rattle.two_atoms.proofs.Findings.{negative-below, negative-from}
 use Rattle.two_atoms.proofs.finding.never_negative.Statement.{statement}
 use Rattle.two_atoms.proofs.finding.never_negative.Tie as tie
 
-pub never-negative-spec : {M : Type 1} → statement M
-never-negative-spec =
+pub never_negative_spec : {M : Type 1} → statement M
+never_negative_spec =
     tie.close
     (tie.spec (λ c κs. search rules) (λ c κs. search rules) (λ c. c.non-positive.ensures
     ∙ negative-below _ _ (rw (back c.before.before.ranges.u) at c.before.if1.true))

@@ -6,8 +6,8 @@ use Rattle.two_atoms.proofs.Findings.{positive-below, positive-from}
 use Rattle.two_atoms.proofs.finding.never_positive.Statement.{statement}
 use Rattle.two_atoms.proofs.finding.never_positive.Tie as tie
 
-pub never-positive-spec : {M : Type 1} → statement M
-never-positive-spec =
+pub never_positive_spec : {M : Type 1} → statement M
+never_positive_spec =
     tie.close
     (tie.spec (λ c κs. search rules) (λ c κs. search rules) (λ c. c.non-negative.ensures
     ∙ positive-below _ _ (rw (back c.before.before.ranges.u) at c.before.if1.true))

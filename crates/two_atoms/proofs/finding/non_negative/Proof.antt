@@ -3,5 +3,5 @@ use Rattle.two_atoms.proofs.Findings.{no_number, to-three}
 use Rattle.two_atoms.proofs.finding.non_negative.Statement.{statement}
 use Rattle.two_atoms.proofs.finding.non_negative.Tie as tie
 
-pub non-negative-spec : {M : Type 1} → statement M
-non-negative-spec = tie.close (tie.spec (λ c. no_number _ c.if1.true) (λ c. to-three _ c.if1.false))
+pub non_negative_spec : {M : Type 1} → statement M
+non_negative_spec = tie.close (tie.spec (λ c. no_number _ c.if1.true) (λ c. to-three _ c.if1.false))

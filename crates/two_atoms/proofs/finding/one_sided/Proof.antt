@@ -5,8 +5,8 @@ use mathlib.Core.Bool.{◌||◌}
 use Rattle.two_atoms.proofs.finding.one_sided.Statement.{statement}
 use Rattle.two_atoms.proofs.finding.one_sided.Tie as tie
 
-pub one-sided-spec : {M : Type 1} → statement M
-one-sided-spec =
+pub one_sided_spec : {M : Type 1} → statement M
+one_sided_spec =
     tie.close
     (tie.spec (λ c κs. search rules) (λ c κs. search rules) (λ c κs. search rules)
     (λ c. c.either.ensures ∙ ap₂ ◌||◌ c.before.before.non-positive.ensures c.before.non-negative.ensures))

@@ -21,8 +21,8 @@ returns-2 c =
     (sym c.before.either.ensures ∙ c.if1.false) in
     at-spared s.args.i s.requires.1 (c.before.before.before.within.ensures none.0) (c.before.before.within2.ensures none.1)
 
-pub cut-at-spec : {M : Type 1} → statement M
-cut-at-spec =
+pub cut_at_spec : {M : Type 1} → statement M
+cut_at_spec =
     tie.close
     (tie.spec (λ c κs. search rules) (λ c κs. search rules) (λ c κs. search rules) (λ c κs. search rules) (λ c. search rules) (λ c κs. search rules)
     (λ c κs. search rules) returns returns-2)

@@ -13,7 +13,7 @@ returns-2 c =
     (ap₂ ◌&&◌ (sym c.before.before.before.one-sided.ensures) (sym c.before.before.one-sided2.ensures) ∙ sym c.before.both.ensures
     ∙ c.if1.false)
 
-pub cut-by-pair-spec : {M : Type 1} → statement M
-cut-by-pair-spec =
+pub cut_by_pair_spec : {M : Type 1} → statement M
+cut_by_pair_spec =
     tie.close
     (tie.spec (λ c κs. search rules) (λ c κs. search rules) (λ c κs. search rules) (λ c κs. search rules) (λ c. c.cut-by-u.ensures) returns-2)

@@ -33,8 +33,8 @@ returns-2 c =
     c.before.before.before.never-negative2.ensures)
     (sym c.before.either.ensures ∙ c.if1.false))
 
-pub cut-by-try-spec : {M : Type 1} → statement M
-cut-by-try-spec =
+pub cut_by_try_spec : {M : Type 1} → statement M
+cut_by_try_spec =
     tie.close
     (tie.spec (λ c κs. search rules) (λ c κs. search rules) (λ c κs. search rules) (λ c κs. search rules) (λ c κs. search rules)
     (λ c κs. search rules) (λ c κs. search rules) (λ c κs. search rules) (λ c κs. search rules) (λ c κs. search rules) (λ c κs. search rules)

@@ -45,8 +45,8 @@ loop-again c = walk-factors c.before.before.before.before.before.loop.invariant 
 returns-2 : tie.Need-returns-2 invariant-loop decreases-loop
 returns-2 c = record { on = λ {board}. end-factors c.before.loop.invariant (omega arith) board }
 
-pub cut-by-u-spec : {M : Type 1} → statement M
-cut-by-u-spec =
+pub cut_by_u_spec : {M : Type 1} → statement M
+cut_by_u_spec =
     tie.close
     (tie.spec invariant-loop decreases-loop (λ c. begun _ _ _) (λ c κs. search rules) (λ c. omega arith)
     (λ c κs. search rules) (λ c κs. search rules) returns (λ c. omega arith) loop-again returns-2)

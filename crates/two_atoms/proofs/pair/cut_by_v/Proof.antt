@@ -61,8 +61,8 @@ returns-3 c =
     let s = c.before.before.before.before.before.before.before.before.before.before in
     by-v s.args.all s.ranges.u (end-factors c.before.loop.invariant (omega arith))
 
-pub cut-by-v-spec : {M : Type 1} → statement M
-cut-by-v-spec =
+pub cut_by_v_spec : {M : Type 1} → statement M
+cut_by_v_spec =
     tie.close
     (tie.spec invariant-loop decreases-loop (λ c κs. search rules) (λ c κs. search rules) (λ c κs. search rules) (λ c κs. search rules) (λ c κs. search rules)
     returns

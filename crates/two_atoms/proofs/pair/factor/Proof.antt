@@ -36,5 +36,5 @@ returns-7 c = rw c.match.keys7
 returns-8 : tie.Need-returns-8
 returns-8 c = last-factor c.before.args.i c.match.rest
 
-pub factor-spec : {M : Type 1} → statement M
-factor-spec = tie.close (tie.spec returns returns-2 returns-3 returns-4 returns-5 returns-6 returns-7 returns-8)
+pub factor_spec : {M : Type 1} → statement M
+factor_spec = tie.close (tie.spec returns returns-2 returns-3 returns-4 returns-5 returns-6 returns-7 returns-8)

@@ -11,5 +11,5 @@ returns-2 : tie.Need-returns-2
 unfolding stops
 returns-2 c = rw c.if1.false
 
-pub stops-spec : {M : Type 1} → statement M
-stops-spec = tie.close (tie.spec returns returns-2)
+pub stops_spec : {M : Type 1} → statement M
+stops_spec = tie.close (tie.spec returns returns-2)

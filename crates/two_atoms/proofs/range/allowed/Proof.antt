@@ -24,8 +24,8 @@ returns-4 c =
     let s = c.before.before.before.before.before in
     rw c.before.before.if1.false (none_below no-indices (sym (rw (back s.ranges.u) at c.before.never-positive.ensures) ∙ c.if3.false))
 
-pub allowed-spec : {M : Type 1} → statement M
-allowed-spec =
+pub allowed_spec : {M : Type 1} → statement M
+allowed_spec =
     tie.close
     (tie.spec (λ c κs. search rules) (λ c κs. search rules) (λ c κs. search rules) (λ c κs. search rules) returns returns-2 (λ c κs. search rules)
     (λ c κs. search rules)

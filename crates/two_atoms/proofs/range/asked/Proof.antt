@@ -11,5 +11,5 @@ returns-2 : tie.Need-returns-2
 unfolding asked_in
 returns-2 c = rw c.if1.false
 
-pub asked-spec : {M : Type 1} → statement M
-asked-spec = tie.close (tie.spec returns returns-2)
+pub asked_spec : {M : Type 1} → statement M
+asked_spec = tie.close (tie.spec returns returns-2)

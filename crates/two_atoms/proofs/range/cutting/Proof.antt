@@ -16,8 +16,8 @@ returns-3 c =
     rw (back s.ranges.u) at (spares-narrowed {x = s.args.pair} {s = s.args.set.0} (omega arith) c.before.allowed.ensures
     c.narrowed.ensures)
 
-pub cutting-spec : {M : Type 1} → statement M
-cutting-spec =
+pub cutting_spec : {M : Type 1} → statement M
+cutting_spec =
     tie.close
     (tie.spec (λ c. spares-none) (λ c κs. search rules) returns-2 (λ c κs. search rules)
     (λ c κs. (c.before.before.before.before.before.before.before.requires, c.allowed.ensures.indices)) returns-3)

@@ -3,8 +3,8 @@ use Rattle.two_atoms.proofs.Spares.{both_halves, low_half, high_half, no-half}
 use Rattle.two_atoms.proofs.range.halves.Statement.{statement}
 use Rattle.two_atoms.proofs.range.halves.Tie as tie
 
-pub halves-spec : {M : Type 1} → statement M
-halves-spec =
+pub halves_spec : {M : Type 1} → statement M
+halves_spec =
     tie.close
     (tie.spec (λ c. both_halves) (λ c. rw c.if2.false low_half) (λ c. rw c.before.if1.false high_half)
     (λ c. rw (c.before.if1.false, c.if3.false) no-half))

@@ -33,7 +33,7 @@ returns-2 c =
     let s = c.before.before in
     rw (to_z-of_z w64 s.args.x s.ranges.x, back s.ranges.b) at c.before.loop.invariant
 
-pub lowered-spec : {M : Type 1} → statement M
-lowered-spec =
+pub lowered_spec : {M : Type 1} → statement M
+lowered_spec =
     tie.close
     (tie.spec invariant-loop decreases-loop loop-holds (λ c. omega arith) (λ c κs. omega arith) returns (λ c. omega arith) (λ c. omega arith) loop-again returns-2)

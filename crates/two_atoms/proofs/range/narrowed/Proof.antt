@@ -51,8 +51,8 @@ returns-2 c =
     let s = c.before.before.before.before.before in
     rw (back s.ranges.u) at (range-narrowed {x = s.args.pair} {range = s.args.range} c.before.loop.invariant)
 
-pub narrowed-spec : {M : Type 1} → statement M
-narrowed-spec =
+pub narrowed_spec : {M : Type 1} → statement M
+narrowed_spec =
     tie.close
     (tie.spec invariant-loop decreases-loop (λ c κs. search rules) loop-holds (λ c. omega arith) (λ c. omega arith) (λ c. omega arith) (λ c. omega arith) returns
     next-step-requires (λ c κs. (omega arith, omega arith)) (λ c κs. (omega arith, omega arith)) (λ c. omega arith) loop-again returns-2)

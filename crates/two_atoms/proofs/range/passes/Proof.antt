@@ -14,7 +14,7 @@ returns c =
     c.inside.ensures
     ∙ ap (λ (t : SignSet). inside t s.args.asked.0) (c.before.product.ensures ∙ ap (λ (t : SignSet). product t s.args.s) value)
 
-pub passes-spec : {M : Type 1} → statement M
-passes-spec =
+pub passes_spec : {M : Type 1} → statement M
+passes_spec =
     tie.close
     (tie.spec (λ c. search rules) (λ c κs. search rules) (λ c κs. search rules) (λ c κs. search rules) (λ c κs. search rules) returns)

@@ -33,7 +33,7 @@ returns-2 c =
     let s = c.before.before in
     rw (to_z-of_z w64 s.args.x s.ranges.x, back s.ranges.b) at c.before.loop.invariant
 
-pub raised-spec : {M : Type 1} → statement M
-raised-spec =
+pub raised_spec : {M : Type 1} → statement M
+raised_spec =
     tie.close
     (tie.spec invariant-loop decreases-loop loop-holds (λ c κs. omega arith) returns (λ c. omega arith) (λ c. omega arith) loop-again returns-2)

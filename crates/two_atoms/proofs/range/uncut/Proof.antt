@@ -12,5 +12,5 @@ returns-2 : tie.Need-returns-2
 unfolding uncut_in
 returns-2 c = rw c.before.if1.false c.inside2.ensures
 
-pub uncut-spec : {M : Type 1} → statement M
-uncut-spec = tie.close (tie.spec (λ c κs. search rules) (λ c κs. search rules) returns returns-2)
+pub uncut_spec : {M : Type 1} → statement M
+uncut_spec = tie.close (tie.spec (λ c κs. search rules) (λ c κs. search rules) returns returns-2)

@@ -17,5 +17,5 @@ returns c =
     let f = c.before.ranges in
     rw (back f.a, to_z-of_z w64 _ (widened f.a), product-back f.u f.b c.cross.ensures) (to_z-of_z w64 _ (plus-fits f.a f.u f.b))
 
-pub plus-spec : {M : Type 1} → statement M
-plus-spec = tie.close (tie.spec (λ c. rw (back c.ranges.a) (widened c.ranges.a)) (λ c κs. search rules) add-result returns)
+pub plus_spec : {M : Type 1} → statement M
+plus_spec = tie.close (tie.spec (λ c. rw (back c.ranges.a) (widened c.ranges.a)) (λ c κs. search rules) add-result returns)

@@ -47,8 +47,8 @@ returns-5 c =
     (taken-first-alone s.args.k s.args.o led (omega arith)) led.first led.second (omega arith)
     (omega (arith, led.less_left (omega arith)))
 
-pub next-step-spec : {M : Type 1} → statement M
-next-step-spec =
+pub next_step_spec : {M : Type 1} → statement M
+next_step_spec =
     tie.close
     (tie.spec (λ c κs. search rules) (λ c. search rules) (λ c. search rules) (λ c. search rules) (λ c. search rules) (λ c. search rules)
     (λ c. search rules) returns returns-2 (λ c. search rules) returns-3 (λ c. search rules) returns-4 returns-5)

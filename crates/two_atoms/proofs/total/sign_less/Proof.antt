@@ -11,5 +11,5 @@ returns c =
     let f = c.before.before.ranges in
     rw (← to_z-of_z w64 _ f.x, ← product-back f.w f.b c.before.cross.ensures) c.sign-between.ensures
 
-pub sign-less-spec : {M : Type 1} → statement M
-sign-less-spec = tie.close (tie.spec (λ c κs. search rules) (λ c κs. search rules) returns)
+pub sign_less_spec : {M : Type 1} → statement M
+sign_less_spec = tie.close (tie.spec (λ c κs. search rules) (λ c κs. search rules) returns)

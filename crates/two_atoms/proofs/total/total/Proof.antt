@@ -61,8 +61,8 @@ returns-2 c =
     rw (back s.ranges.u, back s.ranges.w) at (total-done {p = s.args.p} {q1 = s.args.q1} {q2 = s.args.q2} c.before.loop.invariant
     (omega arith) (omega arith) (omega arith))
 
-pub total-spec : {M : Type 1} → statement M
-total-spec =
+pub total_spec : {M : Type 1} → statement M
+total_spec =
     tie.close
     (tie.spec invariant-loop decreases-loop loop-holds (λ c. omega arith) (λ c. omega arith) (λ c. omega arith) (λ c. omega arith) next-step-requires
     (λ c κs. search rules)

@@ -24,5 +24,5 @@ returns c = sym (ap (λ (o : Outcome). number_in o) c.before.outcome.given.1)
 returns-2 : tie.Need-returns-2
 returns-2 c = sym (ap (λ (o : Outcome). number_in o) c.before.outcome2.given.1)
 
-pub number-in-spec : {M : Type 1} → statement M
-number-in-spec = tie.close (tie.spec (λ c. search rules) (λ c. search rules) (λ c. search rules) cast-result-2 add-result returns returns-2)
+pub number_in_spec : {M : Type 1} → statement M
+number_in_spec = tie.close (tie.spec (λ c. search rules) (λ c. search rules) (λ c. search rules) cast-result-2 add-result returns returns-2)

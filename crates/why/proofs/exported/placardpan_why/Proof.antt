@@ -232,9 +232,9 @@ placardpan-why-meets {𝓤 = 𝓤} 𝓛 at_mem run 𝓣 gives numbers =
     (WpFn 𝓤 𝓛.H 𝓣.C 𝓣.Λ code.function) (WpFn-mono 𝓤 𝓛.H 𝓛.laws 𝓣 code.function)
     (placardpan-why-walks 𝓛 at_mem run 𝓣.C 𝓣.Λ (fm_of 𝓤 𝓛.H 𝓛.laws 𝓣) gives numbers)
 
-pub placardpan-why-spec : {M : Type 1} → stated.statement M
+pub placardpan_why_spec : {M : Type 1} → stated.statement M
 unfolding code.routine tables_of
-placardpan-why-spec 𝓤 𝓛 𝓜 𝓡 =
+placardpan_why_spec 𝓤 𝓛 𝓜 𝓡 =
     entered 𝓤 𝓛.H (triple_of 𝓛 placardpan-why.signature (placardpan-why.spec 𝓛 𝓜.mem 𝓡.run))
     (tables 𝓤 𝓛.H 𝓜 𝓡 code.env).C (tables 𝓤 𝓛.H 𝓜 𝓡 code.env).Λ #placardpan-why code.function (code.unfolded 𝓤 𝓛.H 𝓜 𝓡)
     (placardpan-why-meets 𝓛 𝓜.mem 𝓡.run (tables_of 𝓤 𝓛.H 𝓜 (tables 𝓤 𝓛.H 𝓜 𝓡 code.env))

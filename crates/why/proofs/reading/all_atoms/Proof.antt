@@ -32,7 +32,7 @@ returns-2 c =
     let a = c.before.before.args in
     none_left a.token.now a.count c.before.before.requires l.i (omega arith) ∙ l.invariant
 
-pub all-atoms-spec : {M : Type 1} → statement M
-all-atoms-spec =
+pub all_atoms_spec : {M : Type 1} → statement M
+all_atoms_spec =
     tie.close
     (tie.spec invariant-loop decreases-loop (λ c. refl) (λ c. omega arith) (λ c. omega arith) (λ c. omega arith) returns (λ c. omega arith) loop-again returns-2)

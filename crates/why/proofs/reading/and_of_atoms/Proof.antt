@@ -18,5 +18,5 @@ returns-2 c =
     c.all-atoms.ensures ∙ ap (λ (k : ℕ). all_atoms (drop k l)) c.before.behind-root.ensures
     ∙ other-root a.root l c.before.before.if1.false
 
-pub and-of-atoms-spec : {M : Type 1} → statement M
-and-of-atoms-spec = tie.close (tie.spec returns (λ c κs. search rules) (λ c κs. search rules) returns-2)
+pub and_of_atoms_spec : {M : Type 1} → statement M
+and_of_atoms_spec = tie.close (tie.spec returns (λ c κs. search rules) (λ c κs. search rules) returns-2)

@@ -59,8 +59,8 @@ returns-3 c bytes taken =
     told-reasons taken only s.args.room (subst (λ (k : ℕ). s.args.count - k ≤ s.args.room) behind (omega arith)) _ (ap
     (λ (k : ℕ). Explained (s.args.count - k)) behind) (here.records-of.ensures bytes taken)
 
-pub explain-spec : {M : Type 1} → statement M
-explain-spec =
+pub explain_spec : {M : Type 1} → statement M
+explain_spec =
     tie.close
     (tie.spec and-of-atoms-requires (λ c κs. search rules) (λ c. search rules) returns (λ c κs. search rules) sub-atoms (λ c κs. search rules)
     (λ c. search rules) returns-2

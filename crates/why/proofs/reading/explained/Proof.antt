@@ -30,8 +30,8 @@ returns-2 c =
     let a = reading.before.before.before.before.before.before.args in
     told.explain.ensures a.input.now (found-taken reading.read-into.ensures chosen.contents2.given.1)
 
-pub explained-spec : {M : Type 1} → statement M
-explained-spec =
+pub explained_spec : {M : Type 1} → statement M
+explained_spec =
     tie.close
     (tie.spec (λ c. search rules) (λ c. search rules) (λ c. search rules) (λ c. search rules) read-into-requires (λ c. search rules)
     (λ c κs. search rules)

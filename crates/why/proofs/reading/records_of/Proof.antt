@@ -110,8 +110,8 @@ same_length c =
     let here = giving c.before.before.before.before in
     here.give.kept.0 ∙ (normal-of here).normal-tokens.kept.0
 
-pub records-of-spec : {M : Type 1} → statement M
-records-of-spec =
+pub records_of_spec : {M : Type 1} → statement M
+records_of_spec =
     tie.close
     (tie.spec (λ c. search rules) (λ c. search rules) (λ c. search rules) (λ c. search rules) (λ c. search rules) work-requires
     (λ c. search rules) (λ c. search rules) normal-tokens-requires give-requires (λ c κs. search rules) part-requires

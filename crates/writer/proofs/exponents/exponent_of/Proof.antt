@@ -11,5 +11,5 @@ returns : tie.Need-returns
 unfolding exponent
 returns c = ap (λ (k : ℕ). c.args.monomial / k % 16) (four-bits-each c.args.followers)
 
-pub exponent-of-spec : {M : Type 1} → statement M
-exponent-of-spec = tie.close (tie.spec (λ c. search rules) (λ c. search rules) returns)
+pub exponent_of_spec : {M : Type 1} → statement M
+exponent_of_spec = tie.close (tie.spec (λ c. search rules) (λ c. search rules) returns)

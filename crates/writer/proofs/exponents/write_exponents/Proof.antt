@@ -6,8 +6,8 @@ use Rattle.writer.proofs.WritingExponents.{exponents-field, exponents-split}
 use Rattle.writer.proofs.exponents.write_exponents.Statement.{statement}
 use Rattle.writer.proofs.exponents.write_exponents.Tie as tie
 
-pub write-exponents-spec : {M : Type 1} → statement M
-write-exponents-spec =
+pub write_exponents_spec : {M : Type 1} → statement M
+write_exponents_spec =
     tie.close
     (tie.spec (λ c. search rules)
     (λ c κs.

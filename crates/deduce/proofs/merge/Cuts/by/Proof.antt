@@ -58,8 +58,8 @@ returns-4 c =
       (cut-both a.a a.b (interval_of a.self.u) a.s m.0.0.1 m.0.1 m.1).1,
     ))
 
-pub by-spec : {M : Type 1} → statement M
-by-spec =
+pub by_spec : {M : Type 1} → statement M
+by_spec =
     tie.close
     (tie.spec (λ c κs. search rules) (λ c κs. search rules) (λ c κs. search rules) (λ c κs. search rules) (λ c κs. search rules)
     (λ c κs. search rules) (λ c κs. search rules) (λ c κs. search rules) (λ c κs. search rules) returns returns-2 returns-3 returns-4)

@@ -4,8 +4,8 @@ use mathlib.Core.Path.{sym, ◌∙◌}
 use Rattle.deduce.proofs.merge.Cuts.has_t.Statement.{statement}
 use Rattle.deduce.proofs.merge.Cuts.has_t.Tie as tie
 
-pub has-t-spec : {M : Type 1} → statement M
-has-t-spec =
+pub has_t_spec : {M : Type 1} → statement M
+has_t_spec =
     tie.close
     (tie.spec (λ c κs. search rules) (λ c κs. search rules) (λ c. simp (sym c.before.has-t.ensures ∙ c.if1.true))
     (λ c. simp (sym c.before.before.has-t.ensures ∙ c.before.if1.false) c.has-t2.ensures))

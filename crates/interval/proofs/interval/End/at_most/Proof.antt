@@ -17,5 +17,5 @@ returns c =
       back {z = s.other.b} (record { sfits = y.1.0.1 }),
     )
 
-pub at-most-spec : {M : Type 1} → statement M
-at-most-spec = tie.close (tie.spec (λ c κs. search rules) returns)
+pub at_most_spec : {M : Type 1} → statement M
+at_most_spec = tie.close (tie.spec (λ c κs. search rules) returns)

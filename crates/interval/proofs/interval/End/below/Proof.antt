@@ -17,5 +17,5 @@ returns c =
       back {z = s.other.b} (record { sfits = y.1.0.1 }),
     )
 
-pub below-spec : {M : Type 1} → statement M
-below-spec = tie.close (tie.spec (λ c κs. search rules) returns)
+pub below_spec : {M : Type 1} → statement M
+below_spec = tie.close (tie.spec (λ c κs. search rules) returns)

@@ -13,5 +13,5 @@ returns-2 : tie.Need-returns-2
 unfolding higher_end
 returns-2 c = simp (sym c.before.at-most.ensures ∙ c.if1.false)
 
-pub higher-spec : {M : Type 1} → statement M
-higher-spec = tie.close (tie.spec (λ c κs. search rules) returns returns-2)
+pub higher_spec : {M : Type 1} → statement M
+higher_spec = tie.close (tie.spec (λ c κs. search rules) returns returns-2)

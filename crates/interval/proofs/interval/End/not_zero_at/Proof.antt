@@ -25,5 +25,5 @@ returns-2 c =
     not-zero-there s.self.a s.self.b s.a s.b _ (not_zero (denominator-fits d) c.before.before.if1.false)
     (λ t e. rw (back f.a, back f.b) at (c.before.sign_at.ensures t e))
 
-pub not-zero-at-spec : {M : Type 1} → statement M
-not-zero-at-spec = tie.close (tie.spec returns (λ c κs. search rules) returns-2)
+pub not_zero_at_spec : {M : Type 1} → statement M
+not_zero_at_spec = tie.close (tie.spec returns (λ c κs. search rules) returns-2)

@@ -35,7 +35,7 @@ returns-2 c t e =
     let d = c.before.before in
     rw (c.sign-between2.ensures, ad d, cb d, value-rising _ _ _ _ t (rw (back (denominator-fits d)) at c.before.if1.false) e)
 
-pub sign-at-spec : {M : Type 1} → statement M
-sign-at-spec =
+pub sign_at_spec : {M : Type 1} → statement M
+sign_at_spec =
     tie.close
     (tie.spec (λ c κs. search rules) (λ c κs. search rules) (λ c κs. search rules) (λ c κs. search rules) returns returns-2)

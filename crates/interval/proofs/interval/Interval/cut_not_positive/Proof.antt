@@ -36,5 +36,5 @@ returns-4 c =
     not-positive-void s.args.a s.args.b _ _ _ _ (rw (back f.b) at c.before.before.if1.false) (rw (back f.b) at c.before.if2.false)
     (ap (λ (x : Bool). v || x) (rw (back f.a) at c.if3.false) ∙ or-false v)
 
-pub cut-not-positive-spec : {M : Type 1} → statement M
-cut-not-positive-spec = tie.close (tie.spec (λ c κs. search rules) returns (λ c κs. search rules) returns-2 returns-3 returns-4)
+pub cut_not_positive_spec : {M : Type 1} → statement M
+cut_not_positive_spec = tie.close (tie.spec (λ c κs. search rules) returns (λ c κs. search rules) returns-2 returns-3 returns-4)

@@ -12,5 +12,5 @@ returns-2 : tie.Need-returns-2
 unfolding has_more
 returns-2 c = simp c.before.if1.false c.below.ensures
 
-pub has-more-spec : {M : Type 1} → statement M
-has-more-spec = tie.close (tie.spec (λ c κs. search rules) returns returns-2)
+pub has_more_spec : {M : Type 1} → statement M
+has_more_spec = tie.close (tie.spec (λ c κs. search rules) returns returns-2)

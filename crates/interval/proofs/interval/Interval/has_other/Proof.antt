@@ -13,5 +13,5 @@ returns-2 : tie.Need-returns-2
 unfolding has_other at_zero
 returns-2 c = simp (sym c.before.before.below.ensures ∙ c.before.if1.false) c.below2.ensures
 
-pub has-other-spec : {M : Type 1} → statement M
-has-other-spec = tie.close (tie.spec (λ c κs. search rules) (λ c κs. search rules) returns returns-2)
+pub has_other_spec : {M : Type 1} → statement M
+has_other_spec = tie.close (tie.spec (λ c κs. search rules) (λ c κs. search rules) returns returns-2)

@@ -12,5 +12,5 @@ returns-2 : tie.Need-returns-2
 unfolding has_t
 returns-2 c = simp c.before.if1.false c.at-most.ensures
 
-pub has-t-spec : {M : Type 1} → statement M
-has-t-spec = tie.close (tie.spec (λ c κs. search rules) returns returns-2)
+pub has_t_spec : {M : Type 1} → statement M
+has_t_spec = tie.close (tie.spec (λ c κs. search rules) returns returns-2)

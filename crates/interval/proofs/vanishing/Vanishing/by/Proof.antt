@@ -52,5 +52,5 @@ returns-4 c =
       (rw (back (a-fits s), back (b-fits s)) at (sym c.before.before.both_zero.ensures ∙ c.before.if3.false)),
     )
 
-pub by-spec : {M : Type 1} → statement M
-by-spec = tie.close (tie.spec returns (λ c κs. search rules) returns-2 (λ c κs. search rules) returns-3 (λ c κs. search rules) returns-4)
+pub by_spec : {M : Type 1} → statement M
+by_spec = tie.close (tie.spec returns (λ c κs. search rules) returns-2 (λ c κs. search rules) returns-3 (λ c κs. search rules) returns-4)

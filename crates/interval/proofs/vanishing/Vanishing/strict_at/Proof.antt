@@ -36,5 +36,5 @@ returns-3 c f e =
     let v = s.before.before.args.self in
     simp c.before.before.before.if1.false (c.not-zero-at.ensures ∙ rw (back (a-fits s), back (b-fits s)) (ap (λ (x : End). not_zero_at x v.a v.b) e))
 
-pub strict-at-spec : {M : Type 1} → statement M
-strict-at-spec = tie.close (tie.spec returns (λ c κs. search rules) returns-2 (λ c κs. search rules) returns-3)
+pub strict_at_spec : {M : Type 1} → statement M
+strict_at_spec = tie.close (tie.spec returns (λ c κs. search rules) returns-2 (λ c κs. search rules) returns-3)

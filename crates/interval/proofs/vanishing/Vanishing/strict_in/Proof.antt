@@ -53,7 +53,7 @@ returns-4 c =
     let d = c.before.before.before in
     simp (d.before.if1.false, sym (lowest d) ∙ c.before.before.if2.false, sym c.before.Has-more.ensures ∙ c.if3.false)
 
-pub strict-in-spec : {M : Type 1} → statement M
-strict-in-spec =
+pub strict_in_spec : {M : Type 1} → statement M
+strict_in_spec =
     tie.close
     (tie.spec returns (λ c κs. search rules) returns-2 (λ c κs. search rules) (λ c κs. search rules) returns-3 returns-4)

@@ -21,7 +21,7 @@ returns c =
       strict = c.strict-with.ensures;
     }
 
-pub by-spec : {M : Type 1} → statement M
-by-spec =
+pub by_spec : {M : Type 1} → statement M
+by_spec =
     tie.close
     (tie.spec (λ c κs. search rules) (λ c κs. search rules) (λ c κs. search rules) (λ c κs. search rules) (λ c κs. search rules) (λ c κs. search rules) (λ c κs. search rules) returns)

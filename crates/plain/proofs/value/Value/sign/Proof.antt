@@ -14,5 +14,5 @@ returns c =
     let f : SFits w64 z = record { sfits = c.before.struct_told.given.0.1 } in
     c.sign-between.ensures ∙ rw (to_z-of_z w64 z f, +ℤ_idr z)
 
-pub sign-spec : {M : Type 1} → statement M
-sign-spec = tie.close (tie.spec (λ c κs. search rules) returns)
+pub sign_spec : {M : Type 1} → statement M
+sign_spec = tie.close (tie.spec (λ c κs. search rules) returns)

@@ -50,5 +50,5 @@ returns c t i =
     )
     (compared t s.args.a s.args.b i)
 
-pub sign-at-spec : {M : Type 1} → statement M
-sign-at-spec = tie.close (tie.spec cast-ad mul-ad sub-cb cast-cb mul-cb (λ c κs. search rules) returns)
+pub sign_at_spec : {M : Type 1} → statement M
+sign_at_spec = tie.close (tie.spec cast-ad mul-ad sub-cb cast-cb mul-cb (λ c κs. search rules) returns)

@@ -16,7 +16,7 @@ returns c =
       c.before.before.before.before.before.before.lacks.ensures,
     )
 
-pub sign-spec : {M : Type 1} → statement M
-sign-spec =
+pub sign_spec : {M : Type 1} → statement M
+sign_spec =
     tie.close
     (tie.spec (λ c κs. search rules) (λ c κs. search rules) (λ c κs. search rules) (λ c κs. search rules) (λ c κs. search rules) (λ c κs. search rules) returns)
