@@ -18,27 +18,27 @@ use Rattle.ahead.proofs.deduced.Tie as tie
 abbrev table : tie.Start → Table
 table s = lent_table s.args.coefficient s.args.monomial s.args.terms s.args.board.variables
 
-sign-slot-requires-2 : tie.Need-sign-slot-requires-2
+sign-slot-requires-2 : tie.Need-sign_slot-requires-2
 sign-slot-requires-2 c κs =
     let s = c.before.before.before.before.before.before.before.before.before.before.before.before in
     let (forms, (places, (low, listed))) = s.requires in
-    (form-slots {t = table s} forms (c.before.before.before.sign-slot.auto.1.1.1.0 ∙ places), omega arith)
+    (form-slots {t = table s} forms (c.before.before.before.sign_slot.auto.1.1.1.0 ∙ places), omega arith)
 
 -- the signs of both slots
 signed : (c : tie.After-deduce-alone-arg) → let s = c.before.before.before.before.before.before.before.before.before.before.before.before.before.before.before.before in
-    BothSigned (table s) (sets_of s.args.board) c.before.before.before.sign-slot2.new.1.1.1.0 (variable_slot s.args.i) (atom_slot s.args.t6.number s.args.j)
+    BothSigned (table s) (sets_of s.args.board) c.before.before.before.sign_slot-2.new.1.1.1.0 (variable_slot s.args.i) (atom_slot s.args.t6.number s.args.j)
 signed c =
     let s = c.before.before.before.before.before.before.before.before.before.before.before.before.before.before.before.before in
     let (forms, (places, (low, listed))) = s.requires in
     both-signed {t = table s} s.args.sign.now (variable_slot s.args.i) (atom_slot s.args.t6.number s.args.j) forms places (omega (arith, forms.variables)) (omega arith)
-    c.before.before.before.before.before.before.before.sign-slot.ensures c.before.before.before.sign-slot2.ensures
+    c.before.before.before.before.before.before.before.sign_slot.ensures c.before.before.before.sign_slot-2.ensures
 
-deduce-alone-requires : tie.Need-deduce-alone-requires
+deduce-alone-requires : tie.Need-deduce_alone-requires
 deduce-alone-requires c κs =
     let s = c.before.before.before.before.before.before.before.before.before.before.before.before.before.before.before.before in
     let (forms, (places, (low, listed))) = s.requires in
-    let p = c.before.before.before.before.before.before.before.before.before.before.places.ensures in
-    let q = c.before.before.before.before.before.before.before.before.before.places2.ensures in
+    let p = c.before.before.before.before.before.before.before.before.before.before.places-p.ensures in
+    let q = c.before.before.before.before.before.before.before.before.before.places-q.ensures in
     let both = signed c in (
       omega (arith, forms.counts),
       (
@@ -51,12 +51,12 @@ returns : tie.Need-returns
 returns c none =
     let s = c.before.before.before.before.before.before.before.before.before.before.before.before.before.before.before.before.before in
     let (forms, (places, (low, listed))) = s.requires in
-    let p = c.before.before.before.before.before.before.before.before.before.before.before.places.ensures in
-    let q = c.before.before.before.before.before.before.before.before.before.before.places2.ensures in
+    let p = c.before.before.before.before.before.before.before.before.before.before.before.places-p.ensures in
+    let q = c.before.before.before.before.before.before.before.before.before.before.places-q.ensures in
     let both = signed c.before in
     let own = run-held {t = table s} (variable_slot s.args.i) forms both.places (omega (arith, forms.variables)) p.0 p.1 both.first in
     let its = run-held {t = table s} (atom_slot s.args.t6.number s.args.j) forms both.places (omega arith) q.0 q.1 both.second in
-    c.deduce-alone.ensures.on own.signed its.signed none
+    c.deduce_alone.ensures.on own.signed its.signed none
     ∙ ap₂ (λ (x y : Polynomial). deduce_of (sets_of s.args.board) x (record { polynomial = y; set = get_or s.args.t6.set s.args.j 0 }))
     (run-form (table s) (variable_slot s.args.i) p.0 p.1 ∙ forms.each_variable s.args.i low)
     (run-form (table s) (atom_slot s.args.t6.number s.args.j) q.0 q.1)

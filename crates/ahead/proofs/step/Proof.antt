@@ -20,49 +20,49 @@ use Rattle.ahead.proofs.step.Tie as tie
 abbrev table : tie.Start → Table
 table s = lent_table s.args.coefficient s.args.monomial s.args.terms s.args.passed.board.variables
 
-returns : tie.Need-returns
+returns : tie.Need-returns-then-old-low
 returns c =
     let s = c.before.before.before.before.before.before.before in
     let (ready, (low, below)) = s.requires in
     let b = s.args.passed.board in
     let small : s.args.i < few b.variables = omega (arith, ready.forms.variables) in
-    let keeps = floor-keeps (table s) s.args.atoms b s.args.t7 s.args.i below small c.if1.true in
+    let keeps = floor-keeps (table s) s.args.atoms b s.args.t7 s.args.i below small c.if-old-low.true in
     record { variables = refl; sets = keeps; ready = ready; still = λ e. (e, sym keeps) }
 
-cut-down-requires : tie.Need-cut-down-requires
+cut-down-requires : tie.Need-cut_down-new-requires
 cut-down-requires c κs =
     let s = c.before.before.before.before.before.before.before.before.before in
     let (ready, (low, (small, part))) = s.requires in (
       ready,
       (
-        (omega (arith, c.before.many.ensures), (omega (arith, ready.forms.variables), ready.variables s.args.i low)),
-        (small, rw (ready.forms.each_variable _ low, c.before.many.ensures, sub-zero) part),
+        (omega (arith, c.before.many-n.ensures), (omega (arith, ready.forms.variables), ready.variables s.args.i low)),
+        (small, rw (ready.forms.each_variable _ low, c.before.many-n.ensures, sub-zero) part),
       ),
     )
 
 -- the set that the deductions leave is the book's
-cut-is : (c : tie.After-cut-down) →
+cut-is : (c : tie.After-cut_down-new) →
     let s = c.before.before.before.before.before.before.before.before.before.before in
     let b = s.args.passed.board in
-    c.cut_down.result.0 ≡ cut_by (sets_of b) (variable b.variables s.args.i) (atoms_of (table s) s.args.atoms) (get_or b.sets s.args.i 0)
+    c.cut_down-new.result.0 ≡ cut_by (sets_of b) (variable b.variables s.args.i) (atoms_of (table s) s.args.atoms) (get_or b.sets s.args.i 0)
 cut-is c =
     let (ready, (low, below)) = c.before.before.before.before.before.before.before.before.before.before.requires in
-    c.cut_down.ensures ∙ rw (ready.forms.each_variable _ low, c.before.before.many.ensures, sub-zero)
+    c.cut_down-new.ensures ∙ rw (ready.forms.each_variable _ low, c.before.before.many-n.ensures, sub-zero)
 
-returns-2 : tie.Need-returns-2
+returns-2 : tie.Need-returns-then-new-old
 returns-2 c =
     let s = c.before.before.before.before.before.before.before.before.before.before.before.before in
     let b = s.args.passed.board in
     let low : s.args.i < few b.variables = omega (arith, s.requires.0.forms.variables) in
-    let keeps = turn-keeps b.variables b.sets s.args.i _ low _ (cut-is c.before.before) c.if2.true in
+    let keeps = turn-keeps b.variables b.sets s.args.i _ low _ (cut-is c.before.before) c.if-new-old.true in
     record { variables = refl; sets = keeps; ready = s.requires.0; still = λ e. (e, sym keeps) }
 
-sign-list-requires : tie.Need-sign-list-requires
+sign-list-requires : tie.Need-sign_list-requires
 sign-list-requires c κs =
     let s = c.before.before.before.before.before.before.before.before.before.before.before.before.before.before.before.before.before in
     (form-slots {t = table s} s.requires.0.forms s.requires.0.places, s.requires.0.forms.variables)
 
-returns-3 : tie.Need-returns-3
+returns-3 : tie.Need-returns
 returns-3 c =
     let s = c.before.before.before.before.before.before.before.before.before.before.before.before.before.before.before.before.before.before.before.before in
     let b = s.args.passed.board in
@@ -73,7 +73,7 @@ returns-3 c =
     record {
       variables = refl;
       sets = turn-changes b.variables b.sets s.args.i _ low _ (cut-is c.before.before.before.before.before.before.before.before.before.before) within;
-      ready = rw c.before.before.sign-list.ensures (list-ready _ s.args.atoms _ ready.forms refl ready.places);
+      ready = rw c.before.before.sign_list.ensures (list-ready _ s.args.atoms _ ready.forms refl ready.places);
       still = λ e. absurd (false≢true e);
     }
 

@@ -37,25 +37,25 @@ ReadFrom bytes s = Accepted bytes s.args.edition (held s) (length s.args.output.
 abbrev start : tie.After-work → tie.Start
 start c = c.before.before.before.before.before.before.before.before.before.before.before.before.before.before.before
 
-abbrev working : tie.After-normal-tokens → tie.After-work
+abbrev working : tie.After-normal_tokens → tie.After-work
 working c = c.before.before.before.before.before.before.before.before.before
 
-abbrev normal-of : tie.After-give → tie.After-normal-tokens
+abbrev normal-of : tie.After-give → tie.After-normal_tokens
 normal-of c = c.before.before.before.before.before.before.before.before.before.before
 
-abbrev giving : tie.After-simplified → tie.After-give
+abbrev giving : tie.After-simplified-short → tie.After-give
 giving c = c.before.before.before.before.before.before.before
 
-abbrev normalising : tie.After-simplified → tie.After-normal-tokens
+abbrev normalising : tie.After-simplified-short → tie.After-normal_tokens
 normalising c = normal-of (giving c)
 
-abbrev telling-of : tie.After-plain-tokens → tie.After-tell
+abbrev telling-of : tie.After-plain_tokens → tie.After-tell
 telling-of c = c.before.before.before.before
 
-abbrev simplifying : tie.After-plain-tokens → tie.After-simplified
+abbrev simplifying : tie.After-plain_tokens → tie.After-simplified-short
 simplifying c = (telling-of c).before.before.before.before.before
 
-abbrev plaining : tie.After-collect → tie.After-plain-tokens
+abbrev plaining : tie.After-collect-new_polynomials → tie.After-plain_tokens
 plaining c = c.before.before.before.before.before.before.before.before.before.before.before.before
 
 -- ---- what is known behind them
@@ -65,10 +65,10 @@ table c =
     let last = c.work.new.1.1.1.1.1 in
     working_by last.0 last.1.0 last.1.1.0 last.1.1.1.0 last.1.1.1.1.0
 
-module _ (c : tie.After-normal-tokens) {bytes : List ℕ} (accepted : ReadFrom bytes (start (working c))) where
+module _ (c : tie.After-normal_tokens) {bytes : List ℕ} (accepted : ReadFrom bytes (start (working c))) where
   -- The tape is in normal form,
-  prepared : Prepared accepted.given (held (start (working c))) (table (working c)) c.normal-tokens.new.0
-  prepared = prepares accepted (table (working c)) (working c).work.ensures c.normal-tokens.new.0 c.normal-tokens.ensures
+  prepared : Prepared accepted.given (held (start (working c))) (table (working c)) c.normal_tokens.new.0
+  prepared = prepares accepted (table (working c)) (working c).work.ensures c.normal_tokens.new.0 c.normal_tokens.ensures
 
 module _ (c : tie.After-give) {bytes : List ℕ} (accepted : ReadFrom bytes (start (working (normal-of c)))) where
   -- with places,
@@ -82,30 +82,30 @@ module _ (c : tie.After-give) {bytes : List ℕ} (accepted : ReadFrom bytes (sta
   long : length c.give.new.0 ≡ length (start (working (normal-of c))).args.token.now
   long = c.give.auto.0 ∙ (normal-of c).normal-tokens.auto.0
 
-module _ (c : tie.After-simplified) {bytes : List ℕ} (accepted : ReadFrom bytes (start (working (normalising c)))) where
+module _ (c : tie.After-simplified-short) {bytes : List ℕ} (accepted : ReadFrom bytes (start (working (normalising c)))) where
   -- simplified,
   simpler : Simplified (table_of (start (working (normalising c))).args.variables (table (working (normalising c))))
-      (token_tree (prepared (normalising c) accepted).tree) c.simplified.result.tree
-  simpler = (c.simplified.ensures (token_tree (prepared (normalising c) accepted).tree) (placed (giving c) accepted)).simplified
+      (token_tree (prepared (normalising c) accepted).tree) c.simplified-short.result.tree
+  simpler = (c.simplified-short.ensures (token_tree (prepared (normalising c) accepted).tree) (placed (giving c) accepted)).simplified
 
   abbrev tree : Node NumberedAtom
-  tree = simpler_tree (prepared (normalising c) accepted) c.simplified.result.tree simpler
+  tree = simpler_tree (prepared (normalising c) accepted) c.simplified-short.result.tree simpler
 
-module _ (c : tie.After-plain-tokens) {bytes : List ℕ} (accepted : ReadFrom bytes (start (working (normalising (simplifying c))))) where
+module _ (c : tie.After-plain_tokens) {bytes : List ℕ} (accepted : ReadFrom bytes (start (working (normalising (simplifying c))))) where
   -- plain,
-  holds : Holds c.plain-tokens.new.0 (simplifying c).simplified.result.tree.tokens.count (tree (simplifying c) accepted)
+  holds : Holds c.plain_tokens.new.0 (simplifying c).simplified.result.tree.tokens.count (tree (simplifying c) accepted)
   holds =
-      simpler-holds (prepared (normalising (simplifying c)) accepted) (simplifying c).simplified.result.tree (simpler (simplifying c) accepted) c.plain-tokens.new.0
-      c.plain-tokens.ensures
+      simpler-holds (prepared (normalising (simplifying c)) accepted) (simplifying c).simplified.result.tree (simpler (simplifying c) accepted) c.plain_tokens.new.0
+      c.plain_tokens.ensures
 
-module _ (c : tie.After-collect) where
-  abbrev simplified-at : tie.After-simplified
+module _ (c : tie.After-collect-new_polynomials) where
+  abbrev simplified-at : tie.After-simplified-short
   simplified-at = simplifying (plaining c)
 
   abbrev given-at : tie.After-give
   given-at = giving simplified-at
 
-  abbrev normal-at : tie.After-normal-tokens
+  abbrev normal-at : tie.After-normal_tokens
   normal-at = normalising simplified-at
 
   abbrev first : tie.Start
@@ -113,9 +113,9 @@ module _ (c : tie.After-collect) where
 
   abbrev new : Held
   new =
-      let last = c.collect.new.1.1.1.1.1.1 in
+      let last = c.collect-new_polynomials.new.1.1.1.1.1.1 in
       let simplified = simplified-at.simplified.result.tree in
-      held_by first.args.variables c.collect.result simplified.root simplified.tokens.count last.0 last.1.0 last.1.1.0 last.1.1.1.0
+      held_by first.args.variables c.collect-new_polynomials.result simplified.root simplified.tokens.count last.0 last.1.0 last.1.1.0 last.1.1.1.0
 
   module _ {bytes : List ℕ} (accepted : ReadFrom bytes first) where
     -- and collected to the new block,
@@ -123,7 +123,7 @@ module _ (c : tie.After-collect) where
         given-at.give.last.0
     new_is =
         collects first.args.output.now accepted (prepared normal-at accepted) simplified-at.simplified.result.tree (simpler simplified-at accepted)
-        given-at.give.last.0 (c.collect.ensures (tree simplified-at accepted) (holds (plaining c) accepted))
+        given-at.give.last.0 (c.collect-new_polynomials.ensures (tree simplified-at accepted) (holds (plaining c) accepted))
 
     -- which can be written.
     new-writable : Writable first.args.edition new (length first.args.output.now) (new_block accepted.given)
@@ -134,7 +134,7 @@ module _ (c : tie.After-collect) where
     new-room : BlockRoom new.coefficient new.monomial new.terms new.token
     new-room =
         let room = asks-room accepted given-at.give.last.0 (long given-at accepted) in
-        let kept = c.collect.auto.1.1.1.1.1.1 in
+        let kept = c.collect-new_polynomials.auto.1.1.1.1.1.1 in
         record {
           coefficients = omega (arith, room.coefficients, kept.0);
           monomials = omega (arith, room.monomials, kept.1.0);
@@ -157,13 +157,13 @@ work-requires c κs =
     let marking = c.before.before.before.before.before.before.before.before in
     (asks-table s.requires.0.accepted, marked s.args.plain marking.mark.result marking.mark.ensures)
 
-normal-tokens-requires : tie.Need-normal-tokens-requires
+normal-tokens-requires : tie.Need-normal_tokens-requires
 normal-tokens-requires c κs = let here = c.before.before.before.before.before.before.before.before in (counts-tokens (start here).requires.0.accepted, search rules, search rules)
 
-atoms-requires : tie.Need-atoms-requires
+atoms-requires : tie.Need-atoms-atoms_in-requires
 atoms-requires c κs = let here = c.before.before.before in asks-atoms (prepared here (start (working here)).requires.0.accepted)
 
-forms-used-requires : tie.Need-forms-used-requires
+forms-used-requires : tie.Need-forms_used-polynomials_in-requires
 forms-used-requires c κs =
     let here = c.before.before.before.before.before.before.before in
     let forms = (working here).work.ensures.forms in
@@ -173,11 +173,11 @@ give-requires : tie.Need-give-requires
 give-requires c κs =
     let here = c.before.before.before.before.before.before.before.before.before in
     let accepted = (start (working here)).requires.0.accepted in
-    (omega (arith, counts-tokens accepted, here.normal-tokens.auto.0), (prepared here accepted).holds.few)
+    (omega (arith, counts-tokens accepted, here.normal_tokens.auto.0), (prepared here accepted).holds.few)
 
 -- ---- the simplified tape
 
-simplified-requires : tie.Need-simplified-requires
+simplified-requires : tie.Need-simplified-short-requires
 simplified-requires c κs =
     let here = c.before.before.before.before.before.before in
     let accepted = (start (working (normal-of here))).requires.0.accepted in
@@ -188,17 +188,17 @@ tell-requires c κs =
     let here = c.before.before.before.before in
     let accepted = (start (working (normalising here))).requires.0.accepted in
     let ready = prepared (normalising here) accepted in (
-      counts-row ready here.simplified.result.tree (simpler here accepted),
-      omega (arith, counts-few ready here.simplified.result.tree (simpler here accepted), (start (working (normalising here))).requires.1),
+      counts-row ready here.simplified-short.result.tree (simpler here accepted),
+      omega (arith, counts-few ready here.simplified-short.result.tree (simpler here accepted), (start (working (normalising here))).requires.1),
     )
 
-plain-tokens-requires : tie.Need-plain-tokens-requires
+plain-tokens-requires : tie.Need-plain_tokens-requires
 plain-tokens-requires c κs =
     let here = c.before.before.before.before.before.before.before.before in
     let accepted = (start (working (normalising here))).requires.0.accepted in
-    counts-row (prepared (normalising here) accepted) here.simplified.result.tree (simpler here accepted)
+    counts-row (prepared (normalising here) accepted) here.simplified-short.result.tree (simpler here accepted)
 
-atoms-requires-2 : tie.Need-atoms-requires-2
+atoms-requires-2 : tie.Need-atoms-atoms_out-requires
 atoms-requires-2 c κs =
     let here = c.before.before in
     let accepted = (start (working (normalising (simplifying here)))).requires.0.accepted in
@@ -206,16 +206,16 @@ atoms-requires-2 c κs =
 
 -- ---- the new block
 
-lends-coefficients : tie.Need-slice-aggregate-collect
+lends-coefficients : tie.Need-slice_bounds-collect-end
 lends-coefficients c = sym (working (normalising (simplifying c.before.before.before.before))).work.ensures.forms.coefficients
 
-lends-monomials : tie.Need-slice-aggregate-collect-2
+lends-monomials : tie.Need-slice_bounds-collect-end-2
 lends-monomials c = sym (working (normalising (simplifying c.before.before.before.before.before))).work.ensures.forms.monomials
 
-lends-counts : tie.Need-slice-aggregate-collect-3
+lends-counts : tie.Need-slice_bounds-collect-end-3
 lends-counts c = sym (working (normalising (simplifying c.before.before.before.before.before.before))).work.ensures.forms.counts
 
-collect-requires : tie.Need-collect-requires
+collect-requires : tie.Need-collect-new_polynomials-requires
 collect-requires c κs =
     let here = c.before.before.before.before.before.before.before.before.before.before.before in
     let normal = normalising (simplifying here) in
@@ -225,35 +225,35 @@ collect-requires c κs =
       asks-room accepted (giving (simplifying here)).give.new.0 (long (giving (simplifying here)) accepted),
     )
 
-write-requires : tie.Need-write-requires
+write-requires : tie.Need-write-length-requires
 write-requires c κs =
     let here = c.before.before.before.before.before.before.before.before.before.before.before.before.before in
     let accepted = (first here).requires.0.accepted in
     (new-room here accepted, record { block = new_block accepted.given; writable = new-writable here accepted })
 
-same-coefficients : tie.Need-same-length
-same-coefficients c = c.before.before.before.before.before.before.before.before.before.before.before.before.before.before.before.before.collect.auto.1.1.1.1.1.1.0
+same-coefficients : tie.Need-shape_of-coefficient
+same-coefficients c = c.before.before.before.before.before.before.before.before.before.before.before.before.before.before.before.before.collect-new_polynomials.auto.1.1.1.1.1.1.0
 
-same-monomials : tie.Need-same-length-2
-same-monomials c = c.before.before.before.before.before.before.before.before.before.before.before.before.before.before.before.before.collect.auto.1.1.1.1.1.1.1.0
+same-monomials : tie.Need-shape_of-monomial
+same-monomials c = c.before.before.before.before.before.before.before.before.before.before.before.before.before.before.before.before.collect-new_polynomials.auto.1.1.1.1.1.1.1.0
 
-same-counts : tie.Need-same-length-3
-same-counts c = c.before.before.before.before.before.before.before.before.before.before.before.before.before.before.before.before.collect.auto.1.1.1.1.1.1.1.1.0
+same-counts : tie.Need-shape_of-terms
+same-counts c = c.before.before.before.before.before.before.before.before.before.before.before.before.before.before.before.before.collect-new_polynomials.auto.1.1.1.1.1.1.1.1.0
 
-same-tokens : tie.Need-same-length-4
+same-tokens : tie.Need-shape_of-token
 same-tokens c =
     let here = c.before.before.before.before.before.before.before.before.before.before.before.before.before.before.before.before in
-    here.collect.auto.1.1.1.1.1.1.1.1.1.0 ∙ (given-at here).give.auto.0 ∙ (normal-at here).normal-tokens.auto.0
+    here.collect-new_polynomials.auto.1.1.1.1.1.1.1.1.1.0 ∙ (given-at here).give.auto.0 ∙ (normal-at here).normal-tokens.auto.0
 
-same-places : tie.Need-same-length-6
+same-places : tie.Need-shape_of-places
 same-places c = (telling-of (plaining c.before.before.before.before.before.before.before.before.before.before.before.before.before.before.before.before)).tell.auto.1.1.0
 
 returns : tie.Need-returns
 returns c bytes accepted =
-    let writing = c.before.before.write in
-    let telling = c.before.before.before.before.before.before.before.before.verdict-of in
+    let writing = c.before.before.write-length in
+    let telling = c.before.before.before.before.before.before.before.before.verdict_of-verdict in
     let here = c.before.before.before.before.before.before.before.before.before.before.before.before.before.before.before.before in
-    let counting = here.before.before.before.before.before.before.before.before.before.atoms2 in
+    let counting = here.before.before.before.before.before.before.before.before.before.atoms-atoms_out in
     let simplified = simplified-at here in
     let counted = (giving simplified).before.before.before.before.before.before.atoms in
     let uses = (giving simplified).before.before.forms-used in

@@ -10,41 +10,41 @@ use Rattle.answer.specs.Tapes.{plain, plain_tokens}
 use Rattle.answer.proofs.plain_tokens.Statement.{statement}
 use Rattle.answer.proofs.plain_tokens.Tie as tie
 
-abbrev invariant-loop : tie.invariant-loop
+abbrev invariant-loop : tie.invariant-loop-i
 invariant-loop token₀ count i₀ token i = (length token ≡ length token₀) × (stores 0 (λ j. j) (λ j x. plain x) token i count ≡ plain_tokens count token₀)
 
-abbrev decreases-loop : tie.decreases-loop
+abbrev decreases-loop : tie.decreases-loop-i
 decreases-loop token₀ count i₀ token i = count - i
 
-loop-holds : tie.Need-loop-init invariant-loop decreases-loop
+loop-holds : tie.Need-loop-i-init invariant-loop decreases-loop
 loop-holds c =
     let a = c.args in
     (refl, stores-map 0 plain a.token.now a.count (omega arith))
 
-loop-again : tie.Need-loop-preserved invariant-loop decreases-loop
+loop-again : tie.Need-loop-i-preserved-then-t-lt16777216 invariant-loop decreases-loop
 unfolding plain
 loop-again c =
-    let l = c.before.before.before.loop in
+    let l = c.before.before.before.loop-i in
     let a = c.before.before.before.before.args in
     let t = get_or l.token l.i 0 in
-    let is : t % 512 ≡ plain t = sym (ap (λ (b : Bool). cond b (t % 512) t) (lt-ltb t 16777216 c.if1.true)) in (
+    let is : t % 512 ≡ plain t = sym (ap (λ (b : Bool). cond b (t % 512) t) (lt-ltb t 16777216 c.if-t-lt16777216.true)) in (
       simp length-set l.invariant.0,
       ap (λ (x : ℕ). stores 0 (λ j. j) (λ j y. plain y) (set l.token l.i x) (l.i + 1) a.count) is
           ∙ sym (stores-step 0 (λ j. j) (λ j x. plain x) l.token l.i a.count (omega arith)) ∙ l.invariant.1,
     )
 
-loop-again-2 : tie.Need-loop-preserved-2 invariant-loop decreases-loop
+loop-again-2 : tie.Need-loop-i-preserved invariant-loop decreases-loop
 unfolding plain
 loop-again-2 c =
-    let l = c.before.before.before.loop in
+    let l = c.before.before.before.loop-i in
     let a = c.before.before.before.before.args in
     let t = get_or l.token l.i 0 in
-    let stays = ap (λ (b : Bool). cond b (t % 512) t) (le-ltb t 16777216 c.if1.false) in
+    let stays = ap (λ (b : Bool). cond b (t % 512) t) (le-ltb t 16777216 c.if-t-lt16777216.false) in
     (l.invariant.0, sym (stores-skip 0 (λ j. j) (λ j x. plain x) l.token l.i a.count (omega arith) stays) ∙ l.invariant.1)
 
 returns : tie.Need-returns invariant-loop decreases-loop
 returns c =
-    let l = c.before.loop in
+    let l = c.before.loop-i in
     let a = c.before.before.args in
     sym (stores-end 0 (λ j. j) (λ j x. plain x) l.token l.i a.count (omega arith)) ∙ l.invariant.1
 
@@ -52,4 +52,4 @@ pub plain_tokens_spec : {M : Type 1} → statement M
 plain_tokens_spec =
     tie.close
     (tie.spec invariant-loop decreases-loop loop-holds (λ c. omega arith) (λ c. omega arith) (λ c. omega arith) (λ c. omega arith) (λ c. omega arith)
-    (λ c. omega arith) loop-again (λ c. omega arith) loop-again-2 (λ c. c.before.loop.invariant.0) returns)
+    (λ c. omega arith) loop-again (λ c. omega arith) loop-again-2 (λ c. c.before.loop-i.invariant.0) returns)

@@ -5,10 +5,10 @@ use native.Mathlib.Omega.{arith}
 use Rattle.areas.proofs.put_all.Statement.{statement}
 use Rattle.areas.proofs.put_all.Tie as tie
 
-abbrev invariant-loop : tie.invariant-loop
+abbrev invariant-loop : tie.invariant-loop-k
 invariant-loop descriptor block first sync size k₀ k = Unit {0}
 
-abbrev decreases-loop : tie.decreases-loop
+abbrev decreases-loop : tie.decreases-loop-k
 decreases-loop descriptor block first sync size k₀ k = size - k
 
 pub put_all_spec : {M : Type 1} → statement M

@@ -7,42 +7,42 @@ use Rattle.arithmetic.proofs.plus.Tie as tie
 
 -- ---- the signs differ
 
-returns : tie.Need-returns
+returns : tie.Need-returns-then-x-y
 returns c =
     let signs = c.before.before in
     let differing = signs.before in
-    second-larger _ _ differing.before.both.ensures (sym differing.differ.ensures ∙ signs.if1.true) c.before.if2.true c.ranged.ensures
+    second-larger _ _ differing.before.both-fits.ensures (sym differing.differ.ensures ∙ signs.if-differ.true) c.before.if-x-y.true c.ranged.ensures
 
-returns-2 : tie.Need-returns-2
+returns-2 : tie.Need-returns-then-differ
 returns-2 c =
     let signs = c.before.before in
     let differing = signs.before in
-    first-larger _ _ differing.before.both.ensures (sym differing.differ.ensures ∙ signs.if1.true) c.before.if2.false c.ranged2.ensures
+    first-larger _ _ differing.before.both-fits.ensures (sym differing.differ.ensures ∙ signs.if-differ.true) c.before.if-x-y.false c.ranged-then-differ.ensures
 
 -- ---- they agree
 
-returns-3 : tie.Need-returns-3
+returns-3 : tie.Need-returns-then-most-x
 returns-3 c =
     let limiting = c.before in
     let signs = limiting.before in
     let differing = signs.before in
-    past_first _ _ differing.before.both.ensures (sym differing.differ.ensures ∙ signs.if1.false) limiting.limit.ensures c.if3.true
+    past_first _ _ differing.before.both-fits.ensures (sym differing.differ.ensures ∙ signs.if-differ.false) limiting.limit-most.ensures c.if-most-x.true
 
-returns-4 : tie.Need-returns-4
+returns-4 : tie.Need-returns-then-most-x-2
 returns-4 c =
     let first = c.before in
     let limiting = first.before in
     let signs = limiting.before in
     let differing = signs.before in
-    past-rest _ _ differing.before.both.ensures (sym differing.differ.ensures ∙ signs.if1.false) limiting.limit.ensures first.if3.false c.if4.true
+    past-rest _ _ differing.before.both-fits.ensures (sym differing.differ.ensures ∙ signs.if-differ.false) limiting.limit-most.ensures first.if-most-x.false c.if-most-x-2.true
 
-returns-5 : tie.Need-returns-5
+returns-5 : tie.Need-returns
 returns-5 c =
     let first = c.before in
     let limiting = first.before in
     let signs = limiting.before in
     let differing = signs.before in
-    in-range _ _ differing.before.both.ensures (sym differing.differ.ensures ∙ signs.if1.false) limiting.limit.ensures first.if3.false c.if4.false
+    in-range _ _ differing.before.both-fits.ensures (sym differing.differ.ensures ∙ signs.if-differ.false) limiting.limit-most.ensures first.if-most-x.false c.if-most-x-2.false
 
 pub plus_spec : {M : Type 1} → statement M
 plus_spec =

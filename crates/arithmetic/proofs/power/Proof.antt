@@ -7,20 +7,20 @@ use Rattle.arithmetic.specs.Numbers.{value_of, meaning}
 use Rattle.arithmetic.proofs.power.Statement.{statement}
 use Rattle.arithmetic.proofs.power.Tie as tie
 
-abbrev invariant-loop : tie.invariant-loop
+abbrev invariant-loop : tie.invariant-loop-left
 invariant-loop negative magnitude exponent product₀ left₀ product left = raised (value_of negative magnitude) left (meaning product) ≡ raised (value_of negative magnitude) exponent (meaning product₀)
 
-abbrev decreases-loop : tie.decreases-loop
+abbrev decreases-loop : tie.decreases-loop-left
 decreases-loop negative magnitude exponent product₀ left₀ product left = left
 
-loop-again : tie.Need-loop-preserved invariant-loop decreases-loop
+loop-again : tie.Need-loop-left-preserved invariant-loop decreases-loop
 loop-again c =
     let tested = c.before in
-    let loop = tested.before.loop in
-    ap (raised _ _) c.times.ensures ∙ sym (raised-next _ loop.left (meaning loop.product) tested.loop-test.true) ∙ loop.invariant
+    let loop = tested.before.loop-left in
+    ap (raised _ _) c.times-product.ensures ∙ sym (raised-next _ loop.left (meaning loop.product) tested.loop-left-test.true) ∙ loop.invariant
 
 returns : tie.Need-returns invariant-loop decreases-loop
-returns c = sym (raised-end _ _ _ (omega (arith, c.loop-test.false))) ∙ c.before.loop.invariant
+returns c = sym (raised-end _ _ _ (omega (arith, c.loop-left-test.false))) ∙ c.before.loop-left.invariant
 
 pub power_spec : {M : Type 1} → statement M
 power_spec = tie.close (tie.spec invariant-loop decreases-loop (λ c. refl) (λ c. omega arith) (λ c κs. tt) (λ c. omega arith) loop-again returns)

@@ -12,31 +12,31 @@ use Rattle.arithmetic.specs.Numbers.{value_of, meaning, meant}
 use Rattle.arithmetic.proofs.term.Statement.{statement}
 use Rattle.arithmetic.proofs.term.Tie as tie
 
-abbrev invariant-loop : tie.invariant-loop
+abbrev invariant-loop : tie.invariant-loop-i
 invariant-loop readings monomial coefficient product₀ i₀ product i =
     (i ≤ length readings) × (term_from (drop i readings) monomial (meaning product) ≡ term_from readings monomial (meaning product₀))
 
-abbrev decreases-loop : tie.decreases-loop
+abbrev decreases-loop : tie.decreases-loop-i
 decreases-loop readings monomial coefficient product₀ i₀ product i = length readings - i
 
-loop-holds : tie.Need-loop-init invariant-loop decreases-loop
+loop-holds : tie.Need-loop-i-init invariant-loop decreases-loop
 loop-holds c = (omega arith, refl)
 
-loop-again : tie.Need-loop-preserved invariant-loop decreases-loop
+loop-again : tie.Need-loop-i-preserved invariant-loop decreases-loop
 loop-again c =
     let reading = c.before in
     let element = reading.before in
     let test = element.before in
-    let loop = test.before.loop in
+    let loop = test.before.loop-i in
     let start = test.before.before.before in
-    let x = meant reading.whole2.result _ reading.whole2.ensures ∙ to_z-of_z w32 _ (record { sfits = element.x.given }) in
-    (omega (arith, test.loop-test.true), term-again start.args.readings.now loop.i start.args.monomial _ _ test.loop-test.true x c.power.ensures ∙ loop.invariant.1)
+    let x = meant reading.whole-reading.result _ reading.whole-reading.ensures ∙ to_z-of_z w32 _ (record { sfits = element.x-1.given }) in
+    (omega (arith, test.loop-i-test.true), term-again start.args.readings.now loop.i start.args.monomial _ _ test.loop-i-test.true x c.power-product.ensures ∙ loop.invariant.1)
 
 returns : tie.Need-returns invariant-loop decreases-loop
 returns c =
     let start = c.before.before.before in
-    let first = c.before.before.whole.ensures ∙ ap some (to_z-of_z w32 start.args.coefficient start.ranges.coefficient) in
-    sym (term-end start.args.readings.now c.before.loop.i _ _ (omega (arith, c.loop-test.false))) ∙ c.before.loop.invariant.1 ∙ ap (term_from _ _) first
+    let first = c.before.before.whole-product.ensures ∙ ap some (to_z-of_z w32 start.args.coefficient start.ranges.coefficient) in
+    sym (term-end start.args.readings.now c.before.loop-i.i _ _ (omega (arith, c.loop-i-test.false))) ∙ c.before.loop-i.invariant.1 ∙ ap (term_from _ _) first
 
 pub term_spec : {M : Type 1} → statement M
 term_spec =

@@ -13,7 +13,7 @@ returns : tie.Need-returns
 returns c =
     let start = c.before.before in
     let back = to_z-of_z w32 start.args.x start.ranges.x in
-    whole-meaning start.args.x (c.before.minus-of.ensures ∙ ap minus_bit back) (c.magnitude-of.ensures ∙ ap nat_abs back)
+    whole-meaning start.args.x (c.before.minus_of.ensures ∙ ap minus_bit back) (c.magnitude_of.ensures ∙ ap nat_abs back)
 
 pub whole_spec : {M : Type 1} → statement M
 whole_spec = tie.close (tie.spec (λ c κs. search rules) (λ c κs. search rules) returns)

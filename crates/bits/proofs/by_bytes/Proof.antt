@@ -9,39 +9,39 @@ use Rattle.bits.proofs.Turns.{Standing, Turn, begins, goes_on, in-range, reads_o
 use Rattle.bits.proofs.by_bytes.Statement.{statement}
 use Rattle.bits.proofs.by_bytes.Tie as tie
 
-abbrev invariant-loop : tie.invariant-loop
+abbrev invariant-loop : tie.invariant-loop-left
 invariant-loop src at k sofar₀ left₀ byte₀ room₀ sofar left byte room = Standing at k left byte room × (sofar ≡ value (take (k - left) (drop at (unpack src))))
 
-abbrev decreases-loop : tie.decreases-loop
+abbrev decreases-loop : tie.decreases-loop-left
 decreases-loop src at k sofar₀ left₀ byte₀ room₀ sofar left byte room = left
 
-loop-holds : tie.Need-loop-init invariant-loop decreases-loop
+loop-holds : tie.Need-loop-left-init invariant-loop decreases-loop
 unfolding value
 loop-holds c = let a = c.before.args in let none : a.k - a.k ≡ 0 = omega arith in (begins a.at a.k, rw none)
 
-turn : (c : tie.After-least invariant-loop decreases-loop) → let a = c.before.before.before.before.args in let l = c.before.before.loop in
-    Turn (length a.src.now) a.at a.k l.left l.byte l.room c.least.result
+turn : (c : tie.After-least-count invariant-loop decreases-loop) → let a = c.before.before.before.before.args in let l = c.before.before.loop-left in
+    Turn (length a.src.now) a.at a.k l.left l.byte l.room c.least-count.result
 turn c =
-    record { inside = c.before.before.before.before.requires.1; standing = c.before.before.loop.invariant.0; more = c.before.loop-test.true; counted = c.least.ensures }
+    record { inside = c.before.before.before.before.requires.1; standing = c.before.before.loop-left.invariant.0; more = c.before.loop-left-test.true; counted = c.least-count.ensures }
 
-next : (c : tie.After-part invariant-loop decreases-loop) → let a = c.before.before.before.before.before.before.args in let l = c.before.before.before.before.loop in
-    let count = c.before.before.least.result in
+next : (c : tie.After-part invariant-loop decreases-loop) → let a = c.before.before.before.before.before.before.args in let l = c.before.before.before.before.loop-left in
+    let count = c.before.before.least-count.result in
     l.sofar * 2 ^ count % 2 ^ 64 + c.part.result ≡ value (take (a.k - (l.left - count)) (drop a.at (unpack a.src.now)))
 next c =
     let s = c.before.before.before.before.before.before in
-    reads_on s.args.src.now (turn c.before.before) c.before.before.before.before.loop.sofar c.part.result s.requires.0
-    c.before.before.before.before.loop.invariant.1 c.part.ensures
+    reads_on s.args.src.now (turn c.before.before) c.before.before.before.before.loop-left.sofar c.part.result s.requires.0
+    c.before.before.before.before.loop-left.invariant.1 c.part.ensures
 
 add-sofar : tie.Need-overflow-add-sofar invariant-loop decreases-loop
 add-sofar c =
     let a = c.before.before.before.before.before.before.args in
     record {
-      fits = rw (next c) (fits_word a.src.now a.at (a.k - (c.before.before.before.before.loop.left - c.before.before.least.result))
+      fits = rw (next c) (fits_word a.src.now a.at (a.k - (c.before.before.before.before.loop-left.left - c.before.before.least-count.result))
           (omega arith));
     }
 
 returns : tie.Need-returns invariant-loop decreases-loop
-returns c = let a = c.before.before.before.args in let all : a.k - c.before.loop.left ≡ a.k = omega arith in rw all at c.before.loop.invariant.1
+returns c = let a = c.before.before.before.args in let all : a.k - c.before.loop-left.left ≡ a.k = omega arith in rw all at c.before.loop-left.invariant.1
 
 pub by_bytes_spec : {M : Type 1} → statement M
 by_bytes_spec =

@@ -10,8 +10,8 @@ returns c =
     let second = third.before.before in
     let first = second.before.before in
     let s = first.before.before.before in
-    four_bytes s.args.src.now s.args.i s.requires first.wide.ensures.0 first.wide.ensures.1 second.wide2.ensures.0 second.wide2.ensures.1
-    third.wide3.ensures.0 third.wide3.ensures.1 c.wide4.ensures.0 c.wide4.ensures.1
+    four_bytes s.args.src.now s.args.i s.requires first.wide-first.ensures.0 first.wide-first.ensures.1 second.wide-second.ensures.0 second.wide-second.ensures.1
+    third.wide-third.ensures.0 third.wide-third.ensures.1 c.wide-last.ensures.0 c.wide-last.ensures.1
 
 pub four_spec : {M : Type 1} → statement M
 four_spec =

@@ -7,7 +7,7 @@ use Rattle.bits.proofs.within_eight.Tie as tie
 returns : tie.Need-returns
 returns c =
     let s = c.before.before.before in
-    out-of-eight s.args.src.now s.args.byte s.args.from s.args.k s.requires.0 s.requires.1 s.requires.2 s.requires.3 s.requires.4 c.before.least.ensures
+    out-of-eight s.args.src.now s.args.byte s.args.from s.args.k s.requires.0 s.requires.1 s.requires.2 s.requires.3 s.requires.4 c.before.least-first.ensures
     c.eight.ensures
 
 pub within_eight_spec : {M : Type 1} → statement M

@@ -8,38 +8,38 @@ pub open_node_spec : {M : Type 1} → statement M
 open_node_spec =
     tie.close
     (tie.spec (λ c κs. search rules)
-    (λ c. none_allowed _ _ _ _ _ c.if1.true)
-    (λ c. kind-short _ _ _ _ _ c.before.before.before.left.ensures c.before.if1.false c.if2.true)
+    (λ c. none_allowed _ _ _ _ _ c.if-place-eq0.true)
+    (λ c. kind-short _ _ _ _ _ c.before.before.before.left-rest.ensures c.before.if-place-eq0.false c.if-rest-lt2.true)
     (λ c κs. search rules)
-    (λ c. let kind = c.before in kind-three _ _ _ _ _ kind.before.before.before.before.left.ensures kind.before.before.if1.false
-    kind.before.if2.false kind.get.ensures c.if3.true)
-    (λ c. let kind = c.before.before.before in atom-short _ _ _ _ _ kind.before.before.before.before.left.ensures kind.before.before.if1.false
-    kind.before.if2.false kind.get.ensures c.before.if4.true c.if5.true)
+    (λ c. let kind = c.before in kind-three _ _ _ _ _ kind.before.before.before.before.left-rest.ensures kind.before.before.if-place-eq0.false
+    kind.before.if-rest-lt2.false kind.get-kind.ensures c.if-kind-eq3.true)
+    (λ c. let kind = c.before.before.before in atom-short _ _ _ _ _ kind.before.before.before.before.left-rest.ensures kind.before.before.if-place-eq0.false
+    kind.before.if-rest-lt2.false kind.get-kind.ensures c.before.if-kind-eq0.true c.if-rest-lt11.true)
     (λ c. search rules) (λ c κs. search rules)
     (λ c.
     let kind = c.before.before.before.before.before in
-    number-high _ _ _ _ _ kind.before.before.before.before.left.ensures kind.before.before.if1.false kind.before.if2.false kind.get.ensures
-    c.before.before.before.if4.true c.before.before.if5.false
-    c.before.get2.ensures c.if6.true)
+    number-high _ _ _ _ _ kind.before.before.before.before.left-rest.ensures kind.before.before.if-place-eq0.false kind.before.if-rest-lt2.false kind.get-kind.ensures
+    c.before.before.before.if-kind-eq0.true c.before.before.if-rest-lt11.false
+    c.before.get-both.ensures c.if-m-number.true)
     (λ c.
     let kind = c.before.before.before.before.before in
-    atom-opens _ _ _ _ _ kind.before.before.before.before.left.ensures kind.before.before.if1.false kind.before.if2.false kind.get.ensures
-    c.before.before.before.if4.true c.before.before.if5.false
-    c.before.get2.ensures c.if6.false kind.before.before.before.before.before.before.requires.short)
-    (λ c. let kind = c.before.before.before in join-short _ _ _ _ _ kind.before.before.before.before.left.ensures kind.before.before.if1.false
-    kind.before.if2.false kind.get.ensures c.before.before.if3.false c.before.if4.false c.if7.true)
-    (λ c. let kind = c.before.before.before.before in same_kind _ _ _ _ _ kind.before.before.before.before.left.ensures
-    kind.before.before.if1.false kind.before.if2.false kind.get.ensures c.before.before.before.if3.false c.before.before.if4.false
-    c.before.if7.false c.if8.true)
+    atom-opens _ _ _ _ _ kind.before.before.before.before.left-rest.ensures kind.before.before.if-place-eq0.false kind.before.if-rest-lt2.false kind.get-kind.ensures
+    c.before.before.before.if-kind-eq0.true c.before.before.if-rest-lt11.false
+    c.before.get-both.ensures c.if-m-number.false kind.before.before.before.before.before.before.requires.short)
+    (λ c. let kind = c.before.before.before in join-short _ _ _ _ _ kind.before.before.before.before.left-rest.ensures kind.before.before.if-place-eq0.false
+    kind.before.if-rest-lt2.false kind.get-kind.ensures c.before.before.if-kind-eq3.false c.before.if-kind-eq0.false c.if-rest-lt10.true)
+    (λ c. let kind = c.before.before.before.before in same_kind _ _ _ _ _ kind.before.before.before.before.left-rest.ensures
+    kind.before.before.if-place-eq0.false kind.before.if-rest-lt2.false kind.get-kind.ensures c.before.before.before.if-kind-eq3.false c.before.before.if-kind-eq0.false
+    c.before.if-rest-lt10.false c.if-kind-parent.true)
     (λ c.
     let kind = c.before.before.before.before.before in
-    too-deep _ _ _ _ _ kind.before.before.before.before.left.ensures kind.before.before.if1.false kind.before.if2.false kind.get.ensures
-    c.before.before.before.before.if3.false c.before.before.before.if4.false
-    c.before.before.if7.false c.before.if8.false c.if9.true)
+    too-deep _ _ _ _ _ kind.before.before.before.before.left-rest.ensures kind.before.before.if-place-eq0.false kind.before.if-rest-lt2.false kind.get-kind.ensures
+    c.before.before.before.before.if-kind-eq3.false c.before.before.before.if-kind-eq0.false
+    c.before.before.if-rest-lt10.false c.before.if-kind-parent.false c.if-nesting-eq0.true)
     (λ c. search rules) (λ c κs. search rules)
     (λ c.
     let kind = c.before.before.before.before.before.before in
-    join-opens _ _ _ _ _ kind.before.before.before.before.left.ensures kind.before.before.if1.false kind.before.if2.false kind.get.ensures
-    c.before.before.before.before.before.if3.false c.before.before.before.before.if4.false
-    c.before.before.before.if7.false c.before.before.if8.false c.before.if9.false c.get3.ensures
+    join-opens _ _ _ _ _ kind.before.before.before.before.left-rest.ensures kind.before.before.if-place-eq0.false kind.before.if-rest-lt2.false kind.get-kind.ensures
+    c.before.before.before.before.before.if-kind-eq3.false c.before.before.before.before.if-kind-eq0.false
+    c.before.before.before.if-rest-lt10.false c.before.before.if-kind-parent.false c.before.if-nesting-eq0.false c.get-children.ensures
     kind.before.before.before.before.before.before.requires.short))

@@ -6,17 +6,17 @@ use Rattle.block.proofs.ReadingWhole.{outcome-refused, outcome-held}
 use Rattle.block.proofs.read.Statement.{statement}
 use Rattle.block.proofs.read.Tie as tie
 
-returns : tie.Need-returns
+returns : tie.Need-returns-in-Refused
 returns c =
     let chosen = c.before.before in
     let reading = chosen.before.before.before.before.before.before in
-    c.refusal.ensures ∙ outcome-refused reading.read-into.ensures chosen.contents.given.1
+    c.refusal.ensures ∙ outcome-refused reading.read_into-contents.ensures chosen.contents-1.given.1
 
-returns-2 : tie.Need-returns-2
+returns-2 : tie.Need-returns-in-Numbers
 returns-2 c =
     let chosen = c.before in
     let reading = chosen.before.before.before.before.before.before in
-    outcome-held reading.read-into.ensures chosen.contents2.given.1
+    outcome-held reading.read_into-contents.ensures chosen.contents-in-Numbers-1.given.1
 
 pub read_spec : {M : Type 1} → statement M
 read_spec =

@@ -6,7 +6,7 @@ use Rattle.block.proofs.ReadingWhole.{contents-refused, table-refuses, allowed-b
 use Rattle.block.proofs.read_body.Statement.{statement}
 use Rattle.block.proofs.read_body.Tie as tie
 
-read-table-requires : tie.Need-read-table-requires
+read-table-requires : tie.Need-read_table-step-requires
 read-table-requires c κs =
     let start = c.before.before.before.before.before.before.before in
     let head = start.requires.0 in
@@ -19,26 +19,26 @@ read-table-requires c κs =
       room.counts,
     )
 
-read-tree-requires : tie.Need-read-tree-requires
+read-tree-requires : tie.Need-read_tree-found-requires
 read-tree-requires c κs =
     let chosen = c.before.before in
     let table = chosen.before.before.before.before.before.before.before in
     let start = table.before.before.before.before.before.before.before.before in
     let head = start.requires.0 in
-    let read = chosen.step2.given.1 in (
-      inside-after table.read_table.ensures read,
-      omega (arith, allowed-behind head table.read_table.ensures read),
+    let read = chosen.step-in-Read-1.given.1 in (
+      inside-after table.read_table-step.ensures read,
+      omega (arith, allowed-behind head table.read_table-step.ensures read),
       start.requires.1.tokens,
     )
 
-returns : tie.Need-returns
+returns : tie.Need-returns-in-Refused
 returns c =
     let chosen = c.before in
     let table = chosen.before.before.before.before.before.before.before in
     let start = table.before.before.before.before.before.before.before.before in
-    (contents-refused _ _ _ _ _ _ _ _ (table-refuses start.requires.0 table.read_table.ensures chosen.step.given.1), none-held _ _)
+    (contents-refused _ _ _ _ _ _ _ _ (table-refuses start.requires.0 table.read_table-step.ensures chosen.step-1.given.1), none-held _ _)
 
-returns-2 : tie.Need-returns-2
+returns-2 : tie.Need-returns-in-Refused-found
 returns-2 c =
     let root = c.before in
     let tree = root.before.before.before.before in
@@ -46,18 +46,18 @@ returns-2 c =
     let table = chosen.before.before.before.before.before.before.before in
     let start = table.before.before.before.before.before.before.before.before in (
       contents-refused _ _ _ _ _ _ _ _
-          (tree-refuses start.requires.0 table.read_table.ensures chosen.step2.given.1 tree.read-tree.ensures root.found.given.1),
+          (tree-refuses start.requires.0 table.read_table-step.ensures chosen.step-in-Read-1.given.1 tree.read_tree-found.ensures root.found-1.given.1),
       none-held _ _,
     )
 
-returns-3 : tie.Need-returns-3
+returns-3 : tie.Need-returns-in-Kind
 returns-3 c =
     let root = c.before in
     let tree = root.before.before.before.before in
     let chosen = tree.before.before.before in
     let table = chosen.before.before.before.before.before.before.before in
     let start = table.before.before.before.before.before.before.before.before in
-    (all-stored start.requires.0 table.read_table.ensures chosen.step2.given.1 tree.read-tree.ensures root.found2.given.1, held-are _ _ _ _)
+    (all-stored start.requires.0 table.read_table-step.ensures chosen.step-in-Read-1.given.1 tree.read_tree-found.ensures root.found-in-Kind-1.given.1, held-are _ _ _ _)
 
 pub read_body_spec : {M : Type 1} → statement M
 read_body_spec =

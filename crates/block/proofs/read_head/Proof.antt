@@ -9,40 +9,40 @@ pub read_head_spec : {M : Type 1} → statement M
 read_head_spec =
     tie.close
     (tie.spec
-    (λ c. block-short _ c.if1.true)
+    (λ c. block-short _ c.if-src-lt5.true)
     (λ c κs. search rules)
-    (λ c. let edition = c.before in no-edition _ edition.before.if1.false edition.get.ensures c.if2.true)
+    (λ c. let edition = c.before in no-edition _ edition.before.if-src-lt5.false edition.get-edition.ensures c.if-edition-eq0.true)
     (λ c.
     let edition = c.before.before in
-    other-edition _ edition.before.if1.false edition.get.ensures c.before.if2.false c.if3.true)
+    other-edition _ edition.before.if-src-lt5.false edition.get-edition.ensures c.before.if-edition-eq0.false c.if-edition-gt2.true)
     (λ c κs. search rules)
     (λ c.
     let size = c.before in
     let edition = size.before.before.before in
-    other_length _ edition.before.if1.false edition.get.ensures size.before.before.if2.false size.before.if3.false size.get2.ensures
-    c.if4.true)
+    other_length _ edition.before.if-src-lt5.false edition.get-edition.ensures size.before.before.if-edition-eq0.false size.before.if-edition-gt2.false size.get.ensures
+    c.if-get-src.true)
     (λ c κs. search rules)
     (λ c.
     let variables = c.before in
     let size = variables.before.before in
     let edition = size.before.before.before in
-    no-variables _ edition.before.if1.false edition.get.ensures size.before.before.if2.false size.before.if3.false size.get2.ensures
-    variables.before.if4.false variables.get3.ensures c.if5.true)
+    no-variables _ edition.before.if-src-lt5.false edition.get-edition.ensures size.before.before.if-edition-eq0.false size.before.if-edition-gt2.false size.get.ensures
+    variables.before.if-get-src.false variables.get-variables.ensures c.if-variables-eq0.true)
     (λ c.
     let variables = c.before.before in
     let size = variables.before.before in
     let edition = size.before.before.before in
-    many-variables _ edition.before.if1.false edition.get.ensures size.before.before.if2.false size.before.if3.false size.get2.ensures
-    variables.before.if4.false variables.get3.ensures c.before.if5.false c.if6.true)
+    many-variables _ edition.before.if-src-lt5.false edition.get-edition.ensures size.before.before.if-edition-eq0.false size.before.if-edition-gt2.false size.get.ensures
+    variables.before.if-get-src.false variables.get-variables.ensures c.before.if-variables-eq0.false c.if-variables-gt16.true)
     (λ c κs. search rules)
     (λ c.
     let polynomials = c.before in
     let variables = polynomials.before.before.before in
     let size = variables.before.before in
     let edition = size.before.before.before in
-    many-polynomials _ edition.before.if1.false edition.get.ensures size.before.before.if2.false size.before.if3.false size.get2.ensures
-    variables.before.if4.false variables.get3.ensures polynomials.before.before.if5.false polynomials.before.if6.false
-    polynomials.get4.ensures c.if7.true)
+    many-polynomials _ edition.before.if-src-lt5.false edition.get-edition.ensures size.before.before.if-edition-eq0.false size.before.if-edition-gt2.false size.get.ensures
+    variables.before.if-get-src.false variables.get-variables.ensures polynomials.before.before.if-variables-eq0.false polynomials.before.if-variables-gt16.false
+    polynomials.get-polynomials.ensures c.if-polynomials-gt64.true)
     (λ c κs. search rules)
     (λ c.
     let nodes = c.before in
@@ -50,15 +50,15 @@ read_head_spec =
     let variables = polynomials.before.before.before in
     let size = variables.before.before in
     let edition = size.before.before.before in
-    no-nodes _ edition.before.if1.false edition.get.ensures size.before.before.if2.false size.before.if3.false size.get2.ensures
-    variables.before.if4.false variables.get3.ensures polynomials.before.before.if5.false polynomials.before.if6.false
-    polynomials.get4.ensures nodes.before.if7.false nodes.get5.ensures c.if8.true)
+    no-nodes _ edition.before.if-src-lt5.false edition.get-edition.ensures size.before.before.if-edition-eq0.false size.before.if-edition-gt2.false size.get.ensures
+    variables.before.if-get-src.false variables.get-variables.ensures polynomials.before.before.if-variables-eq0.false polynomials.before.if-variables-gt16.false
+    polynomials.get-polynomials.ensures nodes.before.if-polynomials-gt64.false nodes.get-nodes.ensures c.if-nodes-eq0.true)
     (λ c.
     let nodes = c.before in
     let polynomials = nodes.before.before in
     let variables = polynomials.before.before.before in
     let size = variables.before.before in
     let edition = size.before.before.before in
-    head_read _ edition.before.if1.false edition.get.ensures size.before.before.if2.false size.before.if3.false size.get2.ensures
-    variables.before.if4.false variables.get3.ensures polynomials.before.before.if5.false polynomials.before.if6.false
-    polynomials.get4.ensures nodes.before.if7.false nodes.get5.ensures c.if8.false))
+    head_read _ edition.before.if-src-lt5.false edition.get-edition.ensures size.before.before.if-edition-eq0.false size.before.if-edition-gt2.false size.get.ensures
+    variables.before.if-get-src.false variables.get-variables.ensures polynomials.before.before.if-variables-eq0.false polynomials.before.if-variables-gt16.false
+    polynomials.get-polynomials.ensures nodes.before.if-polynomials-gt64.false nodes.get-nodes.ensures c.if-nodes-eq0.false))

@@ -5,22 +5,22 @@ use Rattle.block.proofs.ReadingWhole.{contents-refused, room-for-all}
 use Rattle.block.proofs.read_into.Statement.{statement}
 use Rattle.block.proofs.read_into.Tie as tie
 
-read-body-requires : tie.Need-read-body-requires
+read-body-requires : tie.Need-read_body-requires
 read-body-requires c κs =
     let chosen = c.before.before.before.before.before in
     let head = chosen.before.before in
     let start = head.before.before.before.before.before in
-    let held = head-held head.read_head.ensures chosen.numbers2.given.1 in
+    let held = head-held head.read_head-numbers.ensures chosen.numbers-in-Numbers-1.given.1 in
     (held, room-for-all held start.requires)
 
-returns : tie.Need-returns
+returns : tie.Need-returns-in-Refused
 returns c =
     let chosen = c.before in
     let head = chosen.before.before in
-    contents-refused _ _ _ _ _ _ _ _ (head-refused head.read_head.ensures chosen.numbers.given.1)
+    contents-refused _ _ _ _ _ _ _ _ (head-refused head.read_head-numbers.ensures chosen.numbers-1.given.1)
 
 pub read_into_spec : {M : Type 1} → statement M
 read_into_spec =
     tie.close
     (tie.spec (λ c κs. search rules) (λ c. search rules) (λ c. search rules) read-body-requires returns
-    (λ c. search rules) (λ c. search rules) (λ c. search rules) (λ c. search rules) (λ c. c.before.before.before.before.before.before.before.read-body.ensures.0))
+    (λ c. search rules) (λ c. search rules) (λ c. search rules) (λ c. search rules) (λ c. c.before.before.before.before.before.before.before.read_body.ensures.0))

@@ -15,29 +15,29 @@ pub read_paired_term_spec : {M : Type 1} → statement M
 read_paired_term_spec =
     tie.close
     (tie.spec (λ c κs. search rules)
-    (λ c. paired-short _ _ _ c.before.left.ensures c.if1.true)
+    (λ c. paired-short _ _ _ c.before.left.ensures c.if-left-lt37.true)
     (λ c. search rules) (λ c κs. search rules)
-    (λ c. let magnitude = c.before in paired-nought _ _ _ magnitude.before.before.left.ensures magnitude.before.if1.false magnitude.get.ensures
-    c.if2.true)
+    (λ c. let magnitude = c.before in paired-nought _ _ _ magnitude.before.before.left.ensures magnitude.before.if-left-lt37.false magnitude.get-magnitude.ensures
+    c.if-magnitude-eq0.true)
     (λ c. search rules) (λ c κs. search rules) (λ c. search rules) (λ c. search rules) (λ c κs. search rules)
     (λ c.
     let chosen = c.before.before.before in
     let pairs = chosen.before.before in
     let magnitude = pairs.before.before in
-    paired-rising _ _ _ magnitude.before.before.left.ensures magnitude.before.if1.false magnitude.get.ensures pairs.before.if2.false
-    pairs.read_pairs.ensures chosen.found2.given.1 c.before.falls.ensures c.if3.true)
+    paired-rising _ _ _ magnitude.before.before.left.ensures magnitude.before.if-left-lt37.false magnitude.get-magnitude.ensures pairs.before.if-magnitude-eq0.false
+    pairs.read_pairs-found.ensures chosen.found-in-Number-1.given.1 c.before.falls.ensures c.if-not-falls.true)
     (λ c κs. search rules)
     (λ c κs.
     let magnitude = c.before.before.before.before.before.before.before.before in
     let a = magnitude.before.before.before.before.before.args in
-    rw magnitude.get.ensures (value-take-lt 31 (drop (a.place.at + 1) (unpack a.src.now))))
+    rw magnitude.get-magnitude.ensures (value-take-lt 31 (drop (a.place.at + 1) (unpack a.src.now))))
     (λ c. search rules) (λ c. search rules) (λ c. search rules) (λ c. search rules)
     (λ c.
     let chosen = c.before in
     let pairs = chosen.before.before in
     let magnitude = pairs.before.before in
-    paired-refused _ _ _ magnitude.before.before.left.ensures magnitude.before.if1.false magnitude.get.ensures pairs.before.if2.false
-    pairs.read_pairs.ensures chosen.found.given.1)
+    paired-refused _ _ _ magnitude.before.before.left.ensures magnitude.before.if-left-lt37.false magnitude.get-magnitude.ensures pairs.before.if-magnitude-eq0.false
+    pairs.read_pairs-found.ensures chosen.found-1.given.1)
     (λ c. search rules) (λ c. search rules)
     (λ c.
     let minus = c.before in
@@ -45,6 +45,6 @@ read_paired_term_spec =
     let chosen = fall.before.before in
     let pairs = chosen.before.before in
     let magnitude = pairs.before.before in
-    paired-read _ _ _ magnitude.before.before.left.ensures magnitude.before.if1.false magnitude.get.ensures pairs.before.if2.false
-    pairs.read_pairs.ensures chosen.found2.given.1 fall.falls.ensures minus.before.if3.false minus.get2.ensures
-    (to_z-of_z w32 c.coefficient-of.result (record { sfits = c.coefficient-of.type-inv }) ∙ c.coefficient-of.ensures)))
+    paired-read _ _ _ magnitude.before.before.left.ensures magnitude.before.if-left-lt37.false magnitude.get-magnitude.ensures pairs.before.if-magnitude-eq0.false
+    pairs.read_pairs-found.ensures chosen.found-in-Number-1.given.1 fall.falls.ensures minus.before.if-not-falls.false minus.get.ensures
+    (to_z-of_z w32 c.coefficient_of.result (record { sfits = c.coefficient_of.type-inv }) ∙ c.coefficient_of.ensures)))

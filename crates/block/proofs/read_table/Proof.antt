@@ -8,34 +8,34 @@ use Rattle.block.proofs.ReadingTable.{TableLeft, table-begin, table-end, table-s
 use Rattle.block.proofs.read_table.Statement.{statement}
 use Rattle.block.proofs.read_table.Tie as tie
 
-abbrev invariant-loop : tie.invariant-loop
+abbrev invariant-loop : tie.invariant-loop-i
 invariant-loop src coefficient₀ monomial₀ counts₀ edition n m next₀ i₀ coefficient monomial counts next i =
     TableLeft (edition_of edition) src n m next₀ coefficient₀ monomial₀ counts₀ i next coefficient monomial counts × (i ≤ m)
 
-abbrev decreases-loop : tie.decreases-loop
+abbrev decreases-loop : tie.decreases-loop-i
 decreases-loop src coefficient₀ monomial₀ counts₀ edition n m next₀ i₀ coefficient monomial counts next i = m - i
 
-read-polynomial-requires : tie.Need-read-polynomial-requires invariant-loop decreases-loop
+read-polynomial-requires : tie.Need-read_polynomial-step-requires invariant-loop decreases-loop
 read-polynomial-requires c κs =
     let turn = c.before.before.before in
-    let l = turn.before.loop.invariant.0 in
+    let l = turn.before.loop-i.invariant.0 in
     let s = turn.before.before.before.before.before in (
       l.inside,
       s.requires.1,
-      omega (arith, l.coefficients, s.requires.3, turn.loop-test.true),
-      omega (arith, l.monomials, s.requires.4, turn.loop-test.true),
-      omega (arith, l.numbers, s.requires.5, turn.loop-test.true),
-      omega (arith, s.requires.2, turn.loop-test.true),
+      omega (arith, l.coefficients, s.requires.3, turn.loop-i-test.true),
+      omega (arith, l.monomials, s.requires.4, turn.loop-i-test.true),
+      omega (arith, l.numbers, s.requires.5, turn.loop-i-test.true),
+      omega (arith, s.requires.2, turn.loop-i-test.true),
     )
 
-loop-again : tie.Need-loop-preserved invariant-loop decreases-loop
+loop-again : tie.Need-loop-i-preserved invariant-loop decreases-loop
 loop-again c =
     let chosen = c.before in
     let one = chosen.before.before.before.before.before.before.before in
     let turn = one.before.before.before.before in
-    let kept = one.read-polynomial.auto.1 in (
-      table-go-on _ _ _ turn.before.loop.invariant.0 turn.loop-test.true one.read-polynomial.ensures chosen.step2.given.1 kept.0 kept.1.0 kept.1.1.0,
-      omega (arith, turn.loop-test.true),
+    let kept = one.read_polynomial-step.auto.1 in (
+      table-go-on _ _ _ turn.before.loop-i.invariant.0 turn.loop-i-test.true one.read_polynomial-step.ensures chosen.step-in-Read-1.given.1 kept.0 kept.1.0 kept.1.1.0,
+      omega (arith, turn.loop-i-test.true),
     )
 
 pub read_table_spec : {M : Type 1} → statement M
@@ -43,15 +43,15 @@ read_table_spec =
     tie.close
     (tie.spec invariant-loop decreases-loop (λ c. (table-begin _ _ _ c.before.before.before.requires.0, omega arith)) read-polynomial-requires (λ c. search rules)
     (λ c. let one = c.before.before.before.before.before.before.before.before in
-    one.read-polynomial.auto.1.0 ∙ one.before.before.before.before.before.loop.invariant.0.coefficients)
+    one.read_polynomial-step.auto.1.0 ∙ one.before.before.before.before.before.loop-i.invariant.0.coefficients)
     (λ c. let one = c.before.before.before.before.before.before.before.before in
-    one.read-polynomial.auto.1.1.0 ∙ one.before.before.before.before.before.loop.invariant.0.monomials)
+    one.read_polynomial-step.auto.1.1.0 ∙ one.before.before.before.before.before.loop-i.invariant.0.monomials)
     (λ c. let one = c.before.before.before.before.before.before.before.before in
-    one.read-polynomial.auto.1.1.1.0 ∙ one.before.before.before.before.before.loop.invariant.0.numbers)
+    one.read_polynomial-step.auto.1.1.1.0 ∙ one.before.before.before.before.before.loop-i.invariant.0.numbers)
     (λ c.
     let one = c.before.before.before.before.before.before.before.before in
     let turn = one.before.before.before.before in
-    table-stop _ _ _ turn.before.loop.invariant.0 turn.loop-test.true one.read-polynomial.ensures c.before.step.given.1)
+    table-stop _ _ _ turn.before.loop-i.invariant.0 turn.loop-i-test.true one.read_polynomial-step.ensures c.before.step-1.given.1)
     (λ c. search rules) (λ c. omega arith) (λ c. omega arith) loop-again
-    (λ c. c.before.loop.invariant.0.coefficients) (λ c. c.before.loop.invariant.0.monomials) (λ c. c.before.loop.invariant.0.numbers)
-    (λ c. table-end _ _ _ c.before.loop.invariant.0 (omega (arith, c.before.loop.invariant.1, c.loop-test.false))))
+    (λ c. c.before.loop-i.invariant.0.coefficients) (λ c. c.before.loop-i.invariant.0.monomials) (λ c. c.before.loop-i.invariant.0.numbers)
+    (λ c. table-end _ _ _ c.before.loop-i.invariant.0 (omega (arith, c.before.loop-i.invariant.1, c.loop-i-test.false))))

@@ -11,9 +11,9 @@ read_term_in_spec =
     (λ c.
     let term = c.before.before.before in
     let tested = term.before.before.before in
-    rw (in-edition1 tested.before.before.before.args.edition tested.if1.true) term.read-term.ensures)
+    rw (in-edition1 tested.before.before.before.args.edition tested.if-edition-lt2.true) term.read_term.ensures)
     (λ c κs. search rules) (λ c. search rules) (λ c. search rules)
     (λ c.
     let term = c.before.before.before in
     let tested = term.before.before.before in
-    rw (in-edition2 tested.before.before.before.args.edition tested.if1.false) term.read-paired-term.ensures))
+    rw (in-edition2 tested.before.before.before.args.edition tested.if-edition-lt2.false) term.read_paired_term.ensures))

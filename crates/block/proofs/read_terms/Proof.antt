@@ -8,36 +8,36 @@ use Rattle.block.proofs.ReadingTerms.{TermsLeft, terms-begin, terms-end, terms-s
 use Rattle.block.proofs.read_terms.Statement.{statement}
 use Rattle.block.proofs.read_terms.Tie as tie
 
-abbrev invariant-loop : tie.invariant-loop
+abbrev invariant-loop : tie.invariant-loop-i
 invariant-loop src coefficient₀ monomial₀ edition n k count next₀ first₀ above₀ i₀ coefficient monomial next first above i =
     TermsLeft (edition_of edition) src n k count next₀ coefficient₀ monomial₀ i next first above coefficient monomial
 
-abbrev decreases-loop : tie.decreases-loop
+abbrev decreases-loop : tie.decreases-loop-i
 decreases-loop src coefficient₀ monomial₀ edition n k count next₀ first₀ above₀ i₀ coefficient monomial next first above i = count - i
 
-read-term-in-requires : tie.Need-read-term-in-requires invariant-loop decreases-loop
+read-term-in-requires : tie.Need-read_term_in-step-requires invariant-loop decreases-loop
 read-term-in-requires c κs =
-    let l = c.before.before.before.loop in
+    let l = c.before.before.before.loop-i in
     (l.invariant.inside, omega arith, omega (arith, l.invariant.coefficients), omega (arith, l.invariant.monomials))
 
-loop-again : tie.Need-loop-preserved invariant-loop decreases-loop
+loop-again : tie.Need-loop-i-preserved invariant-loop decreases-loop
 loop-again c =
     let chosen = c.before.before in
     let one = chosen.before.before.before.before.before in
     let turn = one.before.before.before in
-    let l = turn.before.loop in
-    terms-go-on _ _ _ _ l.invariant turn.loop-test.true one.read-term-in.ensures chosen.step2.given.1 one.read-term-in.auto.1.0 one.read-term-in.auto.1.1.0
+    let l = turn.before.loop-i in
+    terms-go-on _ _ _ _ l.invariant turn.loop-i-test.true one.read_term_in-step.ensures chosen.step-in-Read-1.given.1 one.read_term_in-step.auto.1.0 one.read_term_in-step.auto.1.1.0
     (omega (arith, l.invariant.monomials)) refl
 
 pub read_terms_spec : {M : Type 1} → statement M
 read_terms_spec =
     tie.close
     (tie.spec invariant-loop decreases-loop (λ c. terms-begin _ _ _ _ c.before.before.requires.0) (λ c. omega arith) read-term-in-requires (λ c. search rules)
-    (λ c. let one = c.before.before.before.before.before.before in one.read-term-in.auto.1.0 ∙ one.before.before.before.before.loop.invariant.coefficients)
-    (λ c. let one = c.before.before.before.before.before.before in one.read-term-in.auto.1.1.0 ∙ one.before.before.before.before.loop.invariant.monomials)
+    (λ c. let one = c.before.before.before.before.before.before in one.read_term_in-step.auto.1.0 ∙ one.before.before.before.before.loop-i.invariant.coefficients)
+    (λ c. let one = c.before.before.before.before.before.before in one.read_term_in-step.auto.1.1.0 ∙ one.before.before.before.before.loop-i.invariant.monomials)
     (λ c.
     let one = c.before.before.before.before.before.before in
     let turn = one.before.before.before in
-    terms-stop _ _ _ _ turn.before.loop.invariant turn.loop-test.true one.read-term-in.ensures c.before.step.given.1)
+    terms-stop _ _ _ _ turn.before.loop-i.invariant turn.loop-i-test.true one.read_term_in-step.ensures c.before.step-1.given.1)
     (λ c. search rules) (λ c. omega arith) (λ c. omega arith) (λ c. omega arith) (λ c. omega arith) (λ c. omega arith) loop-again
-    (λ c. c.before.loop.invariant.coefficients) (λ c. c.before.loop.invariant.monomials) (λ c. terms-end _ _ _ _ c.before.loop.invariant c.loop-test.false))
+    (λ c. c.before.loop-i.invariant.coefficients) (λ c. c.before.loop-i.invariant.monomials) (λ c. terms-end _ _ _ _ c.before.loop-i.invariant c.loop-i-test.false))

@@ -9,4 +9,4 @@ pub candidates_spec : {M : Type 1} → statement M
 candidates_spec =
     tie.close
     (tie.spec (λ c. candidates-all) (λ c κs. search rules) (λ c κs. search rules)
-    (λ c. candidates-either (omega arith) c.before.left-raising.ensures c.left-lowering.ensures))
+    (λ c. candidates-either (omega arith) c.before.left_raising.ensures c.left_lowering.ensures))

@@ -9,14 +9,14 @@ use Rattle.columns.specs.Columns.{left-under, left-none}
 use Rattle.columns.proofs.left_below.Statement.{statement}
 use Rattle.columns.proofs.left_below.Tie as tie
 
-returns : tie.Need-returns
-returns c = left-under (non_negative (kind c.before.before.before.before.before.before.before.before.args.set1)) c.left-of.ensures
+returns : tie.Need-returns-then-non_negative
+returns c = left-under (non_negative (kind c.before.before.before.before.before.before.before.before.args.set1)) c.left_of.ensures
 
-returns-2 : tie.Need-returns-2
+returns-2 : tie.Need-returns
 returns-2 c =
     let d = c.before.before.before.args in
     left-none (λ (q2 : Mask) (set2 : SignSet). some_second (joined d.p (swapped d.q1)) q2 (kind set2))
-    (sym c.before.non-negative.ensures ∙ c.if1.false)
+    (sym c.before.non_negative.ensures ∙ c.if-non_negative.false)
 
 pub left_below_spec : {M : Type 1} → statement M
 left_below_spec = tie.close (tie.spec (λ c κs. search rules) (λ c κs. search rules) returns returns-2)

@@ -11,65 +11,65 @@ use Rattle.columns.specs.Columns.{one_shifted, Asked, asked-none, ask, asked-lef
 use Rattle.columns.proofs.left_of.Statement.{statement}
 use Rattle.columns.proofs.left_of.Tie as tie
 
-abbrev invariant-loop : tie.invariant-loop
+abbrev invariant-loop : tie.invariant-loop-need
 invariant-loop n p columns need₀ low₀ high₀ need low high = Asked columns (record { negative = n; positive = p }) need low high
 
-abbrev decreases-loop : tie.decreases-loop
+abbrev decreases-loop : tie.decreases-loop-need
 decreases-loop n p columns need₀ low₀ high₀ need low high = need
 
 cast-k : tie.Need-overflow-cast-k invariant-loop decreases-loop
-cast-k c = let l = c.before.loop in let h = lowest-below 64 l.need (omega arith) l.invariant.small in search rules
+cast-k c = let l = c.before.loop-need in let h = lowest-below 64 l.need (omega arith) l.invariant.small in search rules
 
 mul_low : tie.Need-overflow-mul-low invariant-loop decreases-loop
-mul_low c = let l = c.before.loop in let h = lowest-below 64 l.need (omega arith) l.invariant.small in search rules
+mul_low c = let l = c.before.loop-need in let h = lowest-below 64 l.need (omega arith) l.invariant.small in search rules
 
-shared-slice-read-low-2 : tie.Need-shared-slice-read-low-2 invariant-loop decreases-loop
+shared-slice-read-low-2 : tie.Need-bounds-columns-k invariant-loop decreases-loop
 shared-slice-read-low-2 c =
-    let l = c.before.before.loop in
+    let l = c.before.before.loop-need in
     let h = lowest-below 64 l.need (omega arith) l.invariant.small in
     let e = c.before.before.before.before.before.requires in
     omega arith
 
 add-high : tie.Need-overflow-add-high invariant-loop decreases-loop
-add-high c = let l = c.before.before.loop in let h = lowest-below 64 l.need (omega arith) l.invariant.small in search rules
+add-high c = let l = c.before.before.loop-need in let h = lowest-below 64 l.need (omega arith) l.invariant.small in search rules
 
 mul-high : tie.Need-overflow-mul-high invariant-loop decreases-loop
-mul-high c = let l = c.before.before.loop in let h = lowest-below 64 l.need (omega arith) l.invariant.small in search rules
+mul-high c = let l = c.before.before.loop-need in let h = lowest-below 64 l.need (omega arith) l.invariant.small in search rules
 
-shared-slice-read-high-2 : tie.Need-shared-slice-read-high-2 invariant-loop decreases-loop
+shared-slice-read-high-2 : tie.Need-bounds-columns-k-in-loop-need invariant-loop decreases-loop
 shared-slice-read-high-2 c =
-    let l = c.before.before.before.loop in
+    let l = c.before.before.before.loop-need in
     let h = lowest-below 64 l.need (omega arith) l.invariant.small in
     let e = c.before.before.before.before.before.before.requires in
     omega arith
 
 shl-need : tie.Need-overflow-shl-need invariant-loop decreases-loop
-shl-need c = let l = c.before.before.before.loop in lowest-below 64 l.need (omega arith) l.invariant.small
+shl-need c = let l = c.before.before.before.loop-need in lowest-below 64 l.need (omega arith) l.invariant.small
 
 sub-need : tie.Need-overflow-sub-need invariant-loop decreases-loop
 sub-need c =
-    let l = c.before.before.before.loop in
+    let l = c.before.before.before.loop-need in
     let h : 0 < l.need = omega arith in
     rw (one_shifted (lowest-below 64 l.need h l.invariant.small)) (power-at-most (has-lowest 64 h l.invariant.small))
 
-returns : tie.Need-returns invariant-loop decreases-loop
+returns : tie.Need-returns-then-low-high-eq0 invariant-loop decreases-loop
 returns c =
     let d = c.before.before.before.before.before.before.before.args in
-    let l = c.before.before.before.before.loop in
+    let l = c.before.before.before.before.loop-need in
     let h : 0 < l.need = omega arith in
-    subst (LeftOf d.columns.now d.n d.p) c.if1.true (asked-left (ask l.invariant (has-lowest 64 h l.invariant.small)))
+    subst (LeftOf d.columns.now d.n d.p) c.if-low-high-eq0.true (asked-left (ask l.invariant (has-lowest 64 h l.invariant.small)))
 
-loop-less : tie.Need-loop-smaller invariant-loop decreases-loop
+loop-less : tie.Need-loop-need-smaller invariant-loop decreases-loop
 loop-less c =
-    let l = c.before.before.before.before.loop in
+    let l = c.before.before.before.before.loop-need in
     let h : 0 < l.need = omega arith in
     let m = power-at-most (has-lowest 64 h l.invariant.small) in
     let n = pow_pos (count_trailing_zeros 64 l.need) in
     rw (one_shifted (lowest-below 64 l.need h l.invariant.small)) (omega arith)
 
-loop-again : tie.Need-loop-preserved invariant-loop decreases-loop
+loop-again : tie.Need-loop-need-preserved invariant-loop decreases-loop
 loop-again c =
-    let l = c.before.before.before.before.loop in
+    let l = c.before.before.before.before.loop-need in
     let h : 0 < l.need = omega arith in
     rw (one_shifted (lowest-below 64 l.need h l.invariant.small)) (ask l.invariant (has-lowest 64 h l.invariant.small))
 
@@ -80,4 +80,4 @@ left_of_spec =
     (λ c. asked-none c.before.before.args.columns.now (record { negative = c.before.before.args.n; positive = c.before.before.args.p })
     c.before.before.ranges.n.fits)
     cast-k mul_low shared-slice-read-low-2 add-high mul-high shared-slice-read-high-2 shl-need sub-need returns loop-less loop-again
-    (λ c. asked-left c.before.loop.invariant))
+    (λ c. asked-left c.before.loop-need.invariant))

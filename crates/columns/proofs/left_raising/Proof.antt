@@ -10,12 +10,12 @@ use Rattle.columns.specs.Columns.{left-under, left-none, left_both}
 use Rattle.columns.proofs.left_raising.Statement.{statement}
 use Rattle.columns.proofs.left_raising.Tie as tie
 
-returns : tie.Need-returns
+returns : tie.Need-returns-then-set-ge2
 returns c =
     let d = c.before.before.before.before.args in
-    left-under (leb 2 d.set) (left_both d.columns.now d.p d.q1 d.set1 c.before.left-above.ensures c.left_below.ensures)
+    left-under (leb 2 d.set) (left_both d.columns.now d.p d.q1 d.set1 c.before.left_above.ensures c.left_below.ensures)
 
-returns-2 : tie.Need-returns-2
+returns-2 : tie.Need-returns
 returns-2 c =
     let d = c.before.before.args in
     left-none (λ (q2 : Mask) (set2 : SignSet). some_both d.p d.q1 (kind d.set1) q2 (kind set2)) (lt-leb 2 d.set (omega arith))

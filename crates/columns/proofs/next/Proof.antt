@@ -16,5 +16,5 @@ add-result c = let d = c.before.before.args in let h = trailing_le 64 (d.word / 
 pub next_spec : {M : Type 1} → statement M
 next_spec =
     tie.close
-    (tie.spec (λ c. next_here _ _ _) (λ c. search rules) (λ c. next-none _ _ _ (omega arith) c.if2.true)
+    (tie.spec (λ c. next_here _ _ _) (λ c. search rules) (λ c. next-none _ _ _ (omega arith) c.if-rest-eq0.true)
     cast-result add-result (λ c. next-lowest _ _ _))

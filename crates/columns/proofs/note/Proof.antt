@@ -10,8 +10,8 @@ returns c =
     let d3 = d4.before.before.before.before.before in
     let d2 = d3.before.before.before.before.before in
     let d1 = d2.before.before.before.before in
-    took d1.spread.ensures d2.spread2.ensures d3.before.before.non-positive.ensures d3.put_if.ensures
-    d4.before.before.non-negative.ensures d4.put-if2.ensures
+    took d1.spread.ensures d2.spread-2.ensures d3.before.before.non_positive.ensures d3.put_if.ensures
+    d4.before.before.non_negative.ensures d4.put_if-2.ensures
 
 pub note_spec : {M : Type 1} → statement M
 note_spec =

@@ -5,4 +5,4 @@ use Rattle.columns.proofs.put_if.Statement.{statement}
 use Rattle.columns.proofs.put_if.Tie as tie
 
 pub put_if_spec : {M : Type 1} → statement M
-put_if_spec = tie.close (tie.spec (λ c κs. search rules) (λ c. search rules) (λ c. search rules) (λ c. put-not _ _ _ c.if1.false))
+put_if_spec = tie.close (tie.spec (λ c κs. search rules) (λ c. search rules) (λ c. search rules) (λ c. put-not _ _ _ c.if-there.false))

@@ -11,55 +11,55 @@ use Rattle.columns.specs.Columns.{one_shifted, put-there, Spreading, spread_none
 use Rattle.columns.proofs.spread.Statement.{statement}
 use Rattle.columns.proofs.spread.Tie as tie
 
-abbrev invariant-loop : tie.invariant-loop
+abbrev invariant-loop : tie.invariant-loop-rest
 invariant-loop word from j columns₀ own rest₀ columns rest = Spreading columns₀ word from j rest columns
 
-abbrev decreases-loop : tie.decreases-loop
+abbrev decreases-loop : tie.decreases-loop-rest
 decreases-loop word from j columns₀ own rest₀ columns rest = rest
 
 cast-k : tie.Need-overflow-cast-k invariant-loop decreases-loop
-cast-k c = let l = c.before.loop in let h = lowest-below 64 l.rest (omega arith) l.invariant.small in search rules
+cast-k c = let l = c.before.loop-rest in let h = lowest-below 64 l.rest (omega arith) l.invariant.small in search rules
 
 add-column : tie.Need-overflow-add-column invariant-loop decreases-loop
-add-column c = let l = c.before.loop in let h = lowest-below 64 l.rest (omega arith) l.invariant.small in search rules
+add-column c = let l = c.before.loop-rest in let h = lowest-below 64 l.rest (omega arith) l.invariant.small in search rules
 
 mul-column : tie.Need-overflow-mul-column invariant-loop decreases-loop
-mul-column c = let l = c.before.loop in let h = lowest-below 64 l.rest (omega arith) l.invariant.small in search rules
+mul-column c = let l = c.before.loop-rest in let h = lowest-below 64 l.rest (omega arith) l.invariant.small in search rules
 
-slice-read-column : tie.Need-slice-read-column invariant-loop decreases-loop
+slice-read-column : tie.Need-bounds-columns-from invariant-loop decreases-loop
 slice-read-column c =
-    let l = c.before.before.loop in
+    let l = c.before.before.loop-rest in
     let h = lowest-below 64 l.rest (omega arith) l.invariant.small in
     let e : length l.columns ≡ 130 = l.invariant.more.same_length ∙ c.before.before.before.requires.1.1 in
     omega arith
 
 add-columns : tie.Need-overflow-add-columns invariant-loop decreases-loop
-add-columns c = let l = c.before.before.loop in let h = lowest-below 64 l.rest (omega arith) l.invariant.small in search rules
+add-columns c = let l = c.before.before.loop-rest in let h = lowest-below 64 l.rest (omega arith) l.invariant.small in search rules
 
 mul-columns : tie.Need-overflow-mul-columns invariant-loop decreases-loop
-mul-columns c = let l = c.before.before.loop in let h = lowest-below 64 l.rest (omega arith) l.invariant.small in search rules
+mul-columns c = let l = c.before.before.loop-rest in let h = lowest-below 64 l.rest (omega arith) l.invariant.small in search rules
 
 shl-rest : tie.Need-overflow-shl-rest invariant-loop decreases-loop
-shl-rest c = let l = c.before.before.loop in lowest-below 64 l.rest (omega arith) l.invariant.small
+shl-rest c = let l = c.before.before.loop-rest in lowest-below 64 l.rest (omega arith) l.invariant.small
 
 sub-rest : tie.Need-overflow-sub-rest invariant-loop decreases-loop
 sub-rest c =
-    let l = c.before.before.loop in
+    let l = c.before.before.loop-rest in
     let h : 0 < l.rest = omega arith in
     rw (one_shifted (lowest-below 64 l.rest h l.invariant.small)) (power-at-most (has-lowest 64 h l.invariant.small))
 
-loop-less : tie.Need-loop-smaller invariant-loop decreases-loop
+loop-less : tie.Need-loop-rest-smaller invariant-loop decreases-loop
 loop-less c =
-    let l = c.before.before.loop in
+    let l = c.before.before.loop-rest in
     let h : 0 < l.rest = omega arith in
     let m = power-at-most (has-lowest 64 h l.invariant.small) in
     let n = pow_pos (count_trailing_zeros 64 l.rest) in
     rw (one_shifted (lowest-below 64 l.rest h l.invariant.small)) (omega arith)
 
-loop-again : tie.Need-loop-preserved invariant-loop decreases-loop
+loop-again : tie.Need-loop-rest-preserved invariant-loop decreases-loop
 loop-again c =
     let d = c.before.before.before in
-    let l = c.before.before.loop in
+    let l = c.before.before.loop-rest in
     let h : 0 < l.rest = omega arith in
     let k = count_trailing_zeros 64 l.rest in
     rw (one_shifted (lowest-below 64 l.rest h l.invariant.small))
@@ -71,5 +71,5 @@ pub spread_spec : {M : Type 1} → statement M
 spread_spec =
     tie.close
     (tie.spec invariant-loop decreases-loop (λ c. search rules) (λ c. spread_none _ _ _ _ c.ranges.word.fits) cast-k add-column mul-column
-    slice-read-column add-columns mul-columns slice-read-column shl-rest sub-rest loop-less loop-again (λ c. c.before.loop.invariant.more.same_length)
-    (λ c. spread_end _ c.before.loop.invariant c.loop-test.false))
+    slice-read-column add-columns mul-columns slice-read-column shl-rest sub-rest loop-less loop-again (λ c. c.before.loop-rest.invariant.more.same_length)
+    (λ c. spread_end _ c.before.loop-rest.invariant c.loop-rest-test.false))

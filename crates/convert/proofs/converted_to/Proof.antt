@@ -5,19 +5,19 @@ use Rattle.convert.specs.Converted.{converts-refused, converts-finished, found-r
 use Rattle.convert.proofs.converted_to.Statement.{statement}
 use Rattle.convert.proofs.converted_to.Tie as tie
 
-read-into-requires : tie.Need-read-into-requires
+read-into-requires : tie.Need-read_into-contents-requires
 read-into-requires c κs = record { coefficients = omega arith; monomials = omega arith; counts = omega arith; tokens = omega arith }
 
-abbrev start : tie.After-read-into → tie.Start
+abbrev start : tie.After-read_into-contents → tie.Start
 start c = c.before.before.before.before.before.before.before
 
 finish-requires : tie.Need-finish-requires
 finish-requires c κs =
     let chosen = c.before.before.before.before.before.before in
     let reading = chosen.before.before.before.before.before.before in
-    let kept = reading.read-into.auto.1 in
+    let kept = reading.read_into-contents.auto.1 in
     let s = start reading in
-    let given = found-accepted reading.read-into.ensures s.args.edition s.pre chosen.contents2.given.1 in (
+    let given = found-accepted reading.read_into-contents.ensures s.args.edition s.pre chosen.contents-in-Numbers-1.given.1 in (
       record {
         coefficients = omega (arith, kept.0);
         monomials = omega (arith, kept.1.0);
@@ -27,19 +27,19 @@ finish-requires c κs =
       record { block = given.block; writable = given.writable },
     )
 
-returns : tie.Need-returns
+returns : tie.Need-returns-in-Refused
 returns c =
     let chosen = c.before in
     let reading = chosen.before.before.before.before.before.before in
-    converts-refused _ (found-refused reading.read-into.ensures chosen.contents.given.1)
+    converts-refused _ (found-refused reading.read_into-contents.ensures chosen.contents-1.given.1)
 
-returns-2 : tie.Need-returns-2
+returns-2 : tie.Need-returns-in-Numbers
 returns-2 c =
     let finishing = c.before.before in
     let chosen = finishing.before.before.before.before.before.before.before in
     let reading = chosen.before.before.before.before.before.before in
     let s = start reading in
-    let given = found-accepted reading.read-into.ensures s.args.edition s.pre chosen.contents2.given.1 in
+    let given = found-accepted reading.read_into-contents.ensures s.args.edition s.pre chosen.contents-in-Numbers-1.given.1 in
     converts-finished _ given.reading (finishing.finish.ensures given.block given.writable)
 
 pub converted_to_spec : {M : Type 1} → statement M

@@ -14,46 +14,46 @@ use Rattle.convert.specs.Converted.{finishes-not, finishes, front-again}
 use Rattle.convert.proofs.finish.Statement.{statement}
 use Rattle.convert.proofs.finish.Tie as tie
 
-abbrev start : tie.After-write → tie.Start
+abbrev start : tie.After-write-size → tie.Start
 start c = c.before.before.before.before.before.before
 
 -- What was written apart has room there.
-fits : (c : tie.After-write) → c.write.result ≤ length c.write.new.1.1.1.1.1.1.1.1.1.0
+fits : (c : tie.After-write-size) → c.write-size.result ≤ length c.write-size.new.1.1.1.1.1.1.1.1.1.0
 fits c =
     let some = (start c).requires.1 in
-    omega (arith, (c.write.ensures some.block some.writable).0, some.writable.room, c.write.auto.1.1.1.1.1.1.1.1.1.0)
+    omega (arith, (c.write-size.ensures some.block some.writable).0, some.writable.room, c.write-size.auto.1.1.1.1.1.1.1.1.1.0)
 
-module _ (c : tie.After-write) (block : Block) (w : let a = (start c).args in Writable a.edition (held_by a.variables a.polynomials a.root
+module _ (c : tie.After-write-size) (block : Block) (w : let a = (start c).args in Writable a.edition (held_by a.variables a.polynomials a.root
     a.tokens a.coefficient.now a.monomial.now a.terms.now a.token.now) 21516 block) where
-  size_is : c.write.result ≡ length (write_block (edition_of (start c).args.edition) block)
-  size_is = (c.write.ensures block w).0 ∙ sym (length-block (edition_of (start c).args.edition) block)
+  size_is : c.write-size.result ≡ length (write_block (edition_of (start c).args.edition) block)
+  size_is = (c.write-size.ensures block w).0 ∙ sym (length-block (edition_of (start c).args.edition) block)
 
   short : length (write_block (edition_of (start c).args.edition) block) ≤ 21516
   short = omega (arith, w.room, length-block (edition_of (start c).args.edition) block)
 
-lends : tie.Need-slice-aggregate-put-bytes
-lends c = let writing = c.before.before.before.before in sym (length-take-le writing.write.result _ (fits writing))
+lends : tie.Need-slice_bounds-put_bytes-end
+lends c = let writing = c.before.before.before.before in sym (length-take-le writing.write-size.result _ (fits writing))
 
-room : tie.Need-put-bytes-requires
+room : tie.Need-put_bytes-requires
 room c κs =
     let writing = c.before.before.before.before in
-    omega (arith, length-take-le writing.write.result writing.write.new.1.1.1.1.1.1.1.1.1.0 (fits writing), c.before.before.if1.false)
+    omega (arith, length-take-le writing.write-size.result writing.write-size.new.1.1.1.1.1.1.1.1.1.0 (fits writing), c.before.before.if-output-size.false)
 
-returns : tie.Need-returns
+returns : tie.Need-returns-then-output-size
 returns c block w =
     let writing = c.before.before in
     let a = (start writing).args in
-    finishes-not (write_block (edition_of a.edition) block) a.output.now (omega (arith, c.if1.true, size_is writing block w))
+    finishes-not (write_block (edition_of a.edition) block) a.output.now (omega (arith, c.if-output-size.true, size_is writing block w))
 
-returns-2 : tie.Need-returns-2
+returns-2 : tie.Need-returns
 returns-2 c block w =
     let writing = c.before.before.before.before.before.before.before in
     let a = (start writing).args in
     let bytes = write_block (edition_of a.edition) block in
     let enough : length bytes ≤ length a.output.now
-    = omega (arith, c.before.before.before.before.before.if1.false, size_is writing block w) in
-    let wrote = wrote_as c.before.before.put-bytes.ensures
-    (front-again _ bytes (writing.write.ensures block w).1 (size_is writing block w) (short writing block w)) in
+    = omega (arith, c.before.before.before.before.before.if-output-size.false, size_is writing block w) in
+    let wrote = wrote_as c.before.before.put_bytes.ensures
+    (front-again _ bytes (writing.write-size.ensures block w).1 (size_is writing block w) (short writing block w)) in
     finishes enough (size_is writing block w) (front-whole enough wrote)
 
 pub finish_spec : {M : Type 1} → statement M

@@ -5,13 +5,13 @@ use Rattle.rules.specs.Block.{edition_number, edition_of}
 use Rattle.convert.proofs.to_edition2.Statement.{statement}
 use Rattle.convert.proofs.to_edition2.Tie as tie
 
-asks : tie.Need-converted-to-requires
+asks : tie.Need-converted_to-requires
 unfolding edition_number edition_of
 asks c κs = refl
 
 returns : tie.Need-returns
 unfolding edition_of
-returns c = c.before.before.converted-to.ensures
+returns c = c.before.before.converted_to.ensures
 
 pub to_edition2_spec : {M : Type 1} → statement M
 to_edition2_spec = tie.close (tie.spec asks (λ c. search rules) returns)

@@ -5,10 +5,10 @@ use borrow.Author.Rules.{rules}
 use Rattle.convert_vectors.proofs.print_hex.Statement.{statement}
 use Rattle.convert_vectors.proofs.print_hex.Tie as tie
 
-abbrev invariant-loop : tie.invariant-loop
+abbrev invariant-loop : tie.invariant-loop-i
 invariant-loop output size i₀ t5 i = Unit {0}
 
-abbrev decreases-loop : tie.decreases-loop
+abbrev decreases-loop : tie.decreases-loop-i
 decreases-loop output size i₀ t5 i = size - i
 
 pub print_hex_spec : {M : Type 1} → statement M

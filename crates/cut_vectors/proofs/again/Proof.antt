@@ -7,22 +7,22 @@ use lib.ListN.{length}
 use Rattle.cut_vectors.proofs.again.Statement.{statement}
 use Rattle.cut_vectors.proofs.again.Tie as tie
 
-abbrev invariant-loop : tie.invariant-loop
+abbrev invariant-loop : tie.invariant-loop-k
 invariant-loop image₀ torn₀ block old size counted₀ k₀ image torn counted k = (length image ≡ length image₀) × (length torn ≡ length torn₀)
 
-abbrev decreases-loop : tie.decreases-loop
+abbrev decreases-loop : tie.decreases-loop-k
 decreases-loop image₀ torn₀ block old size counted₀ k₀ image torn counted k = size - k
 
-loop-again : tie.Need-loop-preserved invariant-loop decreases-loop
+loop-again : tie.Need-loop-k-preserved invariant-loop decreases-loop
 loop-again c =
-    let held = c.before.before.before.before.before.before.before.before.before.before.loop.invariant in
-    (c.before.before.step.auto.0 ∙ held.0, c.before.before.before.before.before.before.again-in.auto.1.1.0 ∙ held.1)
+    let held = c.before.before.before.before.before.before.before.before.before.before.loop-k.invariant in
+    (c.before.before.step.auto.0 ∙ held.0, c.before.before.before.before.before.before.again_in-counted.auto.1.1.0 ∙ held.1)
 
-same_length : tie.Need-same-length invariant-loop decreases-loop
-same_length c = c.before.before.before.before.before.before.loop.invariant.0
+same_length : tie.Need-shape_of-image invariant-loop decreases-loop
+same_length c = c.before.before.before.before.before.before.loop-k.invariant.0
 
-same-length-2 : tie.Need-same-length-2 invariant-loop decreases-loop
-same-length-2 c = c.before.before.again-in2.auto.1.1.0 ∙ c.before.before.before.before.before.before.loop.invariant.1
+same-length-2 : tie.Need-shape_of-torn invariant-loop decreases-loop
+same-length-2 c = c.before.before.again_in.auto.1.1.0 ∙ c.before.before.before.before.before.before.loop-k.invariant.1
 
 pub again_spec : {M : Type 1} → statement M
 again_spec =

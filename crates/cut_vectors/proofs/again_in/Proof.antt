@@ -7,20 +7,20 @@ use lib.ListN.{length}
 use Rattle.cut_vectors.proofs.again_in.Statement.{statement}
 use Rattle.cut_vectors.proofs.again_in.Tie as tie
 
-abbrev invariant-loop : tie.invariant-loop
+abbrev invariant-loop : tie.invariant-loop-v
 invariant-loop image torn₀ block old k at counted₀ v₀ torn counted v = length torn ≡ length torn₀
 
-abbrev decreases-loop : tie.decreases-loop
+abbrev decreases-loop : tie.decreases-loop-v
 decreases-loop image torn₀ block old k at counted₀ v₀ torn counted v = 256 - v
 
-loop-again : tie.Need-loop-preserved invariant-loop decreases-loop
+loop-again : tie.Need-loop-v-preserved invariant-loop decreases-loop
 loop-again c =
-    c.before.before.cuts.auto.1.0 ∙ c.before.before.before.before.before.before.put.auto.0
+    c.before.before.cuts-counted.auto.1.0 ∙ c.before.before.before.before.before.before.put.auto.0
     ∙ c.before.before.before.before.before.before.before.before.before.before.copy.auto.1.0
-    ∙ c.before.before.before.before.before.before.before.before.before.before.before.before.before.loop.invariant
+    ∙ c.before.before.before.before.before.before.before.before.before.before.before.before.before.loop-v.invariant
 
-same_length : tie.Need-same-length invariant-loop decreases-loop
-same_length c = c.before.loop.invariant
+same_length : tie.Need-shape_of-torn invariant-loop decreases-loop
+same_length c = c.before.loop-v.invariant
 
 pub again_in_spec : {M : Type 1} → statement M
 again_in_spec =

@@ -7,14 +7,14 @@ use lib.ListN.{length}
 use Rattle.cut_vectors.proofs.copy.Statement.{statement}
 use Rattle.cut_vectors.proofs.copy.Tie as tie
 
-abbrev invariant-loop : tie.invariant-loop
+abbrev invariant-loop : tie.invariant-loop-i
 invariant-loop from to₀ i₀ to i = length to ≡ length to₀
 
-abbrev decreases-loop : tie.decreases-loop
+abbrev decreases-loop : tie.decreases-loop-i
 decreases-loop from to₀ i₀ to i = length to - i
 
 pub copy_spec : {M : Type 1} → statement M
 copy_spec =
     tie.close
     (tie.spec invariant-loop decreases-loop (λ c. refl) (λ c κs. search rules) (λ c κs. search rules) (λ c. omega arith) (λ c. omega arith)
-    (λ c. c.before.before.put.auto.0 ∙ c.before.before.before.before.before.before.loop.invariant) (λ c. c.before.loop.invariant) (λ c. tt))
+    (λ c. c.before.before.put.auto.0 ∙ c.before.before.before.before.before.before.loop-i.invariant) (λ c. c.before.loop-i.invariant) (λ c. tt))

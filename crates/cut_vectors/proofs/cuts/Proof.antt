@@ -7,21 +7,21 @@ use lib.ListN.{length}
 use Rattle.cut_vectors.proofs.cuts.Statement.{statement}
 use Rattle.cut_vectors.proofs.cuts.Tie as tie
 
-abbrev invariant-loop : tie.invariant-loop
+abbrev invariant-loop : tie.invariant-loop-k
 invariant-loop image₀ block old steps size counted₀ k₀ image counted k = length image ≡ length image₀
 
-abbrev decreases-loop : tie.decreases-loop
+abbrev decreases-loop : tie.decreases-loop-k
 decreases-loop image₀ block old steps size counted₀ k₀ image counted k = size - k
 
-loop-again : tie.Need-loop-preserved invariant-loop decreases-loop
+loop-again : tie.Need-loop-k-preserved invariant-loop decreases-loop
 loop-again c =
-    c.before.before.step.auto.0 ∙ c.before.before.before.before.before.before.cut-in.auto.1.0
-    ∙ c.before.before.before.before.before.before.before.before.before.loop.invariant
+    c.before.before.step.auto.0 ∙ c.before.before.before.before.before.before.cut_in-counted.auto.1.0
+    ∙ c.before.before.before.before.before.before.before.before.before.loop-k.invariant
 
-same_length : tie.Need-same-length invariant-loop decreases-loop
+same_length : tie.Need-shape_of-image invariant-loop decreases-loop
 same_length c =
-    c.before.before.step2.auto.0 ∙ c.before.before.before.before.before.before.cut-in2.auto.1.0
-    ∙ c.before.before.before.before.before.before.before.before.before.loop.invariant
+    c.before.before.step-2.auto.0 ∙ c.before.before.before.before.before.before.cut_in-counted-2.auto.1.0
+    ∙ c.before.before.before.before.before.before.before.before.before.loop-k.invariant
 
 pub cuts_spec : {M : Type 1} → statement M
 cuts_spec =

@@ -8,28 +8,28 @@ use native.Mathlib.Omega.{arith}
 use Rattle.cut_vectors.proofs.load.Statement.{statement}
 use Rattle.cut_vectors.proofs.load.Tie as tie
 
-area-lent : tie.Need-slice-aggregate-one
+area-lent : tie.Need-slice_bounds-one-end-2
 area-lent c =
-    let read = c.before.before.before.before.before.before.before.before.before.before.next in
+    let read = c.before.before.before.before.before.before.before.before.before.before.next-area in
     sym (length-take-le read.result.length read.new.0 read.ensures.0)
 
-image_lent : tie.Need-slice-aggregate-one-2
+image_lent : tie.Need-slice_bounds-one-end-4
 image_lent c =
-    let n = c.before.before.before.before.before.before.before.before.before.before.before.next.result.length in
+    let n = c.before.before.before.before.before.before.before.before.before.before.before.next-area.result.length in
     let image = c.before.before.before.before.before.before.before.before.before.before.before.before.before.before.before.before.before.args.image.now in
     let room : n ≤ length image = omega arith in
     sym (length-take-le n image room)
 
-torn-lent : tie.Need-slice-aggregate-one-3
+torn-lent : tie.Need-slice_bounds-one-end-6
 torn-lent c =
-    let n = c.before.before.before.before.before.before.before.before.before.before.before.before.next.result.length in
+    let n = c.before.before.before.before.before.before.before.before.before.before.before.before.next-area.result.length in
     let torn = c.before.before.before.before.before.before.before.before.before.before.before.before.before.before.before.before.before.before.args.torn.now in
     let room : n ≤ length torn = omega arith in
     sym (length-take-le n torn room)
 
-block-lent : tie.Need-slice-aggregate-one-4
+block-lent : tie.Need-slice_bounds-one-end-8
 block-lent c =
-    let read = c.before.before.before.before.before.before.before.before.before.next2 in
+    let read = c.before.before.before.before.before.before.before.before.before.next-block in
     sym (length-take-le read.result.length read.new.0 read.ensures.0)
 
 pub load_spec : {M : Type 1} → statement M

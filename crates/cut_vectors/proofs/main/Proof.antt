@@ -4,10 +4,10 @@ use borrow.Author.Rules.{rules}
 use Rattle.cut_vectors.proofs.main.Statement.{statement}
 use Rattle.cut_vectors.proofs.main.Tie as tie
 
-abbrev invariant-loop : tie.invariant-loop
+abbrev invariant-loop : tie.invariant-loop-turns
 invariant-loop space₀ given₀ image₀ torn₀ turns₀ space given image torn turns = Unit {0}
 
-abbrev decreases-loop : tie.decreases-loop
+abbrev decreases-loop : tie.decreases-loop-turns
 decreases-loop space₀ given₀ image₀ torn₀ turns₀ space given image torn turns = turns
 
 pub main_spec : {M : Type 1} → statement M

@@ -6,10 +6,10 @@ use lib.ListN.{length}
 use Rattle.cut_vectors.proofs.same.Statement.{statement}
 use Rattle.cut_vectors.proofs.same.Tie as tie
 
-abbrev invariant-loop : tie.invariant-loop
+abbrev invariant-loop : tie.invariant-loop-i
 invariant-loop image block i₀ i = length block ≤ length image
 
-abbrev decreases-loop : tie.decreases-loop
+abbrev decreases-loop : tie.decreases-loop-i
 decreases-loop image block i₀ i = length block - i
 
 pub same_spec : {M : Type 1} → statement M

@@ -9,7 +9,7 @@ use Rattle.deduce.proofs.deduce.Tie as tie
 pub deduce_spec : {M : Type 1} → statement M
 deduce_spec =
     tie.close
-    (tie.spec (λ c κs. search rules) (λ c. deduce-empty _ _ _ _ (sym c.before.any-empty.ensures ∙ c.if1.true))
+    (tie.spec (λ c κs. search rules) (λ c. deduce-empty _ _ _ _ (sym c.before.any_empty.ensures ∙ c.if-any_empty.true))
     (λ c κs. let h = c.before.before.before.before.requires in (within h.0, within h.1))
     (λ c. let h = c.before.before.before.before.before.requires in
-    c.deduce-from.ensures.on h.0.signed h.1.signed (sym c.before.before.any-empty.ensures ∙ c.before.if1.false)))
+    c.deduce_from.ensures.on h.0.signed h.1.signed (sym c.before.before.any_empty.ensures ∙ c.before.if-any_empty.false)))

@@ -17,9 +17,9 @@ use Rattle.deduce.proofs.LoneTerms.{lone-found}
 use Rattle.deduce.proofs.deduce_from.Statement.{statement}
 use Rattle.deduce.proofs.deduce_from.Tie as tie
 
-returns : tie.Need-returns
+returns : tie.Need-returns-then-k-eq0
 unfolding deduce unless_empty
-returns c = record { on = λ s t h. simp (eq-eqb _ _ c.if1.true) }
+returns c = record { on = λ s t h. simp (eq-eqb _ _ c.if-k-eq0.true) }
 
 -- what is found, where the set is not empty
 deduced : {cs : List ℤ} {ms : List ℕ} {ss : List SignSet} {p q : Run} {set r : SignSet}
@@ -29,7 +29,7 @@ deduced e f = record { on = λ s t h. f.found s t ∙ finding-gathered _ _ ∙ d
 pub deduce_from_spec : {M : Type 1} → statement M
 deduce_from_spec =
     tie.close
-    (tie.spec returns (λ c. record { on = λ s t h. deduce-none _ _ _ _ (inl c.if2.true) h })
-    (λ c. record { on = λ s t h. deduce-none _ _ _ _ (inr c.if3.true) h }) (λ c κs. search rules)
-    (λ c. deduced c.before.before.before.before.if1.false (lone-found (sym c.before.stands-alone.ensures ∙ c.if4.true)))
-    (λ c κs. search rules) (λ c. deduced c.before.before.before.before.before.if1.false c.found.ensures))
+    (tie.spec returns (λ c. record { on = λ s t h. deduce-none _ _ _ _ (inl c.if-k-eq5.true) h })
+    (λ c. record { on = λ s t h. deduce-none _ _ _ _ (inr c.if-k-ge7.true) h }) (λ c κs. search rules)
+    (λ c. deduced c.before.before.before.before.if-k-eq0.false (lone-found (sym c.before.stands_alone.ensures ∙ c.if-stands_alone.true)))
+    (λ c κs. search rules) (λ c. deduced c.before.before.before.before.before.if-k-eq0.false c.found.ensures))

@@ -7,10 +7,10 @@ use lib.ListN.{length}
 use Rattle.deduce_vectors.proofs.board_of.Statement.{statement}
 use Rattle.deduce_vectors.proofs.board_of.Tie as tie
 
-abbrev invariant-loop : tie.invariant-loop
+abbrev invariant-loop : tie.invariant-loop-i
 invariant-loop token n sets₀ i₀ sets i = (n ≤ 16) × (length sets ≡ 16)
 
-abbrev decreases-loop : tie.decreases-loop
+abbrev decreases-loop : tie.decreases-loop-i
 decreases-loop token n sets₀ i₀ sets i = n - i
 
 pub board_of_spec : {M : Type 1} → statement M

@@ -23,7 +23,7 @@ run-held board cs ms before ss from to e h c m s o w = record {
   signed = rw e (signed-within from to (omega arith) w (signed-there board ms before 0 32 h));
 }
 
-sign-terms-requires : tie.Need-sign-terms-requires
+sign-terms-requires : tie.Need-sign_terms-requires
 sign-terms-requires c κs =
     let start = c.before.before.before.before.before.before.before in
     let ms : length start.args.held.monomial ≡ 1024 = search rules in
@@ -32,7 +32,7 @@ sign-terms-requires c κs =
 deduce-requires : tie.Need-deduce-requires
 deduce-requires c κs =
     let start = c.before.before.before.before.before.before.before.before.before.before.before.before.before.before in
-    let worked-out = c.before.before.before.before.before.before.sign-terms in
+    let worked-out = c.before.before.before.before.before.before.sign_terms in
     let cs : length start.args.held.coefficient ≡ 1024 = search rules in
     let ms : length start.args.held.monomial ≡ 1024 = search rules in
     let ss : length worked-out.new.1.1.0 ≡ 1024 = search rules in (

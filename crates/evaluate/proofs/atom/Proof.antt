@@ -12,16 +12,16 @@ use Rattle.evaluate.proofs.atom.Tie as tie
 cast-count : tie.Need-overflow-cast-count
 cast-count c = let s = c.before.before.before in omega (arith, s.requires.0.few (s.args.token / 8))
 
-behind-requires : tie.Need-behind-requires
+behind-requires : tie.Need-behind-to-requires
 behind-requires c κs = let s = c.before.before.before in (omega (arith, s.requires.2), s.requires.0.few (s.args.token / 8))
 
-value-requires : tie.Need-value-requires
+value-requires : tie.Need-value-total-requires
 value-requires c κs =
     let s = c.before.before.before.before in
     let number = s.args.token / 8 in (
       s.requires.1,
-      rw c.behind.ensures (slot-inside _ _ _ (s.requires.0.coefficients number)),
-      rw c.behind.ensures (slot-inside _ _ _ (s.requires.0.monomials number)),
+      rw c.behind-to.ensures (slot-inside _ _ _ (s.requires.0.coefficients number)),
+      rw c.behind-to.ensures (slot-inside _ _ _ (s.requires.0.monomials number)),
     )
 
 returns : tie.Need-returns
@@ -29,10 +29,10 @@ returns c =
     let end = c.before.before in
     let s = end.before.before.before.before in
     record {
-      says = atom-says s.args.readings.now _ _ c.before.value.result
-          (c.before.value.ensures
-          ∙ ap (λ (p : Polynomial). value_from s.args.readings.now p) (in-slot s.args.coefficient.now s.args.monomial.now _ _ end.behind.ensures))
-          c.sign-in.ensures;
+      says = atom-says s.args.readings.now _ _ c.before.value-total.result
+          (c.before.value-total.ensures
+          ∙ ap (λ (p : Polynomial). value_from s.args.readings.now p) (in-slot s.args.coefficient.now s.args.monomial.now _ _ end.behind-to.ensures))
+          c.sign_in.ensures;
     }
 
 pub atom_spec : {M : Type 1} → statement M

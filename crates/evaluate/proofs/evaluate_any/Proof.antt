@@ -7,12 +7,12 @@ use Rattle.evaluate.proofs.evaluate_any.Tie as tie
 run-requires : tie.Need-run-requires
 run-requires c κs =
     let reading = c.before.before.before.before.before.before.before.before in
-    record { bytes = reading.before.before.before.before.before.before.args.input.now; stands = any-stands reading.read-into.ensures }
+    record { bytes = reading.before.before.before.before.before.before.args.input.now; stands = any-stands reading.read_into-contents.ensures }
 
 returns : tie.Need-returns
 returns c =
     let reading = c.before.before.before.before.before.before.before.before.before in
-    c.run.ensures reading.before.before.before.before.before.before.args.input.now (any-stands reading.read-into.ensures)
+    c.run.ensures reading.before.before.before.before.before.before.args.input.now (any-stands reading.read_into-contents.ensures)
 
 pub evaluate_any_spec : {M : Type 1} → statement M
 evaluate_any_spec =

@@ -5,10 +5,10 @@ use lib.ListN.{length}
 use Rattle.evaluate_vectors.proofs.line_length.Statement.{statement}
 use Rattle.evaluate_vectors.proofs.line_length.Tie as tie
 
-abbrev invariant-loop : tie.invariant-loop
+abbrev invariant-loop : tie.invariant-loop-i
 invariant-loop frame i₀ i = Unit {0}
 
-abbrev decreases-loop : tie.decreases-loop
+abbrev decreases-loop : tie.decreases-loop-i
 decreases-loop frame i₀ i = length frame - i
 
 pub line_length_spec : {M : Type 1} → statement M

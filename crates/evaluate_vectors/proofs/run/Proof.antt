@@ -6,9 +6,9 @@ use lib.Seq.{length-take-le}
 use Rattle.evaluate_vectors.proofs.run.Statement.{statement}
 use Rattle.evaluate_vectors.proofs.run.Tie as tie
 
-slice-aggregate-word-taken : tie.Need-slice-aggregate-word-taken
+slice-aggregate-word-taken : tie.Need-slice_bounds-word_taken-end
 slice-aggregate-word-taken c =
-    sym (length-take-le c.before.before.before.line-length.result c.before.before.before.before.before.args.frame.now (omega arith))
+    sym (length-take-le c.before.before.before.line_length-end.result c.before.before.before.before.before.args.frame.now (omega arith))
 
 pub run_spec : {M : Type 1} → statement M
 run_spec =

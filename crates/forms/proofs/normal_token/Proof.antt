@@ -9,9 +9,9 @@ use Rattle.forms.proofs.normal_token.Statement.{statement}
 use Rattle.forms.proofs.normal_token.Tie as tie
 
 -- A number is a byte.
-number_small : (c : tie.After-shared-slice-known4)
+number_small : (c : tie.After-shared_slice_known-4-1)
     → get_or c.before.before.before.before.before.args.number.now (c.before.before.before.before.before.args.token / 8 % 64) 0 < 256
-number_small c = omega (arith, c.shared-slice-known4.given (c.before.before.before.before.before.args.token / 8 % 64))
+number_small c = omega (arith, c.shared_slice_known-4-1.given (c.before.before.before.before.before.args.token / 8 % 64))
 
 returns : tie.Need-returns
 unfolding normal_token
@@ -24,4 +24,4 @@ normal_token_spec =
     tie.close
     (tie.spec (λ c. search rules) (λ c. search rules) (λ c. search rules) (λ c κs. search rules) (λ c. search rules) (λ c. search rules)
     (λ c. omega (arith, number_small c)) (λ c. omega (arith, number_small c)) (λ c. omega (arith, number_small c)) (λ c. search rules)
-    (λ c. omega (arith, number_small c.before, c.struct_known.given)) returns)
+    (λ c. omega (arith, number_small c.before, c.struct_known-1.given)) returns)

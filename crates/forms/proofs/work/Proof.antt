@@ -17,7 +17,7 @@ lent-sized : (s : tie.Start) → let a = s.args in
     Sized (working_by a.normal-coefficient.now a.normal-monomial.now a.normal-terms.now a.number.now a.turned.now)
 lent-sized s = subst Sized (sym s.requires.1) (blank-sized (is_plain s.args.normal-terms.now))
 
-normalize-all-requires : tie.Need-normalize-all-requires
+normalize-all-requires : tie.Need-normalize_all-requires
 normalize-all-requires c κs =
     let start = c.before.before.before.before.before.before.before.before in
     let a = start.args in
@@ -30,14 +30,14 @@ normalize-all-requires c κs =
 mul-copy-monomials : tie.Need-overflow-mul-copy-monomials
 mul-copy-monomials c = omega (arith, c.before.before.before.before.before.before.before.before.before.before.before.before.before.requires.0.polynomials)
 
-copy-monomials-requires : tie.Need-copy-monomials-requires
+copy-monomials-requires : tie.Need-copy_monomials-requires
 copy-monomials-requires c κs =
     let start = c.before.before.before.before.before.before.before.before.before.before.before.before.before in (
       omega (arith, start.requires.0.polynomials, start.requires.0.monomials),
       omega (arith, start.requires.0.polynomials, (lent-sized start).laid.monomials),
     )
 
-copy-counts-requires : tie.Need-copy-counts-requires
+copy-counts-requires : tie.Need-copy_counts-requires
 copy-counts-requires c κs =
     let start = c.before.before.before.before.before.before.before.before.before.before.before.before.before.before.before.before.before in (
       omega (arith, start.requires.0.polynomials, start.requires.0.counts),
@@ -45,19 +45,19 @@ copy-counts-requires c κs =
     )
 
 -- The first three calls, seen from behind them.
-abbrev counting : tie.After-slice-known7 → tie.After-copy-counts
+abbrev counting : tie.After-slice_known-7-1 → tie.After-copy_counts
 counting c = c.before.before
 
-abbrev copying : tie.After-slice-known7 → tie.After-copy-monomials
+abbrev copying : tie.After-slice_known-7-1 → tie.After-copy_monomials
 copying c = c.before.before.before.before.before.before
 
-abbrev normalizing : tie.After-slice-known7 → tie.After-normalize-all
+abbrev normalizing : tie.After-slice_known-7-1 → tie.After-normalize_all
 normalizing c = c.before.before.before.before.before.before.before.before.before.before.before
 
-abbrev first : tie.After-slice-known7 → tie.Start
+abbrev first : tie.After-slice_known-7-1 → tie.Start
 first c = c.before.before.before.before.before.before.before.before.before.before.before.before.before.before.before.before.before.before.before.before
 
-module _ (c : tie.After-slice-known7) where
+module _ (c : tie.After-slice_known-7-1) where
   abbrev given : tie.Start
   given = first c
 
@@ -75,7 +75,7 @@ module _ (c : tie.After-slice-known7) where
   flags : (normalizing c).normalize-all.new.1.1.1.0 ≡ forms.turned
   flags =
       (normalizing c).normalize-all.ensures.1
-      ∙ ap (λ (w : WorkingTable). turned_slots given.args.coefficient.now given.args.terms.now w.turned given.args.polynomials) given.pre.1
+      ∙ ap (λ (w : WorkingTable). turned_slots given.args.coefficient.now given.args.terms.now w.turned-1 given.args.polynomials) given.pre.1
 
   monomials : (copying c).copy-monomials.new.1.0 ≡ forms.monomial
   monomials =
@@ -94,7 +94,7 @@ module _ (c : tie.After-slice-known7) where
   forms-laid : Laid (normalizing c).normalize-all.new.1.1.0 (copying c).copy-monomials.new.1.0 (counting c).copy-counts.new.1.0
   forms-laid = subst₃ Laid (sym coefficients) (sym monomials) (sym counts) forms-sized.laid
 
-number-all-requires : tie.Need-number-all-requires
+number-all-requires : tie.Need-number_all-requires
 number-all-requires c κs =
     let here = c.before.before.before.before in
     let start = first here in
@@ -109,10 +109,10 @@ fill-requires c κs =
       omega (arith, laid.coefficients),
       omega (arith, laid.monomials),
       omega (arith, laid.counts),
-      omega (arith, start.pre.0.polynomials, numbering.number-all.auto.1.1.1.0, (lent-sized start).numbers),
+      omega (arith, start.pre.0.polynomials, numbering.number_all.auto.1.1.1.0, (lent-sized start).numbers),
     )
 
-put-variables-requires : tie.Need-put-variables-requires
+put-variables-requires : tie.Need-put_variables-requires
 put-variables-requires c κs =
     let filling = c.before.before.before.before.before.before.before.before in
     let here = filling.before.before.before.before.before.before.before.before.before.before.before.before in
@@ -123,12 +123,12 @@ put-variables-requires c κs =
       (first here).requires.0.variables,
     )
 
-same_length : tie.Need-same-length
+same_length : tie.Need-shape_of-normal_coefficient
 same_length c =
     let ending = c.before.before.before.before.before in
     let filling = ending.before.before.before.before.before.before.before.before.before in
     let here = filling.before.before.before.before.before.before.before.before.before.before.before.before in
-    ending.put-variables.auto.0 ∙ filling.fill.auto.0 ∙ (normalizing here).normalize-all.auto.1.1.0
+    ending.put_variables.auto.0 ∙ filling.fill.auto.0 ∙ (normalizing here).normalize-all.auto.1.1.0
 
 returns : tie.Need-returns
 returns c =
@@ -140,10 +140,10 @@ returns c =
     let a = start.args in
     subst⁻¹ (Worked (plain here) a.coefficient.now a.monomial.now a.terms.now a.polynomials a.variables)
     (assembled (plain here) a.coefficient.now a.monomial.now a.terms.now a.polynomials a.variables (coefficients here) (flags here) (monomials here) (counts here)
-    (numbering.number-all.ensures
+    (numbering.number_all.ensures
     ∙ ap (λ (w : WorkingTable). numbered_slots (normalizing here).normalize-all.new.1.1.0 (copying here).copy-monomials.new.1.0
-    (counting here).copy-counts.new.1.0 w.number a.polynomials) start.pre.1)
-    filling.fill.ensures ending.put-variables.ensures)
+    (counting here).copy-counts.new.1.0 w.number-1 a.polynomials) start.pre.1)
+    filling.fill.ensures ending.put_variables.ensures)
     (worked (plain here) a.coefficient.now a.monomial.now a.terms.now a.polynomials a.variables start.pre.0)
 
 pub work_spec : {M : Type 1} → statement M

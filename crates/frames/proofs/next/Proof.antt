@@ -8,9 +8,9 @@ use lib.Seq.{length-take-le}
 use Rattle.frames.proofs.next.Statement.{statement}
 use Rattle.frames.proofs.next.Tie as tie
 
-slice-aggregate-read-full-2 : tie.Need-slice-aggregate-read-full-2
+slice-aggregate-read-full-2 : tie.Need-slice_bounds-read_full-end-3
 slice-aggregate-read-full-2 c =
-    sym (length-take-le (c.before.before.before.wide.result * 256 + c.before.before.wide2.result)
+    sym (length-take-le (c.before.before.before.wide.result * 256 + c.before.before.wide-2.result)
     c.before.before.before.before.before.before.before.before.before.before.args.block.now (omega arith))
 
 pub next_spec : {M : Type 1} → statement M

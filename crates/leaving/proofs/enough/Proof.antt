@@ -11,7 +11,7 @@ use Rattle.leaving.proofs.Leaving.{appended}
 use Rattle.leaving.proofs.enough.Statement.{statement}
 use Rattle.leaving.proofs.enough.Tie as tie
 
-append-requires : tie.Need-append-requires
+append-requires : tie.Need-append-others-requires
 append-requires c κs =
     let a = c.before.before.requires.1 in (omega (arith, a.low, a.lists.size), (omega (arith, a.short, a.lists.size), omega (arith, a.few, a.low, a.lists.size, a.kept_lists.size)))
 
@@ -25,7 +25,7 @@ excludes-requires c κs =
       s.requires.0,
       record {
         tokens = a.before ++ drop s.args.from a.tokens;
-        lists = appended a.before a.tokens _ _ a.lists.size (c.before.before.append.ensures.1 a.before a.tokens a.kept_lists a.lists (omega (arith, a.lists.size)));
+        lists = appended a.before a.tokens _ _ a.lists.size (c.before.before.append-others.ensures.1 a.before a.tokens a.kept_lists a.lists (omega (arith, a.lists.size)));
         few = few-there a.before a.tokens _ a.few;
       },
     )
@@ -37,21 +37,21 @@ implies-requires c κs =
       s.requires.0,
       record {
         tokens = a.before ++ drop s.args.from a.tokens;
-        lists = appended a.before a.tokens _ _ a.lists.size (c.before.before.append.ensures.1 a.before a.tokens a.kept_lists a.lists (omega (arith, a.lists.size)));
+        lists = appended a.before a.tokens _ _ a.lists.size (c.before.before.append-others.ensures.1 a.before a.tokens a.kept_lists a.lists (omega (arith, a.lists.size)));
         few = few-there a.before a.tokens _ a.few;
-        afresh = a.proper.afresh c.if1.false;
+        afresh = a.proper.afresh c.if-question.false;
       },
     )
 
-returns : tie.Need-returns
+returns : tie.Need-returns-then-question
 unfolding enough_for enough_if
 returns c k l hk hl =
-    rw c.before.if1.true (c.excludes.ensures _ (appended k l _ _ hl.size (c.before.before.before.append.ensures.1 k l hk hl (omega (arith, hl.size)))))
+    rw c.before.if-question.true (c.excludes.ensures _ (appended k l _ _ hl.size (c.before.before.before.append-others.ensures.1 k l hk hl (omega (arith, hl.size)))))
 
-returns-2 : tie.Need-returns-2
+returns-2 : tie.Need-returns
 unfolding enough_for enough_if
 returns-2 c k l hk hl =
-    rw c.before.if1.false (c.implies.ensures _ (appended k l _ _ hl.size (c.before.before.before.append.ensures.1 k l hk hl (omega (arith, hl.size)))))
+    rw c.before.if-question.false (c.implies.ensures _ (appended k l _ _ hl.size (c.before.before.before.append-others.ensures.1 k l hk hl (omega (arith, hl.size)))))
 
 pub enough_spec : {M : Type 1} → statement M
 enough_spec = tie.close (tie.spec append-requires excludes-requires returns implies-requires returns-2)

@@ -13,13 +13,13 @@ use Rattle.leaving.proofs.excludes.Tie as tie
 abbrev table : tie.Start → Table
 table s = lent_table s.args.coefficient s.args.monomial s.args.terms s.args.variables
 
-atoms-in-requires : tie.Need-atoms-in-requires
+atoms-in-requires : tie.Need-atoms_in-atoms-requires
 atoms-in-requires c κs = let h = c.before.before.before.before.requires.1 in (row-long h.lists, omega (arith, h.lists.size, h.few))
 
 returns : tie.Need-returns
 returns c l h =
     let s = c.before.before.before.before.before.before in
-    excluded (table s) _ c.run.result (c.run.ensures.outcome ∙ ap (run s.args.variables) (c.before.atoms-in.ensures.1 (table s) l h))
+    excluded (table s) _ c.run-ran.result (c.run-ran.ensures.outcome ∙ ap (run s.args.variables) (c.before.atoms_in-atoms.ensures.1 (table s) l h))
 
 pub excludes_spec : {M : Type 1} → statement M
 excludes_spec = tie.close (tie.spec (λ c. search rules) atoms-in-requires (λ c κs. c.before.before.before.before.before.requires.0) returns)

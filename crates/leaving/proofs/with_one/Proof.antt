@@ -5,11 +5,11 @@ use Rattle.leaving.proofs.Leaving.{one-more, no_more}
 use Rattle.leaving.proofs.with_one.Statement.{statement}
 use Rattle.leaving.proofs.with_one.Tie as tie
 
-returns : tie.Need-returns
-returns c k l hk hl = one-more k l _ hl (omega (arith, hl.size, c.before.before.if1.true)) (c.push.ensures.1 k hk)
+returns : tie.Need-returns-then-at-list
+returns c k l hk hl = one-more k l _ hl (omega (arith, hl.size, c.before.before.if-at-list.true)) (c.push.ensures.1 k hk)
 
-returns-2 : tie.Need-returns-2
-returns-2 c k l hk hl = no_more k l c.if1.false hl.size hk
+returns-2 : tie.Need-returns
+returns-2 c k l hk hl = no_more k l c.if-at-list.false hl.size hk
 
 pub with_one_spec : {M : Type 1} → statement M
 with_one_spec = tie.close (tie.spec (λ c. search rules) (λ c. search rules) (λ c κs. search rules) returns returns-2)

@@ -16,27 +16,27 @@ finish-requires c κs =
         table = table_of c.before.before.before.before.before.before.before.before.args.coefficient.now c.before.before.before.before.before.before.before.before.args.monomial.now c.before.before.before.before.before.before.before.before.args.terms.now c.before.before.before.before.before.before.before.before.args.variables;
         list = _;
         walk = still [];
-        lists = c.before.push.ensures.1 [] c.before.before.before.empty.ensures.1;
-        stands = c.begin.ensures.1.1 _;
-        fits = omega (arith, c.before.push.ensures.0, c.before.before.before.empty.ensures.0, c.begin.ensures.1.0);
+        lists = c.before.push-atoms.ensures.1 [] c.before.before.before.empty.ensures.1;
+        stands = c.begin-walked.ensures.1.1 _;
+        fits = omega (arith, c.before.push-atoms.ensures.0, c.before.before.before.empty.ensures.0, c.begin-walked.ensures.1.0);
       },
     )
 
-atom : tie.Need-returns
+atom : tie.Need-returns-then-root-eq0
 atom c tree h =
-    root-atom tree h c.before.before.before.before.before.if1.true (finish-small (omega (arith, c.before.before.push.ensures.0, c.before.before.before.before.empty.ensures.0, c.before.begin.ensures.1.0)) (c.finish.ensures _ (still []) (c.before.before.push.ensures.1 [] c.before.before.before.before.empty.ensures.1) (c.before.begin.ensures.1.1 _)))
+    root-atom tree h c.before.before.before.before.before.if-root-eq0.true (finish-small (omega (arith, c.before.before.push-atoms.ensures.0, c.before.before.before.before.empty.ensures.0, c.before.begin-walked.ensures.1.0)) (c.finish.ensures _ (still []) (c.before.before.push-atoms.ensures.1 [] c.before.before.before.before.empty.ensures.1) (c.before.begin-walked.ensures.1.1 _)))
 
-and-rule-requires : tie.Need-and-rule-requires
-and-rule-requires c κs = let pre = c.before.before.before.before.before.requires in let n = held-and pre.1.0 pre.1.1 c.if2.true in (pre.0, (n.kids, (n.rest, n.holds)))
+and-rule-requires : tie.Need-and_rule-found-requires
+and-rule-requires c κs = let pre = c.before.before.before.before.before.requires in let n = held-and pre.1.0 pre.1.1 c.if-root-eq1.true in (pre.0, (n.kids, (n.rest, n.holds)))
 
-and-root : tie.Need-returns-2
-and-root c tree h = let n = held-and tree h c.before.before.if2.true in root-done n _ (c.before.and-rule.ensures n.kids n.rest n.holds)
+and-root : tie.Need-returns-then-root-eq1
+and-root c tree h = let n = held-and tree h c.before.before.if-root-eq1.true in root-done n _ (c.before.and_rule-found.ensures n.kids n.rest n.holds)
 
-or-rule-requires : tie.Need-or-rule-requires
-or-rule-requires c κs = let pre = c.before.before.before.before.before.requires in let n = held-or pre.1.0 pre.1.1 c.before.if1.false c.if2.false in (pre.0, (n.kids, (n.rest, n.holds)))
+or-rule-requires : tie.Need-or_rule-found-requires
+or-rule-requires c κs = let pre = c.before.before.before.before.before.requires in let n = held-or pre.1.0 pre.1.1 c.before.if-root-eq0.false c.if-root-eq1.false in (pre.0, (n.kids, (n.rest, n.holds)))
 
-or-root : tie.Need-returns-3
-or-root c tree h = let n = held-or tree h c.before.before.before.if1.false c.before.before.if2.false in root-done n _ (c.before.or-rule.ensures n.kids n.rest n.holds)
+or-root : tie.Need-returns
+or-root c tree h = let n = held-or tree h c.before.before.before.if-root-eq0.false c.before.before.if-root-eq1.false in root-done n _ (c.before.or_rule-found.ensures n.kids n.rest n.holds)
 
 pub root_level_spec : {M : Type 1} → statement M
 root_level_spec =

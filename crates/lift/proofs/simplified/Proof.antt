@@ -9,15 +9,15 @@ use Rattle.lift.specs.Part.{part_length, part-first, empty-exactly-on-refusal}
 use Rattle.lift.proofs.simplified.Statement.{statement}
 use Rattle.lift.proofs.simplified.Tie as tie
 
-slice-aggregate-result : tie.Need-slice-aggregate-result
+slice-aggregate-result : tie.Need-slice_bounds-result-end
 slice-aggregate-result c =
-    let filled = c.before.length-in in
+    let filled = c.before.length_in-filled in
     let answers = c.before.before.before.before.simplify.ensures.0 in
     filled.ensures ∙ part_length answers ∙ sym (ap length (part-first answers filled.result filled.ensures))
 
 returns : tie.Need-returns
 returns c =
-    let filled = c.before.length-in in
+    let filled = c.before.length_in-filled in
     let simplifying = c.before.before.before.before in
     let a = simplifying.before.before.before.before.args in
     let first = part-first simplifying.simplify.ensures.0 filled.result filled.ensures in

@@ -7,19 +7,19 @@ use Rattle.lift.specs.Entry.{answers-short}
 use Rattle.lift.proofs.simplify_by.Statement.{statement}
 use Rattle.lift.proofs.simplify_by.Tie as tie
 
-returns : tie.Need-returns
+returns : tie.Need-returns-then-output-input
 returns c =
     let a = c.before.before.before.args in (
-      answers-short a.input.now a.output.now (omega (arith, c.if1.true)),
+      answers-short a.input.now a.output.now (omega (arith, c.if-output-input.true)),
       same-lifts (length a.output.now) a.input.now,
       never-longer-answer (length a.output.now) a.input.now,
     )
 
-returns-2 : tie.Need-returns-2
+returns-2 : tie.Need-returns
 returns-2 c =
     let answering = c.before.before.before in
     let a = answering.before.before.before.before.before.before.args in (
-      answering.answered.ensures.0,
+      answering.answered-known.ensures.0,
       same-lifts (length a.output.now) a.input.now,
       never-longer-answer (length a.output.now) a.input.now,
     )

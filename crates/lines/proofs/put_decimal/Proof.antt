@@ -10,57 +10,57 @@ use Rattle.lines.proofs.put_decimal.Tie as tie
 
 -- ---- one digit
 
-room-one : tie.Need-put-digit-requires
-room-one c κs = omega (arith, ap length (one-digit c.before.before.before.args.n c.before.if1.true))
+room-one : tie.Need-put_digit-requires
+room-one c κs = omega (arith, ap length (one-digit c.before.before.before.args.n c.before.if-n-lt10.true))
 
-returns_one : tie.Need-returns
+returns_one : tie.Need-returns-then-n-lt10
 returns_one c =
     let tested = c.before.before.before.before in
-    wrote_as c.before.before.put-digit.ensures (one-digit tested.before.before.args.n tested.if1.true)
+    wrote_as c.before.before.put_digit.ensures (one-digit tested.before.before.args.n tested.if-n-lt10.true)
 
 -- ---- two digits
 
-room-two : tie.Need-put-digit-requires-2
+room-two : tie.Need-put_digit-ones-requires
 room-two c κs =
     let tested = c.before in
-    omega (arith, ap length (two_digits tested.before.before.before.args.n tested.before.if1.false tested.if2.true))
+    omega (arith, ap length (two_digits tested.before.before.before.args.n tested.before.if-n-lt10.false tested.if-n-lt100.true))
 
-room-two-2 : tie.Need-put-digit-requires-3
+room-two-2 : tie.Need-put_digit-requires-then-n-lt100
 room-two-2 c κs =
     let tested = c.before.before.before.before.before in
-    omega (arith, ap length (two_digits tested.before.before.before.args.n tested.before.if1.false tested.if2.true))
+    omega (arith, ap length (two_digits tested.before.before.before.args.n tested.before.if-n-lt10.false tested.if-n-lt100.true))
 
-returns-two : tie.Need-returns-2
+returns-two : tie.Need-returns-then-n-lt100
 returns-two c =
     let second = c.before.before in
     let first = second.before.before.before.before in
     let tested = first.before.before in
-    wrote_as (wrote-both first.put-digit2.ensures second.put-digit3.ensures)
-    (two_digits tested.before.before.before.args.n tested.before.if1.false tested.if2.true)
+    wrote_as (wrote-both first.put_digit-ones.ensures second.put_digit-then-n-lt100.ensures)
+    (two_digits tested.before.before.before.args.n tested.before.if-n-lt10.false tested.if-n-lt100.true)
 
 -- ---- three digits
 
-room-three : tie.Need-put-digit-requires-4
-room-three c κs = omega (arith, ap length (three-digits c.before.before.before.before.args.n c.before.if2.false))
+room-three : tie.Need-put_digit-tens-requires
+room-three c κs = omega (arith, ap length (three-digits c.before.before.before.before.args.n c.before.if-n-lt100.false))
 
-room-three-2 : tie.Need-put-digit-requires-5
+room-three-2 : tie.Need-put_digit-ones-requires-2
 room-three-2 c κs =
     let tested = c.before.before.before.before.before in
-    omega (arith, ap length (three-digits tested.before.before.before.args.n tested.if2.false))
+    omega (arith, ap length (three-digits tested.before.before.before.args.n tested.if-n-lt100.false))
 
-room-three-3 : tie.Need-put-digit-requires-6
+room-three-3 : tie.Need-put_digit-requires-2
 room-three-3 c κs =
     let tested = c.before.before.before.before.before.before.before.before.before in
-    omega (arith, ap length (three-digits tested.before.before.before.args.n tested.if2.false))
+    omega (arith, ap length (three-digits tested.before.before.before.args.n tested.if-n-lt100.false))
 
-returns-three : tie.Need-returns-3
+returns-three : tie.Need-returns
 returns-three c =
     let third = c.before.before in
     let second = third.before.before.before.before in
     let first = second.before.before.before.before in
     let tested = first.before.before in
-    wrote_as (wrote-both first.put-digit4.ensures (wrote-both second.put-digit5.ensures third.put-digit6.ensures))
-    (three-digits tested.before.before.before.args.n tested.if2.false)
+    wrote_as (wrote-both first.put_digit-tens.ensures (wrote-both second.put_digit-ones-2.ensures third.put_digit-2.ensures))
+    (three-digits tested.before.before.before.args.n tested.if-n-lt100.false)
 
 pub put_decimal_spec : {M : Type 1} → statement M
 put_decimal_spec =

@@ -9,23 +9,23 @@ use Rattle.lines.proofs.Runs.{hex-none, hex-whole}
 use Rattle.lines.proofs.put_hex.Statement.{statement}
 use Rattle.lines.proofs.put_hex.Tie as tie
 
-returns : tie.Need-returns
-returns c = wrote_as wrote_nothing (sym (hex-none c.before.before.before.args.block.now c.if1.true))
+returns : tie.Need-returns-then-block-eq0
+returns c = wrote_as wrote_nothing (sym (hex-none c.before.before.before.args.block.now c.if-block-eq0.true))
 
-room-pair : tie.Need-put-pair-requires
+room-pair : tie.Need-put_pair-rest-requires
 room-pair c κs = omega (arith, hex-long c.before.before.before.before.before.args.block.now)
 
-room-rest : tie.Need-put-rest-requires
+room-rest : tie.Need-put_rest-requires
 room-rest c κs =
     let tested = c.before.before.before.before.before.before.before in
-    omega (arith, simp length-append at (ap length (hex-whole tested.before.before.before.args.block.now tested.if1.false)))
+    omega (arith, simp length-append at (ap length (hex-whole tested.before.before.before.args.block.now tested.if-block-eq0.false)))
 
-returns-2 : tie.Need-returns-2
+returns-2 : tie.Need-returns
 returns-2 c =
     let pair = c.before.before.before.before.before.before.before in
     let tested = pair.before.before.before in
-    wrote_as (wrote-both pair.put-pair.ensures c.before.before.put_rest.ensures)
-    (hex-whole tested.before.before.before.args.block.now tested.if1.false)
+    wrote_as (wrote-both pair.put_pair-rest.ensures c.before.before.put_rest.ensures)
+    (hex-whole tested.before.before.before.args.block.now tested.if-block-eq0.false)
 
 pub put_hex_spec : {M : Type 1} → statement M
 put_hex_spec =

@@ -8,4 +8,4 @@ pub put_number_spec : {M : Type 1} → statement M
 put_number_spec =
     tie.close
     (tie.spec (λ c κs. search rules) (λ c κs. search rules) (λ c. search rules)
-    (λ c. wrote-both c.before.before.before.before.before.before.put_byte.ensures c.before.before.put-decimal.ensures))
+    (λ c. wrote-both c.before.before.before.before.before.before.put_byte-digits.ensures c.before.before.put_decimal.ensures))

@@ -7,18 +7,18 @@ use Rattle.block.specs.Steps.{ContentsOf}
 use Rattle.loading.proofs.accepted.Statement.{statement}
 use Rattle.loading.proofs.accepted.Tie as tie
 
-read-into-requires : tie.Need-read-into-requires
+read-into-requires : tie.Need-read_into-contents-requires
 read-into-requires c κs = record { coefficients = omega arith; monomials = omega arith; counts = omega arith; tokens = omega arith }
 
-returns : tie.Need-returns
+returns : tie.Need-returns-in-Refused
 returns c =
     let reading = c.before.before.before.before.before.before.before in
-    found-refused reading.read-into.ensures c.before.contents.given.1
+    found-refused reading.read_into-contents.ensures c.before.contents-1.given.1
 
-returns-2 : tie.Need-returns-2
+returns-2 : tie.Need-returns-in-Numbers
 returns-2 c =
     let reading = c.before.before.before.before.before.before in
-    found-accepted reading.read-into.ensures c.enum_told.given.1
+    found-accepted reading.read_into-contents.ensures c.enum_told-1.given.1
 
 pub accepted_spec : {M : Type 1} → statement M
 accepted_spec =

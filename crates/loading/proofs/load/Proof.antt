@@ -9,42 +9,42 @@ use Rattle.loading.specs.Writing.{refused-load, short-load, head-found, whole-lo
 use Rattle.loading.proofs.load.Statement.{statement}
 use Rattle.loading.proofs.load.Tie as tie
 
-returns : tie.Need-returns
+returns : tie.Need-returns-then-area-size
 returns c =
     let chosen = c.before.before in
     let reading = chosen.before.before in
     let a = reading.before.before.before.args in
-    short-load a.block.now a.area.now _ (sym chosen.answer2.given.1 ∙ reading.accepted.ensures) (omega (arith, c.if1.true))
+    short-load a.block.now a.area.now _ (sym chosen.answer-in-Starts-1.given.1 ∙ reading.accepted-answer.ensures) (omega (arith, c.if-area-size.true))
 
-write-all-requires : tie.Need-write-all-requires
+write-all-requires : tie.Need-write_all-requires
 write-all-requires c κs =
     let chosen = c.before.before.before in
     let reading = chosen.before.before in
     let a = reading.before.before.before.args in
-    head-found a.block.now a.area.now _ (sym chosen.answer2.given.1 ∙ reading.accepted.ensures)
+    head-found a.block.now a.area.now _ (sym chosen.answer-in-Starts-1.given.1 ∙ reading.accepted-answer.ensures)
 
-returns-2 : tie.Need-returns-2
+returns-2 : tie.Need-returns-in-Refused
 returns-2 c =
     let reading = c.before.before.before in
     let a = reading.before.before.before.args in
-    refused-load a.block.now a.area.now _ (sym c.before.answer.given.1 ∙ reading.accepted.ensures)
+    refused-load a.block.now a.area.now _ (sym c.before.answer-1.given.1 ∙ reading.accepted-answer.ensures)
 
-same_length : tie.Need-same-length
+same_length : tie.Need-shape_of-area
 same_length c =
     let writing = c.before.before in
     let a = writing.before.before.before.before.before.before.before.before.before.args in
-    ap length writing.write-all.ensures ∙ length-image a.block.now a.area.now (length a.block.now + 1)
+    ap length writing.write_all.ensures ∙ length-image a.block.now a.area.now (length a.block.now + 1)
 
-returns-3 : tie.Need-returns-3
+returns-3 : tie.Need-returns-else-area-size
 returns-3 c =
     let writing = c.before.before in
     let tested = writing.before.before in
     let chosen = tested.before.before in
     let reading = chosen.before.before in
     let a = reading.before.before.before.args in
-    let whole = whole-load a.block.now a.area.now _ (sym chosen.answer2.given.1
-    ∙ reading.accepted.ensures) (omega (arith, tested.if1.false)) in
-    (whole.0, writing.write-all.ensures ∙ whole.1)
+    let whole = whole-load a.block.now a.area.now _ (sym chosen.answer-in-Starts-1.given.1
+    ∙ reading.accepted-answer.ensures) (omega (arith, tested.if-area-size.false)) in
+    (whole.0, writing.write_all.ensures ∙ whole.1)
 
 pub load_spec : {M : Type 1} → statement M
 load_spec =

@@ -7,15 +7,15 @@ use Rattle.loading.specs.Started.{found, start-found}
 use Rattle.loading.proofs.start.Statement.{statement}
 use Rattle.loading.proofs.start.Tie as tie
 
-slice-aggregate-accepted : tie.Need-slice-aggregate-accepted
+slice-aggregate-accepted : tie.Need-slice_bounds-accepted-end
 slice-aggregate-accepted c =
-    let size = c.before.lent_length in
+    let size = c.before.lent_length-size in
     let a = c.before.before.before.args in
     sym (length-take-le size.result a.area.now size.ensures.within)
 
 returns : tie.Need-returns
 returns c =
-    let size = c.before.before.lent_length in
+    let size = c.before.before.lent_length-size in
     let a = c.before.before.before.before.args in
     c.accepted.ensures ∙ ap found (start-found a.area.now size.result size.ensures)
 

@@ -12,9 +12,9 @@ use Rattle.loading.specs.Started.{found, length_in, part-within, part-first, emp
 use Rattle.loading.proofs.started.Statement.{statement}
 use Rattle.loading.proofs.started.Tie as tie
 
-slice-aggregate-result : tie.Need-slice-aggregate-result
+slice-aggregate-result : tie.Need-slice_bounds-result-end
 slice-aggregate-result c =
-    let filled = c.before.length-in in
+    let filled = c.before.length_in-size in
     let starting = c.before.before in
     let a = starting.before.before.args in
     let is = filled.ensures ∙ ap length_in starting.start.ensures in
@@ -22,7 +22,7 @@ slice-aggregate-result c =
 
 returns : tie.Need-returns
 returns c =
-    let filled = c.before.length-in in
+    let filled = c.before.length_in-size in
     let starting = c.before.before in
     let a = starting.before.before.args in
     let is = filled.ensures ∙ ap length_in starting.start.ensures in

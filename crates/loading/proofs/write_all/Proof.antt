@@ -10,51 +10,51 @@ use Rattle.loading.specs.Writing.{image-all, image-next, length-step, first-with
 use Rattle.loading.proofs.write_all.Statement.{statement}
 use Rattle.loading.proofs.write_all.Tie as tie
 
-abbrev invariant-loop : tie.invariant-loop
+abbrev invariant-loop : tie.invariant-loop-k
 invariant-loop area₀ block size k₀ area k = (area ≡ image_after block area₀ k) × (k ≤ size)
 
-abbrev decreases-loop : tie.decreases-loop
+abbrev decreases-loop : tie.decreases-loop-k
 decreases-loop area₀ block size k₀ area k = size - k
 
-loop-holds : tie.Need-loop-init invariant-loop decreases-loop
+loop-holds : tie.Need-loop-k-init invariant-loop decreases-loop
 loop-holds c =
     let a = c.before.before.before.before.args in
-    let first = c.first-write in (
+    let first = c.first_write-k in (
       sym (before-first a.block.now a.area.now) ∙ ap (image_after a.block.now a.area.now) (sym first.ensures),
       first-within a.area.now first.result (length a.block.now) first.ensures c.before.before.before.before.requires,
     )
 
 add-k : tie.Need-overflow-add-k invariant-loop decreases-loop
-add-k c = let k = c.before.before.before.before in omega (arith, k.loop-test.true)
+add-k c = let k = c.before.before.before.before in omega (arith, k.loop-k-test.true)
 
-loop-less : tie.Need-loop-smaller invariant-loop decreases-loop
-loop-less c = omega (arith, c.before.before.before.before.loop-test)
+loop-less : tie.Need-loop-k-smaller invariant-loop decreases-loop
+loop-less c = omega (arith, c.before.before.before.before.loop-k-test)
 
-loop-again : tie.Need-loop-preserved invariant-loop decreases-loop
+loop-again : tie.Need-loop-k-preserved invariant-loop decreases-loop
 loop-again c =
     let walking = c.before.before in
     let looping = walking.before.before.before in
     let a = looping.before.before.before.before.before.args in (
-      walking.step.ensures ∙ image-next a.block.now a.area.now looping.loop.area looping.loop.k looping.loop.invariant.0,
-      omega (arith, walking.before.before.loop-test),
+      walking.step.ensures ∙ image-next a.block.now a.area.now looping.loop-k.area looping.loop-k.k looping.loop-k.invariant.0,
+      omega (arith, walking.before.before.loop-k-test),
     )
 
-same_length : tie.Need-same-length invariant-loop decreases-loop
+same_length : tie.Need-shape_of-area invariant-loop decreases-loop
 same_length c =
     let walking = c.before.before in
     let looping = walking.before.before.before in
     let a = looping.before.before.before.before.before.args in
-    ap length walking.step2.ensures ∙ length-step a.block.now looping.loop.area (length a.block.now)
-    ∙ ap length looping.loop.invariant.0 ∙ length-image a.block.now a.area.now looping.loop.k
+    ap length walking.step-2.ensures ∙ length-step a.block.now looping.loop-k.area (length a.block.now)
+    ∙ ap length looping.loop-k.invariant.0 ∙ length-image a.block.now a.area.now looping.loop-k.k
 
 returns : tie.Need-returns invariant-loop decreases-loop
 returns c =
     let walking = c.before.before in
     let looping = walking.before.before.before in
     let a = looping.before.before.before.before.before.args in
-    walking.step2.ensures ∙ image-next a.block.now a.area.now looping.loop.area (length a.block.now)
-    (image-all a.block.now a.area.now looping.loop.area looping.loop.k looping.loop.invariant.0
-    (omega (arith, looping.loop.invariant.1, walking.before.before.loop-test)))
+    walking.step-2.ensures ∙ image-next a.block.now a.area.now looping.loop-k.area (length a.block.now)
+    (image-all a.block.now a.area.now looping.loop-k.area looping.loop-k.k looping.loop-k.invariant.0
+    (omega (arith, looping.loop-k.invariant.1, walking.before.before.loop-k-test)))
 
 pub write_all_spec : {M : Type 1} → statement M
 write_all_spec =

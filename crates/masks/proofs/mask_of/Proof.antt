@@ -9,15 +9,15 @@ use Rattle.masks.proofs.Walks.{Walked, walk, walked_all}
 use Rattle.masks.proofs.mask_of.Statement.{statement}
 use Rattle.masks.proofs.mask_of.Tie as tie
 
-abbrev invariant-loop : tie.invariant-loop
+abbrev invariant-loop : tie.invariant-loop-i
 invariant-loop coefficient monomial sign to sofar₀ i₀ sofar i = Walked coefficient monomial sign i₀ to sofar i
 
-abbrev decreases-loop : tie.decreases-loop
+abbrev decreases-loop : tie.decreases-loop-i
 decreases-loop coefficient monomial sign to sofar₀ i₀ sofar i = to - i
 
-loop-again : tie.Need-loop-preserved invariant-loop decreases-loop
-loop-again c = walk c.before.before.before.before.before.before.loop.invariant (omega arith)
-    (rw (to_z-of_z w32 _ (record { sfits = c.before.before.before.before.c.given })) at c.before.mask-of-term.ensures) c.joined.ensures
+loop-again : tie.Need-loop-i-preserved invariant-loop decreases-loop
+loop-again c = walk c.before.before.before.before.before.before.loop-i.invariant (omega arith)
+    (rw (to_z-of_z w32 _ (record { sfits = c.before.before.before.before.c-1.given })) at c.before.mask_of_term.ensures) c.joined-sofar.ensures
 
 pub mask_of_spec : {M : Type 1} → statement M
 mask_of_spec =
@@ -26,4 +26,4 @@ mask_of_spec =
     (λ c. omega arith)
     (λ c. omega arith) (λ c. omega arith) (λ c. omega arith) (λ c. omega arith) (λ c κs. search rules) (λ c κs. search rules)
     (λ c. omega arith) loop-again
-    (λ c. walked_all c.before.loop.invariant (omega arith)))
+    (λ c. walked_all c.before.loop-i.invariant (omega arith)))

@@ -32,32 +32,32 @@ sofar-filled {l} {behind} {i} s e = record {
   last = s.last;
 }
 
-abbrev invariant-loop : tie.invariant-loop
+abbrev invariant-loop : tie.invariant-loop-i
 invariant-loop list end behind₀ i₀ behind i = (i ≤ end) × ((l : List ℕ) → Lists list l → Sofar l behind i)
 
-abbrev decreases-loop : tie.decreases-loop
+abbrev decreases-loop : tie.decreases-loop-i
 decreases-loop list end behind₀ i₀ behind i = end - i
 
-is-empty : tie.Need-loop-preserved invariant-loop decreases-loop
+is-empty : tie.Need-loop-i-preserved-then-set invariant-loop decreases-loop
 is-empty c =
-    let loop = c.before.before.before.before.before.before.loop in
-    let test = c.before.before.before.before.before.loop-test.true in (
+    let loop = c.before.before.before.before.before.before.loop-i in
+    let test = c.before.before.before.before.before.loop-i-test.true in (
       omega arith,
-      λ l h. sofar-empty (loop.invariant.1 l h) (ap (λ (x : ℕ). x % 8) (sym (held_at h loop.i (omega (arith, h.size, test)))) ∙ sym c.before.before.before.set-of.ensures ∙ c.if1.true),
+      λ l h. sofar-empty (loop.invariant.1 l h) (ap (λ (x : ℕ). x % 8) (sym (held_at h loop.i (omega (arith, h.size, test)))) ∙ sym c.before.before.before.set_of-set.ensures ∙ c.if-set.true),
     )
 
-is-filled : tie.Need-loop-preserved-2 invariant-loop decreases-loop
+is-filled : tie.Need-loop-i-preserved invariant-loop decreases-loop
 is-filled c =
-    let loop = c.before.before.before.before.before.before.loop in
-    let test = c.before.before.before.before.before.loop-test.true in (
+    let loop = c.before.before.before.before.before.before.loop-i in
+    let test = c.before.before.before.before.before.loop-i-test.true in (
       omega arith,
       λ l h. sofar-filled (loop.invariant.1 l h)
-          (λ e. c.if1.false (c.before.before.before.set-of.ensures ∙ ap (λ (x : ℕ). x % 8) (held_at h loop.i (omega (arith, h.size, test))) ∙ e)),
+          (λ e. c.if-set.false (c.before.before.before.set_of-set.ensures ∙ ap (λ (x : ℕ). x % 8) (held_at h loop.i (omega (arith, h.size, test))) ∙ e)),
     )
 
 returns : tie.Need-returns invariant-loop decreases-loop
 returns c l h =
-    let loop = c.before.loop in
+    let loop = c.before.loop-i in
     let s = loop.invariant.1 l h in
     record { most = omega (arith, s.most, h.size); filled = λ j k m. s.filled j k (omega (arith, h.size)); last = s.last }
 

@@ -5,20 +5,20 @@ use Rattle.merging.proofs.Joining.{join-open, join-true, join-false}
 use Rattle.merging.proofs.join.Statement.{statement}
 use Rattle.merging.proofs.join.Tie as tie
 
-is-open : tie.Need-returns
+is-open : tie.Need-returns-in-Open
 is-open c = (
   c.merge_into.ensures.0,
-  λ l h. join-open _ c.before.before.before.if-constant.ensures c.before.enum_told.given.1
+  λ l h. join-open _ c.before.before.before.if_constant-constant.ensures c.before.enum_told-1.given.1
       (c.merge_into.ensures.1 _ l c.before.before.before.before.before.before.requires.0 h),
 )
 
-is_true : tie.Need-returns-2
-is_true c = (omega arith, λ l h. join-true _ c.before.before.if-constant.ensures c.enum-told2.given.1 h)
+is_true : tie.Need-returns-in-True
+is_true c = (omega arith, λ l h. join-true _ c.before.before.if_constant-constant.ensures c.enum_told-in-True-1.given.1 h)
 
-is_false : tie.Need-returns-3
+is_false : tie.Need-returns-in-False
 is_false c = (
   omega (arith, c.push.ensures.0),
-  λ l h. join-false _ c.before.before.before.before.if-constant.ensures c.before.before.enum-told3.given.1 _ c.before.with-set.ensures (c.push.ensures.1 l h),
+  λ l h. join-false _ c.before.before.before.before.if_constant-constant.ensures c.before.before.enum_told-in-False-1.given.1 _ c.before.with_set.ensures (c.push.ensures.1 l h),
 )
 
 pub join_spec : {M : Type 1} → statement M

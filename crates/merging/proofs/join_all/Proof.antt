@@ -11,27 +11,27 @@ use Rattle.merging.proofs.Joining.{Joining, joining-start, joining-next, joining
 use Rattle.merging.proofs.join_all.Statement.{statement}
 use Rattle.merging.proofs.join_all.Tie as tie
 
-abbrev invariant-loop : tie.invariant-loop
+abbrev invariant-loop : tie.invariant-loop-i
 invariant-loop coefficient monomial terms variables given end list₀ i₀ list i =
     (i ≤ end) × ((list.count ≤ i) × ((l : List ℕ) → Lists given l → Joining (table_of coefficient monomial terms variables) l list (drop i l)))
 
-abbrev decreases-loop : tie.decreases-loop
+abbrev decreases-loop : tie.decreases-loop-i
 decreases-loop coefficient monomial terms variables given end list₀ i₀ list i = end - i
 
-again : tie.Need-loop-preserved invariant-loop decreases-loop
+again : tie.Need-loop-i-preserved invariant-loop decreases-loop
 again c =
-    let loop = c.before.before.before.loop in
-    let test = c.before.before.loop-test.true in (
+    let loop = c.before.before.before.loop-i in
+    let test = c.before.before.loop-i-test.true in (
       omega arith,
       (
-        omega (arith, c.join.ensures.0, loop.invariant.1.0),
-        λ l h. let j = rw (rest-next {i = loop.i} h (omega (arith, h.size, test))) at (loop.invariant.1.1 l h) in joining-next j (c.join.ensures.1 j.list j.lists),
+        omega (arith, c.join-list.ensures.0, loop.invariant.1.0),
+        λ l h. let j = rw (rest-next {i = loop.i} h (omega (arith, h.size, test))) at (loop.invariant.1.1 l h) in joining-next j (c.join-list.ensures.1 j.list j.lists),
       ),
     )
 
 pub join_all_spec : {M : Type 1} → statement M
 join_all_spec =
     tie.close
-    (tie.spec invariant-loop decreases-loop (λ c κs. tt) (λ c. (omega arith, (omega (arith, c.empty.ensures.0), λ l h. joining-start _ l _ c.empty.ensures.1)))
-    (λ c. omega arith) (λ c. omega arith) (λ c. omega arith) (λ c κs. (c.before.before.before.before.before.before.requires.0, omega (arith, c.before.before.loop.invariant.1.0))) (λ c. omega arith) again
-    (λ c. (omega (arith, c.before.loop.invariant.0, c.before.loop.invariant.1.0), λ l h. joining-end (rw (rest-none l c.before.loop.i (omega (arith, h.size, c.loop-test.false))) at (c.before.loop.invariant.1.1 l h)))))
+    (tie.spec invariant-loop decreases-loop (λ c κs. tt) (λ c. (omega arith, (omega (arith, c.empty-list.ensures.0), λ l h. joining-start _ l _ c.empty-list.ensures.1)))
+    (λ c. omega arith) (λ c. omega arith) (λ c. omega arith) (λ c κs. (c.before.before.before.before.before.before.requires.0, omega (arith, c.before.before.loop-i.invariant.1.0))) (λ c. omega arith) again
+    (λ c. (omega (arith, c.before.loop-i.invariant.0, c.before.loop-i.invariant.1.0), λ l h. joining-end (rw (rest-none l c.before.loop-i.i (omega (arith, h.size, c.loop-i-test.false))) at (c.before.loop-i.invariant.1.1 l h)))))

@@ -9,36 +9,36 @@ use Rattle.merging.proofs.Joining.{Passing, into-start, into-turn, into-found, i
 use Rattle.merging.proofs.merge_into.Statement.{statement}
 use Rattle.merging.proofs.merge_into.Tie as tie
 
-abbrev invariant-loop : tie.invariant-loop
+abbrev invariant-loop : tie.invariant-loop-i
 invariant-loop token list number end i₀ i = (i ≤ end) × ((t : Table) (l : List ℕ) → Forms t → Lists list l → Passing t token l i)
 
-abbrev decreases-loop : tie.decreases-loop
+abbrev decreases-loop : tie.decreases-loop-i
 decreases-loop token list number end i₀ i = end - i
 
-found : tie.Need-returns invariant-loop decreases-loop
+found : tie.Need-returns-then-slot_of-number invariant-loop decreases-loop
 found c = (
   omega arith,
   λ t l forms h.
-      let loop = c.before.before.before.before.before.before.before.before.loop in
-      into-found forms h (loop.invariant.1 t l forms h) (omega (arith, h.size, c.before.before.before.before.before.before.before.loop-test.true)) _ _ _
-      (sym c.before.before.before.before.before.slot-of2.ensures ∙ c.before.before.before.before.if1.true ∙ c.before.before.before.before.before.before.before.before.before.slot_of.ensures)
-      (rw (c.before.before.before.set-of.ensures, c.before.before.set-of2.ensures) at c.before.intersect.ensures) c.with-set.ensures refl refl,
+      let loop = c.before.before.before.before.before.before.before.before.loop-i in
+      into-found forms h (loop.invariant.1 t l forms h) (omega (arith, h.size, c.before.before.before.before.before.before.before.loop-i-test.true)) _ _ _
+      (sym c.before.before.before.before.before.slot_of.ensures ∙ c.before.before.before.before.if-slot_of-number.true ∙ c.before.before.before.before.before.before.before.before.before.slot_of-number.ensures)
+      (rw (c.before.before.before.set_of.ensures, c.before.before.set_of-then-slot_of-number.ensures) at c.before.intersect-set.ensures) c.with_set.ensures refl refl,
 )
 
-again : tie.Need-loop-preserved invariant-loop decreases-loop
+again : tie.Need-loop-i-preserved invariant-loop decreases-loop
 again c =
-    let loop = c.before.before.before.before.loop in (
-      omega (arith, c.before.before.before.loop-test.true),
+    let loop = c.before.before.before.before.loop-i in (
+      omega (arith, c.before.before.before.loop-i-test.true),
       λ t l forms h.
-          into-turn forms h (loop.invariant.1 t l forms h) (omega (arith, h.size, c.before.before.before.loop-test.true))
-          (λ e. c.if1.false (c.before.slot-of2.ensures ∙ e ∙ sym c.before.before.before.before.before.slot_of.ensures)),
+          into-turn forms h (loop.invariant.1 t l forms h) (omega (arith, h.size, c.before.before.before.loop-i-test.true))
+          (λ e. c.if-slot_of-number.false (c.before.slot_of.ensures ∙ e ∙ sym c.before.before.before.before.before.slot_of-number.ensures)),
     )
 
-pushed : tie.Need-returns-2 invariant-loop decreases-loop
+pushed : tie.Need-returns invariant-loop decreases-loop
 pushed c = (
   omega (arith, c.push.ensures.0),
   λ t l forms h.
-      into-end (c.before.before.loop.invariant.1 t l forms h) (omega (arith, h.size, c.before.loop-test.false)) _ (c.push.ensures.1 l h),
+      into-end (c.before.before.loop-i.invariant.1 t l forms h) (omega (arith, h.size, c.before.loop-i-test.false)) _ (c.push.ensures.1 l h),
 )
 
 pub merge_into_spec : {M : Type 1} → statement M

@@ -13,44 +13,44 @@ use Rattle.normal.proofs.Runs.{content-step, content-end}
 use Rattle.normal.proofs.content.Statement.{statement}
 use Rattle.normal.proofs.content.Tie as tie
 
-abbrev invariant-loop : tie.invariant-loop
+abbrev invariant-loop : tie.invariant-loop-i
 invariant-loop coefficient from to common₀ i₀ common i =
     (from ≤ i) × (content_from common (coefficients coefficient i to) ≡ content_from 0 (coefficients coefficient from to))
 
-abbrev decreases-loop : tie.decreases-loop
+abbrev decreases-loop : tie.decreases-loop-i
 decreases-loop coefficient from to common₀ i₀ common i = to - i
 
 magnitude-requires : tie.Need-magnitude-requires invariant-loop decreases-loop
 magnitude-requires c κs =
-    let i = c.before.before.loop.i in
+    let i = c.before.before.loop-i.i in
     let start = c.before.before.before in
     let small : nat_abs (get_or start.args.coefficient.now i (pos 0)) < 2 ^ 31 = start.requires.magnitude i (omega arith) (omega arith) in
     rw (bounded-back (get_or start.args.coefficient.now i (pos 0)) small) small
 
-loop-again : tie.Need-loop-preserved invariant-loop decreases-loop
+loop-again : tie.Need-loop-i-preserved invariant-loop decreases-loop
 loop-again c =
-    let l = c.before.before.before.before.loop in
+    let l = c.before.before.before.before.loop-i in
     let start = c.before.before.before.before.before in
     let x = get_or start.args.coefficient.now l.i (pos 0) in (
       omega arith,
-      rw (c.gcd.ensures, c.before.magnitude.ensures, bounded-back x (start.requires.magnitude l.i (omega arith) (omega arith)))
+      rw (c.gcd-common.ensures, c.before.magnitude.ensures, bounded-back x (start.requires.magnitude l.i (omega arith) (omega arith)))
           (sym (content-step start.args.coefficient.now l.common l.i start.args.to (omega arith)) ∙ l.invariant.1),
     )
 
-found : (c : tie.After-loop invariant-loop decreases-loop)
-    → c.before.loop.common ≡ content_from 0 (coefficients c.before.before.args.coefficient.now c.before.before.args.from c.before.before.args.to)
+found : (c : tie.After-loop-i invariant-loop decreases-loop)
+    → c.before.loop-i.common ≡ content_from 0 (coefficients c.before.before.args.coefficient.now c.before.before.args.from c.before.before.args.to)
 found c =
-    let l = c.before.loop in
+    let l = c.before.loop-i in
     let a = c.before.before.args in
     sym (content-end a.coefficient.now l.common l.i a.to (omega arith)) ∙ l.invariant.1
 
-returns : tie.Need-returns invariant-loop decreases-loop
+returns : tie.Need-returns-then-common-eq0 invariant-loop decreases-loop
 unfolding content
-returns c = or-one-none c.before.before.loop.common c.if1.true ∙ ap or_one (found c.before)
+returns c = or-one-none c.before.before.loop-i.common c.if-common-eq0.true ∙ ap or_one (found c.before)
 
-returns-2 : tie.Need-returns-2 invariant-loop decreases-loop
+returns-2 : tie.Need-returns invariant-loop decreases-loop
 unfolding content
-returns-2 c = or-one-some c.before.before.loop.common c.if1.false ∙ ap or_one (found c.before)
+returns-2 c = or-one-some c.before.before.loop-i.common c.if-common-eq0.false ∙ ap or_one (found c.before)
 
 pub content_spec : {M : Type 1} → statement M
 content_spec =

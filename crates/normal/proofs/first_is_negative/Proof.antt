@@ -8,10 +8,10 @@ use Rattle.normal.proofs.Runs.{first_some, first-none}
 use Rattle.normal.proofs.first_is_negative.Statement.{statement}
 use Rattle.normal.proofs.first_is_negative.Tie as tie
 
-returns : tie.Need-returns
+returns : tie.Need-returns-then-from-to
 returns c =
     let a = c.before.before.args in
-    rw (read_back (get_or a.coefficient.now a.from (pos 0)) c.c.given) (first_some a.coefficient.now a.from a.to (omega arith))
+    rw (read_back (get_or a.coefficient.now a.from (pos 0)) c.c-1.given) (first_some a.coefficient.now a.from a.to (omega arith))
 
 pub first_is_negative_spec : {M : Type 1} → statement M
 first_is_negative_spec =

@@ -7,15 +7,15 @@ use Rattle.normal.specs.Euclid.{gcd-step, gcd-end}
 use Rattle.normal.proofs.gcd.Statement.{statement}
 use Rattle.normal.proofs.gcd.Tie as tie
 
-abbrev invariant-loop : tie.invariant-loop
+abbrev invariant-loop : tie.invariant-loop-b
 invariant-loop first second a₀ b₀ a b = gcd a b ≡ gcd first second
 
-abbrev decreases-loop : tie.decreases-loop
+abbrev decreases-loop : tie.decreases-loop-b
 decreases-loop first second a₀ b₀ a b = b
 
 pub gcd_spec : {M : Type 1} → statement M
 gcd_spec =
     tie.close
-    (tie.spec invariant-loop decreases-loop (λ c. refl) (λ c. omega arith) (λ c. mod-lt c.before.loop.a (omega arith))
-    (λ c. gcd-step c.before.loop.a c.before.loop.b c.loop-test.true ∙ c.before.loop.invariant)
-    (λ c. sym (gcd-end c.before.loop.a c.before.loop.b c.loop-test.false) ∙ c.before.loop.invariant))
+    (tie.spec invariant-loop decreases-loop (λ c. refl) (λ c. omega arith) (λ c. mod-lt c.before.loop-b.a (omega arith))
+    (λ c. gcd-step c.before.loop-b.a c.before.loop-b.b c.loop-b-test.true ∙ c.before.loop-b.invariant)
+    (λ c. sym (gcd-end c.before.loop-b.a c.before.loop-b.b c.loop-b-test.false) ∙ c.before.loop-b.invariant))

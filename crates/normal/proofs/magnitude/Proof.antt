@@ -11,13 +11,13 @@ cast-result : tie.Need-overflow-cast-result
 cast-result c =
     let z = c.before.args.c in
     rw (minus-back z c.before.requires)
-    (negative-turns z (rw (bounded-back z c.before.requires) at c.if1.true), record { fits = rw (magnitude-negated z) (omega arith) })
+    (negative-turns z (rw (bounded-back z c.before.requires) at c.if-c-lt0.true), record { fits = rw (magnitude-negated z) (omega arith) })
 
 cast-result-2 : tie.Need-overflow-cast-result-2
 cast-result-2 c =
     let z = c.before.args.c in
     let b = bounded-back z c.before.requires in
-    rw b (left-whole z (rw b at c.if1.false), record { fits = omega arith })
+    rw b (left-whole z (rw b at c.if-c-lt0.false), record { fits = omega arith })
 
 pub magnitude_spec : {M : Type 1} → statement M
 magnitude_spec =

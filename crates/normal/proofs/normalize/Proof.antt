@@ -18,8 +18,8 @@ divide-requires c κs =
     let p = coefficients a.coefficient.now a.from a.to in (
       start.requires.0.there,
       start.requires.1,
-      rw c.before.content.ensures (content-above-zero p),
-      rw c.before.content.ensures (content-small a.coefficient.now a.from a.to start.requires.0),
+      rw c.before.content-by.ensures (content-above-zero p),
+      rw c.before.content-by.ensures (content-small a.coefficient.now a.from a.to start.requires.0),
     )
 
 negate-requires : tie.Need-negate-requires
@@ -27,10 +27,10 @@ negate-requires c κs =
     let start = c.before.before.before.before.before.before.before.before in
     let a = start.args in
     rw c.before.before.before.before.before.divide.ensures
-    (bounded-divided a.target.now a.from a.to start.requires.1 c.before.before.before.before.before.before.before.content.result
+    (bounded-divided a.target.now a.from a.to start.requires.1 c.before.before.before.before.before.before.before.content-by.result
     a.coefficient.now start.requires.0)
 
-module _ (c : tie.After-first-is-negative) where
+module _ (c : tie.After-first_is_negative) where
   abbrev given : tie.Start
   given = c.before.before.before.before.before.before
 
@@ -40,24 +40,24 @@ module _ (c : tie.After-first-is-negative) where
       given.args.target.now given.args.from given.args.to
   divided-is = c.before.before.before.divide.ensures
       ∙ ap (λ (by : ℕ). divided_run by given.args.coefficient.now given.args.target.now given.args.from given.args.to)
-      c.before.before.before.before.before.content.ensures
+      c.before.before.before.before.before.content-by.ensures
 
   -- The test that the code makes.
-  test : c.first-is-negative.result ≡ is_turned given.args.coefficient.now given.args.from given.args.to
-  test = c.first-is-negative.ensures
+  test : c.first_is_negative.result ≡ is_turned given.args.coefficient.now given.args.from given.args.to
+  test = c.first_is_negative.ensures
       ∙ ap (λ (l : List ℤ). first_is_negative (coefficients l given.args.from given.args.to)) divided-is
       ∙ divided-first given.args.coefficient.now given.args.target.now given.args.from given.args.to given.pre.1
 
-returns : tie.Need-returns
+returns : tie.Need-returns-then-first_is_negative
 unfolding normal_run turned_run
 returns c =
     let d = c.before.before.before.before in
-    let turns = sym c.before.before.before.if1.true ∙ test d in
+    let turns = sym c.before.before.before.if-first_is_negative.true ∙ test d in
     (turns, c.before.negate.ensures ∙ rw (← turns) (ap (λ (l : List ℤ). negated_run l (given d).args.from (given d).args.to) (divided-is d)))
 
-returns-2 : tie.Need-returns-2
+returns-2 : tie.Need-returns
 unfolding normal_run turned_run
-returns-2 c = let turns = sym c.if1.false ∙ test c.before in (turns, rw (← turns) (divided-is c.before))
+returns-2 c = let turns = sym c.if-first_is_negative.false ∙ test c.before in (turns, rw (← turns) (divided-is c.before))
 
 pub normalize_spec : {M : Type 1} → statement M
 normalize_spec =

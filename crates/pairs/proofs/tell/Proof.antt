@@ -5,23 +5,23 @@ use Rattle.pairs.proofs.Reading.{PairsLeft, pairs-begin, first_below, first-beyo
 use Rattle.pairs.proofs.tell.Statement.{statement}
 use Rattle.pairs.proofs.tell.Tie as tie
 
-abbrev invariant-loop : tie.invariant-loop
+abbrev invariant-loop : tie.invariant-loop-i
 invariant-loop src at n count least₀ above₀ exponents₀ i₀ least above exponents i = PairsLeft n src at count i least above exponents
 
-abbrev decreases-loop : tie.decreases-loop
+abbrev decreases-loop : tie.decreases-loop-i
 decreases-loop src at n count least₀ above₀ exponents₀ i₀ least above exponents i = count - i
 
-returns : tie.Need-returns invariant-loop decreases-loop
+returns : tie.Need-returns-then-variable-least invariant-loop decreases-loop
 returns c =
     let read = c.before in
     let turn = read.before in
-    first_below turn.before.before.before.requires.0 turn.before.loop.invariant turn.loop-test.true read.get.ensures c.if1.true
+    first_below turn.before.before.before.requires.0 turn.before.loop-i.invariant turn.loop-i-test.true read.get-pair.ensures c.if-variable-least.true
 
-returns-2 : tie.Need-returns-2 invariant-loop decreases-loop
+returns-2 : tie.Need-returns-then-n-variable invariant-loop decreases-loop
 returns-2 c =
     let read = c.before.before in
     let turn = read.before in
-    first-beyond turn.before.before.before.requires.0 turn.before.loop.invariant turn.loop-test.true read.get.ensures c.before.if1.false c.if2.true
+    first-beyond turn.before.before.before.requires.0 turn.before.loop-i.invariant turn.loop-i-test.true read.get-pair.ensures c.before.if-variable-least.false c.if-n-variable.true
 
 add-exponents : tie.Need-overflow-add-exponents invariant-loop decreases-loop
 add-exponents c =
@@ -30,17 +30,17 @@ add-exponents c =
     let turn = read.before in
     let s = turn.before.before.before in
     record {
-      fits = sum-small s.requires.0 turn.before.loop.invariant turn.loop-test.true read.get.ensures below.before.if1.false below.if2.false
-          c.placed.ensures s.requires.1;
+      fits = sum-small s.requires.0 turn.before.loop-i.invariant turn.loop-i-test.true read.get-pair.ensures below.before.if-variable-least.false below.if-n-variable.false
+          c.placed-exponents.ensures s.requires.1;
     }
 
-loop-again : tie.Need-loop-preserved invariant-loop decreases-loop
+loop-again : tie.Need-loop-i-preserved invariant-loop decreases-loop
 loop-again c =
     let below = c.before.before in
     let read = below.before.before in
     let turn = read.before in
-    pairs-go-on turn.before.before.before.requires.0 turn.before.loop.invariant turn.loop-test.true read.get.ensures below.before.if1.false
-    below.if2.false c.placed.ensures c.before.still-above.ensures
+    pairs-go-on turn.before.before.before.requires.0 turn.before.loop-i.invariant turn.loop-i-test.true read.get-pair.ensures below.before.if-variable-least.false
+    below.if-n-variable.false c.placed-exponents.ensures c.before.still_above-above.ensures
 
 pub tell_spec : {M : Type 1} → statement M
 tell_spec =
@@ -52,11 +52,11 @@ tell_spec =
     (λ c. omega arith)
     returns returns-2
     (λ c κs. tt)
-    (λ c. omega (arith, c.before.if2.false)) (λ c. omega (arith, c.before.if2.false))
+    (λ c. omega (arith, c.before.if-n-variable.false)) (λ c. omega (arith, c.before.if-n-variable.false))
     (λ c κs. let s = c.before.before.before.before.before.before.before in (omega arith, omega (arith, s.requires.1)))
     add-exponents
-    (λ c. let below = c.before.before in let s = below.before.before.before.before.before.before in omega (arith, below.if2.false, s.requires.1))
+    (λ c. let below = c.before.before in let s = below.before.before.before.before.before.before in omega (arith, below.if-n-variable.false, s.requires.1))
     (λ c. omega arith)
     loop-again
-    (λ c. pairs_end c.before.before.loop.invariant c.before.loop-test.false c.if3.true)
-    (λ c. pairs-end-zero c.before.before.loop.invariant c.before.loop-test.false c.if3.false))
+    (λ c. pairs_end c.before.before.loop-i.invariant c.before.loop-i-test.false c.if-above.true)
+    (λ c. pairs-end-zero c.before.before.loop-i.invariant c.before.loop-i-test.false c.if-above.false))

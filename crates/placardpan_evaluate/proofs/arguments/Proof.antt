@@ -6,16 +6,16 @@ use lib.ListN.{length}
 use Rattle.placardpan_evaluate.proofs.arguments.Statement.{statement}
 use Rattle.placardpan_evaluate.proofs.arguments.Tie as tie
 
-abbrev invariant-loop : tie.invariant-loop
+abbrev invariant-loop : tie.invariant-loop-i
 invariant-loop word₀ numbers₀ line₀ count i₀ word numbers line i = (length word ≡ length word₀) × (length numbers ≡ length numbers₀)
 
-abbrev decreases-loop : tie.decreases-loop
+abbrev decreases-loop : tie.decreases-loop-i
 decreases-loop word₀ numbers₀ line₀ count i₀ word numbers line i = count - i
 
 pub arguments_spec : {M : Type 1} → statement M
 arguments_spec =
     tie.close
     (tie.spec invariant-loop decreases-loop (λ c κs. tt) (λ c κs. tt) (λ c. (refl, refl)) (λ c κs. tt) (λ c. omega arith) (λ c. omega arith)
-    (λ c. let loop = c.before.before.before.before.before.before.before.loop in
-    (c.before.before.before.argument.auto.1.0 ∙ loop.invariant.0, c.before.before.before.argument.auto.1.1.1.0 ∙ loop.invariant.1))
-    (λ c κs. tt) (λ c. c.before.before.before.before.loop.invariant.0) (λ c. c.before.over.auto.1.0 ∙ c.before.before.before.before.loop.invariant.1) (λ c. tt))
+    (λ c. let loop = c.before.before.before.before.before.before.before.loop-i in
+    (c.before.before.before.argument-line.auto.1.0 ∙ loop.invariant.0, c.before.before.before.argument-line.auto.1.1.1.0 ∙ loop.invariant.1))
+    (λ c κs. tt) (λ c. c.before.before.before.before.loop-i.invariant.0) (λ c. c.before.over.auto.1.0 ∙ c.before.before.before.before.loop-i.invariant.1) (λ c. tt))

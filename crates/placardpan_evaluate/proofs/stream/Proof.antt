@@ -5,18 +5,18 @@ use lib.ListN.{length}
 use Rattle.placardpan_evaluate.proofs.stream.Statement.{statement}
 use Rattle.placardpan_evaluate.proofs.stream.Tie as tie
 
-abbrev invariant-loop : tie.invariant-loop
+abbrev invariant-loop : tie.invariant-loop-turns
 invariant-loop block bytes₀ numbers₀ line₀ turns₀ more₀ bytes numbers line turns more = (length bytes ≡ length bytes₀) × (length numbers ≡ length numbers₀)
 
-abbrev decreases-loop : tie.decreases-loop
+abbrev decreases-loop : tie.decreases-loop-turns
 decreases-loop block bytes₀ numbers₀ line₀ turns₀ more₀ bytes numbers line turns more = turns
 
 pub stream_spec : {M : Type 1} → statement M
 stream_spec =
     tie.close
     (tie.spec invariant-loop decreases-loop (λ c κs. tt) (λ c. (refl, refl)) (λ c. omega arith) (λ c κs. tt) (λ c. omega arith)
-    (λ c. let loop = c.before.before.before.before.before.before.before.before.before.loop in
-    (c.before.before.before.before.some-lines.auto.1.0 ∙ loop.invariant.0, c.before.before.before.before.some-lines.auto.1.1.1.0 ∙ loop.invariant.1))
-    (λ c κs. tt) (λ c. c.before.before.before.before.before.loop.invariant.0)
-    (λ c. c.before.heard.auto.1.1.1.0 ∙ c.before.before.before.before.before.loop.invariant.1) (λ c. tt) (λ c. c.before.before.loop.invariant.0)
-    (λ c. c.before.before.loop.invariant.1) (λ c. tt))
+    (λ c. let loop = c.before.before.before.before.before.before.before.before.before.loop-turns in
+    (c.before.before.before.before.some_lines-now.auto.1.0 ∙ loop.invariant.0, c.before.before.before.before.some_lines-now.auto.1.1.1.0 ∙ loop.invariant.1))
+    (λ c κs. tt) (λ c. c.before.before.before.before.before.loop-turns.invariant.0)
+    (λ c. c.before.heard.auto.1.1.1.0 ∙ c.before.before.before.before.before.loop-turns.invariant.1) (λ c. tt) (λ c. c.before.before.loop-turns.invariant.0)
+    (λ c. c.before.before.loop-turns.invariant.1) (λ c. tt))

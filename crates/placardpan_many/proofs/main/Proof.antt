@@ -4,10 +4,10 @@ use borrow.Author.Rules.{rules}
 use Rattle.placardpan_many.proofs.main.Statement.{statement}
 use Rattle.placardpan_many.proofs.main.Tie as tie
 
-abbrev invariant-loop : tie.invariant-loop
+abbrev invariant-loop : tie.invariant-loop-turns
 invariant-loop room₀ output₀ text₀ places turns₀ room output text turns = Unit {0}
 
-abbrev decreases-loop : tie.decreases-loop
+abbrev decreases-loop : tie.decreases-loop-turns
 decreases-loop room₀ output₀ text₀ places turns₀ room output text turns = turns
 
 pub main_spec : {M : Type 1} → statement M

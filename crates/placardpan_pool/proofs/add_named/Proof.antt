@@ -5,11 +5,11 @@ use lib.Seq.{length-take-le}
 use Rattle.placardpan_pool.proofs.add_named.Statement.{statement}
 use Rattle.placardpan_pool.proofs.add_named.Tie as tie
 
-slice-aggregate-number-of : tie.Need-slice-aggregate-number-of
+slice-aggregate-number-of : tie.Need-slice_bounds-number_of-end
 slice-aggregate-number-of c =
     let s = c.before.before.before.before.before.before.before.before in
     let d = c.before.before.before.before.before in
-    sym (length-take-le d.digits-end.result s.args.line.now d.digits-end.ensures)
+    sym (length-take-le d.digits_end-end.result s.args.line.now d.digits_end-end.ensures)
 
 pub add_named_spec : {M : Type 1} → statement M
 add_named_spec =

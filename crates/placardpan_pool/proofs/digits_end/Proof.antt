@@ -5,10 +5,10 @@ use lib.ListN.{length}
 use Rattle.placardpan_pool.proofs.digits_end.Statement.{statement}
 use Rattle.placardpan_pool.proofs.digits_end.Tie as tie
 
-abbrev invariant-loop : tie.invariant-loop
+abbrev invariant-loop : tie.invariant-loop-i
 invariant-loop line i₀ i = i ≤ length line
 
-abbrev decreases-loop : tie.decreases-loop
+abbrev decreases-loop : tie.decreases-loop-i
 decreases-loop line i₀ i = length line - i
 
 pub digits_end_spec : {M : Type 1} → statement M

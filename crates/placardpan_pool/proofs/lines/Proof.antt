@@ -7,17 +7,17 @@ use lib.ListN.{length}
 use Rattle.placardpan_pool.proofs.lines.Statement.{statement}
 use Rattle.placardpan_pool.proofs.lines.Tie as tie
 
-abbrev invariant-loop : tie.invariant-loop
+abbrev invariant-loop : tie.invariant-loop-i
 invariant-loop words₀ bytes text₀ next₀ i₀ words text next i = (length words ≡ length words₀) × (length text ≡ length text₀)
 
-abbrev decreases-loop : tie.decreases-loop
+abbrev decreases-loop : tie.decreases-loop-i
 decreases-loop words₀ bytes text₀ next₀ i₀ words text next i = length bytes - i
 
 pub lines_spec : {M : Type 1} → statement M
 lines_spec =
     tie.close
     (tie.spec invariant-loop decreases-loop (λ c. (refl, refl)) (λ c. omega arith) (λ c κs. tt) (λ c. omega arith) (λ c. omega arith)
-    (λ c. let loop = c.before.before.before.before.before.before.before.before.before.loop in
-    let heard = c.before.before.before.before.heard in
+    (λ c. let loop = c.before.before.before.before.before.before.before.before.before.loop-i in
+    let heard = c.before.before.before.before.heard-next in
     (heard.auto.0 ∙ loop.invariant.0, heard.auto.1.1.1.0 ∙ loop.invariant.1))
-    (λ c. c.before.loop.invariant.0) (λ c. c.before.loop.invariant.1) (λ c. tt))
+    (λ c. c.before.loop-i.invariant.0) (λ c. c.before.loop-i.invariant.1) (λ c. tt))

@@ -5,10 +5,10 @@ use lib.ListN.{length}
 use Rattle.placardpan_pool.proofs.number_of.Statement.{statement}
 use Rattle.placardpan_pool.proofs.number_of.Tie as tie
 
-abbrev invariant-loop : tie.invariant-loop
+abbrev invariant-loop : tie.invariant-loop-i
 invariant-loop digits number₀ i₀ number i = Unit {0}
 
-abbrev decreases-loop : tie.decreases-loop
+abbrev decreases-loop : tie.decreases-loop-i
 decreases-loop digits number₀ i₀ number i = length digits - i
 
 pub number_of_spec : {M : Type 1} → statement M

@@ -5,24 +5,24 @@ use lib.ListN.{length}
 use Rattle.placardpan_pool.proofs.stream.Statement.{statement}
 use Rattle.placardpan_pool.proofs.stream.Tie as tie
 
-abbrev invariant-loop : tie.invariant-loop
+abbrev invariant-loop : tie.invariant-loop-turns
 invariant-loop words₀ bytes₀ text₀ line₀ turns₀ more₀ words bytes text line turns more =
     (length words ≡ length words₀) × (length bytes ≡ length bytes₀) × (length text ≡ length text₀)
 
-abbrev decreases-loop : tie.decreases-loop
+abbrev decreases-loop : tie.decreases-loop-turns
 decreases-loop words₀ bytes₀ text₀ line₀ turns₀ more₀ words bytes text line turns more = turns
 
-loop-again : tie.Need-loop-preserved invariant-loop decreases-loop
+loop-again : tie.Need-loop-turns-preserved invariant-loop decreases-loop
 loop-again c =
-    let loop = c.before.before.before.before.before.before.before.before.before.before.before.before.before.loop in
-    let lines = c.before.before.before.before.before.before.before.some-lines in
+    let loop = c.before.before.before.before.before.before.before.before.before.before.before.before.before.loop-turns in
+    let lines = c.before.before.before.before.before.before.before.some_lines-now in
     (lines.auto.0 ∙ loop.invariant.0, lines.auto.1.0 ∙ loop.invariant.1, lines.auto.1.1.1.0 ∙ loop.invariant.2)
 
 pub stream_spec : {M : Type 1} → statement M
 stream_spec =
     tie.close
     (tie.spec invariant-loop decreases-loop (λ c κs. tt) (λ c. (refl, refl, refl)) (λ c. omega arith) (λ c κs. tt) (λ c. omega arith) loop-again (λ c κs. tt)
-    (λ c. c.before.before.before.before.heard.auto.0 ∙ c.before.before.before.before.before.before.before.before.before.loop.invariant.0)
-    (λ c. c.before.before.before.before.before.before.before.before.before.loop.invariant.1)
-    (λ c. c.before.before.before.before.heard.auto.1.1.1.0 ∙ c.before.before.before.before.before.before.before.before.before.loop.invariant.2) (λ c. tt)
-    (λ c. c.before.before.loop.invariant.0) (λ c. c.before.before.loop.invariant.1) (λ c. c.before.before.loop.invariant.2) (λ c. tt))
+    (λ c. c.before.before.before.before.heard.auto.0 ∙ c.before.before.before.before.before.before.before.before.before.loop-turns.invariant.0)
+    (λ c. c.before.before.before.before.before.before.before.before.before.loop-turns.invariant.1)
+    (λ c. c.before.before.before.before.heard.auto.1.1.1.0 ∙ c.before.before.before.before.before.before.before.before.before.loop-turns.invariant.2) (λ c. tt)
+    (λ c. c.before.before.loop-turns.invariant.0) (λ c. c.before.before.loop-turns.invariant.1) (λ c. c.before.before.loop-turns.invariant.2) (λ c. tt))

@@ -6,17 +6,17 @@ use borrow.Author.Rules.{rules}
 use Rattle.placardpan_repeat.proofs.repeat.Statement.{statement}
 use Rattle.placardpan_repeat.proofs.repeat.Tie as tie
 
-abbrev invariant-loop : tie.invariant-loop
+abbrev invariant-loop : tie.invariant-loop-left
 invariant-loop input output₀ text times asked left₀ output left = length output ≡ length output₀
 
-abbrev decreases-loop : tie.decreases-loop
+abbrev decreases-loop : tie.decreases-loop-left
 decreases-loop input output₀ text times asked left₀ output left = left
 
-loop-again : tie.Need-loop-preserved invariant-loop decreases-loop
-loop-again c = c.before.before.call.auto.1.0 ∙ c.before.before.before.before.before.loop.invariant
+loop-again : tie.Need-loop-left-preserved invariant-loop decreases-loop
+loop-again c = c.before.before.call.auto.1.0 ∙ c.before.before.before.before.before.loop-left.invariant
 
-same_length : tie.Need-same-length invariant-loop decreases-loop
-same_length c = c.before.before.before.before.print-asked.auto.1.0 ∙ c.before.before.before.before.before.before.before.before.loop.invariant
+same_length : tie.Need-shape_of-output invariant-loop decreases-loop
+same_length c = c.before.before.before.before.print_asked.auto.1.0 ∙ c.before.before.before.before.before.before.before.before.loop-left.invariant
 
 pub repeat_spec : {M : Type 1} → statement M
 repeat_spec =

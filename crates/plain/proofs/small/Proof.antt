@@ -15,31 +15,31 @@ use Rattle.plain.proofs.Numbers.{is-small, not-small, more-small}
 use Rattle.plain.proofs.small.Statement.{statement}
 use Rattle.plain.proofs.small.Tie as tie
 
-abbrev invariant-loop : tie.invariant-loop
+abbrev invariant-loop : tie.invariant-loop-i
 invariant-loop coefficient to i₀ i = (i₀ ≤ i) × AtMost largest coefficient i₀ i
 
-abbrev decreases-loop : tie.decreases-loop
+abbrev decreases-loop : tie.decreases-loop-i
 decreases-loop coefficient to i₀ i = to - i
 
-c-fits : (c : tie.After-c invariant-loop decreases-loop) → SFits w32 (get_or c.before.before.before.args.coefficient.now c.before.before.loop.i (pos 0))
-c-fits c = record { sfits = c.c.given }
+c-fits : (c : tie.After-c-1 invariant-loop decreases-loop) → SFits w32 (get_or c.before.before.before.args.coefficient.now c.before.before.loop-i.i (pos 0))
+c-fits c = record { sfits = c.c-1.given }
 
-returns : tie.Need-returns invariant-loop decreases-loop
+returns : tie.Need-returns-then-c-ltminus2147483647 invariant-loop decreases-loop
 returns c =
-    let l = c.before.before.before.loop in
+    let l = c.before.before.before.loop-i in
     record {
       yes = λ e. absurd (false≢true e);
-      no = λ e h. not-small (get_or c.before.before.before.before.args.coefficient.now l.i (pos 0)) (rw (back (c-fits c.before)) at c.if1.true) (h.each l.i l.invariant.0 (omega arith));
+      no = λ e h. not-small (get_or c.before.before.before.before.args.coefficient.now l.i (pos 0)) (rw (back (c-fits c.before)) at c.if-c-ltminus2147483647.true) (h.each l.i l.invariant.0 (omega arith));
     }
 
-loop-again : tie.Need-loop-preserved invariant-loop decreases-loop
+loop-again : tie.Need-loop-i-preserved invariant-loop decreases-loop
 loop-again c =
-    let l = c.before.before.before.loop in
-    (omega (arith, l.invariant.0), more-small l.invariant.1 (is-small (c-fits c.before) (rw (back (c-fits c.before)) at c.if1.false)))
+    let l = c.before.before.before.loop-i in
+    (omega (arith, l.invariant.0), more-small l.invariant.1 (is-small (c-fits c.before) (rw (back (c-fits c.before)) at c.if-c-ltminus2147483647.false)))
 
-returns-2 : tie.Need-returns-2 invariant-loop decreases-loop
+returns-2 : tie.Need-returns invariant-loop decreases-loop
 returns-2 c =
-    let l = c.before.loop in
+    let l = c.before.loop-i in
     record { yes = λ e. record { each = λ k h m. l.invariant.1.each k h (omega arith) }; no = λ e. absurd (true≢false e) }
 
 pub small_spec : {M : Type 1} → statement M

@@ -8,15 +8,15 @@ use Rattle.pool.specs.Marks.{no-mark}
 use Rattle.pool.proofs.allows.Statement.{statement}
 use Rattle.pool.proofs.allows.Tie as tie
 
-returns : tie.Need-returns
+returns : tie.Need-returns-then-present-eq0
 returns c =
     let a = c.before.args in
-    sym (ap (λ (b : Bool). b || eqb a.n a.variables) (sym (no-mark a.present) ∙ eq-eqb (a.present % 4294967296) 0 c.if1.true))
+    sym (ap (λ (b : Bool). b || eqb a.n a.variables) (sym (no-mark a.present) ∙ eq-eqb (a.present % 4294967296) 0 c.if-present-eq0.true))
 
-returns-2 : tie.Need-returns-2
+returns-2 : tie.Need-returns
 returns-2 c =
     let a = c.before.args in
-    sym (ap (λ (b : Bool). b || eqb a.n a.variables) (sym (no-mark a.present) ∙ ne_eqb (a.present % 4294967296) 0 c.if1.false))
+    sym (ap (λ (b : Bool). b || eqb a.n a.variables) (sym (no-mark a.present) ∙ ne_eqb (a.present % 4294967296) 0 c.if-present-eq0.false))
 
 pub allows_spec : {M : Type 1} → statement M
 allows_spec = tie.close (tie.spec returns returns-2)

@@ -8,19 +8,19 @@ use Rattle.pool.specs.Entry.{filled-full, filled-as, added_is}
 use Rattle.pool.proofs.fill.Statement.{statement}
 use Rattle.pool.proofs.fill.Tie as tie
 
-returns : tie.Need-returns
+returns : tie.Need-returns-then-used-fresh-gt128
 returns c =
     let a = c.before.before.before.before.before.before.before.before.before.args in
     filled-full a.pool.now a.number a.variables (forms_in a.coefficient.now a.monomial.now a.terms.now (numbers_from a.order.now 0 a.count))
-    (omega (arith, c.if1.true, c.before.used.ensures.0, c.before.before.before.new-forms.ensures.0))
+    (omega (arith, c.if-used-fresh-gt128.true, c.before.used.ensures.0, c.before.before.before.new_forms-fresh.ensures.0))
 
-returns-2 : tie.Need-returns-2
+returns-2 : tie.Need-returns
 returns-2 c =
     let a = c.before.before.before.before.before.before.before.before.before.before.before.before.before.before.before.args in
     let forms = forms_in a.coefficient.now a.monomial.now a.terms.now (numbers_from a.order.now 0 a.count) in
     filled-as a.pool.now _ a.number a.variables forms
-    (added_is a.number a.variables forms a.pool.now _ _ c.before.before.list-forms.ensures c.before.before.before.before.with-mark.ensures)
-    (omega (arith, c.before.before.before.before.before.before.if1.false, c.before.before.before.before.before.before.before.used.ensures.0, c.before.before.before.before.before.before.before.before.before.new-forms.ensures.0))
+    (added_is a.number a.variables forms a.pool.now _ _ c.before.before.list_forms.ensures c.before.before.before.before.with_mark-row.ensures)
+    (omega (arith, c.before.before.before.before.before.before.if-used-fresh-gt128.false, c.before.before.before.before.before.before.before.used.ensures.0, c.before.before.before.before.before.before.before.before.before.new_forms-fresh.ensures.0))
 
 pub fill_spec : {M : Type 1} → statement M
 fill_spec =

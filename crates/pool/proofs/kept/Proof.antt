@@ -14,11 +14,11 @@ unfolding unless_none
 some zero n e = absurd (e refl)
 some (suc k) n e = refl
 
-returns : tie.Need-returns
-returns c = none _ _ c.if1.true
+returns : tie.Need-returns-then-left-eq0
+returns c = none _ _ c.if-left-eq0.true
 
-returns-2 : tie.Need-returns-2
-returns-2 c = some _ _ c.if1.false
+returns-2 : tie.Need-returns
+returns-2 c = some _ _ c.if-left-eq0.false
 
 pub kept_spec : {M : Type 1} → statement M
 kept_spec = tie.close (tie.spec returns returns-2)

@@ -15,52 +15,52 @@ use Rattle.pool.proofs.Listings.{forms_left, forms-cons, forms-end, run_is, run_
 use Rattle.pool.proofs.list_forms.Statement.{statement}
 use Rattle.pool.proofs.list_forms.Tie as tie
 
-abbrev invariant-loop : tie.invariant-loop
+abbrev invariant-loop : tie.invariant-loop-i
 invariant-loop pool₀ number coefficient monomial terms order count i₀ pool i =
     (i ≤ count) × (length pool ≡ length pool₀)
     × (all_listed number pool (forms_left coefficient monomial terms order count i)
     ≡ all_listed number pool₀ (forms_in coefficient monomial terms (numbers_from order 0 count)))
 
-abbrev decreases-loop : tie.decreases-loop
+abbrev decreases-loop : tie.decreases-loop-i
 decreases-loop pool₀ number coefficient monomial terms order count i₀ pool i = count - i
 
-loop-holds : tie.Need-loop-init invariant-loop decreases-loop
+loop-holds : tie.Need-loop-i-init invariant-loop decreases-loop
 loop-holds c = (omega arith, refl, simp sub-zero)
 
-shared-slice-read-wide-2 : tie.Need-shared-slice-read-wide-2 invariant-loop decreases-loop
+shared-slice-read-wide-2 : tie.Need-bounds-terms-slot invariant-loop decreases-loop
 shared-slice-read-wide-2 c =
     let s = c.before.before.before.before.before.before.before.before.before in
-    omega (arith, c.before.wide.ensures, s.requires.3.below c.before.before.before.before.loop.i (omega arith), s.requires.2.counts)
+    omega (arith, c.before.wide-slot.ensures, s.requires.3.below c.before.before.before.before.loop-i.i (omega arith), s.requires.2.counts)
 
 mul-list-form : tie.Need-overflow-mul-list-form invariant-loop decreases-loop
 mul-list-form c =
     let s = c.before.before.before.before.before.before.before.before.before.before.before in
-    omega (arith, c.before.before.before.wide.ensures, s.requires.3.below c.before.before.before.before.before.before.loop.i (omega arith))
+    omega (arith, c.before.before.before.wide-slot.ensures, s.requires.3.below c.before.before.before.before.before.before.loop-i.i (omega arith))
 
-list-form-requires : tie.Need-list-form-requires invariant-loop decreases-loop
+list-form-requires : tie.Need-list_form-requires invariant-loop decreases-loop
 list-form-requires c κs =
     let s = c.before.before.before.before.before.before.before.before.before.before.before in
     let a = s.args in
-    let l = c.before.before.before.before.before.before.loop in (
+    let l = c.before.before.before.before.before.before.loop-i in (
       omega (arith, l.invariant.1, s.requires.0),
       s.requires.1,
-      run_room a.coefficient.now a.monomial.now a.terms.now (get_or a.order.now l.i 0) c.before.before.before.wide.result c.before.wide2.result
-          s.requires.2 (s.requires.3.below l.i (omega arith)) c.before.before.before.wide.ensures c.before.wide2.ensures,
+      run_room a.coefficient.now a.monomial.now a.terms.now (get_or a.order.now l.i 0) c.before.before.before.wide-slot.result c.before.wide-size.result
+          s.requires.2 (s.requires.3.below l.i (omega arith)) c.before.before.before.wide-slot.ensures c.before.wide-size.ensures,
     )
 
-loop-again : tie.Need-loop-preserved invariant-loop decreases-loop
+loop-again : tie.Need-loop-i-preserved invariant-loop decreases-loop
 unfolding all_listed
 loop-again c =
     let s = c.before.before.before.before.before.before.before.before.before.before.before.before.before.before in
     let a = s.args in
-    let l = c.before.before.before.before.before.before.before.before.before.loop in
+    let l = c.before.before.before.before.before.before.before.before.before.loop-i in
     let k : ℕ = get_or a.order.now l.i 0 in
     let p : Polynomial = slot_of a.coefficient.now a.monomial.now a.terms.now k in
     let rest : List Polynomial = forms_left a.coefficient.now a.monomial.now a.terms.now a.order.now a.count (l.i + 1) in
-    let is : c.before.before.list-form.new.0 ≡ listed_words a.number l.pool p =
-    c.before.before.list-form.ensures
-    ∙ ap (listed_words a.number l.pool) (run_is a.coefficient.now a.monomial.now a.terms.now k c.before.before.before.before.before.before.wide.result c.before.before.before.before.wide2.result
-    c.before.before.before.before.before.before.wide.ensures c.before.before.before.before.wide2.ensures) in (
+    let is : c.before.before.list_form.new.0 ≡ listed_words a.number l.pool p =
+    c.before.before.list_form.ensures
+    ∙ ap (listed_words a.number l.pool) (run_is a.coefficient.now a.monomial.now a.terms.now k c.before.before.before.before.before.before.wide-slot.result c.before.before.before.before.wide-size.result
+    c.before.before.before.before.before.before.wide-slot.ensures c.before.before.before.before.wide-size.ensures) in (
       omega arith,
       ap length is ∙ listed-length a.number l.pool p ∙ l.invariant.1,
       ap (λ (w : List ℕ). all_listed a.number w rest) is
@@ -71,7 +71,7 @@ loop-again c =
 returns : tie.Need-returns invariant-loop decreases-loop
 unfolding all_listed
 returns c =
-    let l = c.before.loop in
+    let l = c.before.loop-i in
     let a = c.before.before.before.before.before.before.args in
     sym (ap (all_listed a.number l.pool) (forms-end a.coefficient.now a.monomial.now a.terms.now a.order.now a.count l.i (omega arith)))
     ∙ l.invariant.2
@@ -80,4 +80,4 @@ pub list_forms_spec : {M : Type 1} → statement M
 list_forms_spec =
     tie.close
     (tie.spec invariant-loop decreases-loop loop-holds (λ c. omega (arith, c.before.before.before.before.before.before.before.requires.3.there)) (λ c κs. tt) (λ c. omega arith) shared-slice-read-wide-2 (λ c κs. tt)
-    mul-list-form list-form-requires (λ c. omega arith) loop-again (λ c. c.before.loop.invariant.1) returns)
+    mul-list-form list-form-requires (λ c. omega arith) loop-again (λ c. c.before.loop-i.invariant.1) returns)

@@ -16,72 +16,72 @@ use Rattle.pool.proofs.Listings.{forms_left, forms-cons, forms-end, run_is, run_
 use Rattle.pool.proofs.new_forms.Statement.{statement}
 use Rattle.pool.proofs.new_forms.Tie as tie
 
-abbrev invariant-loop : tie.invariant-loop
+abbrev invariant-loop : tie.invariant-loop-i
 invariant-loop pool coefficient monomial terms order count total₀ i₀ total i =
     (i ≤ count) × (total ≤ i)
     × (total + new_forms (forms_in_use (slots_of pool)) (forms_left coefficient monomial terms order count i)
     ≡ new_forms (forms_in_use (slots_of pool)) (forms_in coefficient monomial terms (numbers_from order 0 count)))
 
-abbrev decreases-loop : tie.decreases-loop
+abbrev decreases-loop : tie.decreases-loop-i
 decreases-loop pool coefficient monomial terms order count total₀ i₀ total i = count - i
 
-loop-holds : tie.Need-loop-init invariant-loop decreases-loop
+loop-holds : tie.Need-loop-i-init invariant-loop decreases-loop
 loop-holds c = (omega arith, omega arith, simp sub-zero (omega arith))
 
-shared-slice-read-wide-2 : tie.Need-shared-slice-read-wide-2 invariant-loop decreases-loop
+shared-slice-read-wide-2 : tie.Need-bounds-terms-slot invariant-loop decreases-loop
 shared-slice-read-wide-2 c =
     let s = c.before.before.before.before.before.before.before.before.before in
-    omega (arith, c.before.wide.ensures, s.requires.1.below c.before.before.before.before.loop.i (omega arith), s.requires.0.counts)
+    omega (arith, c.before.wide-slot.ensures, s.requires.1.below c.before.before.before.before.loop-i.i (omega arith), s.requires.0.counts)
 
 mul-find : tie.Need-overflow-mul-find invariant-loop decreases-loop
 mul-find c =
     let s = c.before.before.before.before.before.before.before.before.before.before in
-    omega (arith, c.before.before.wide.ensures, s.requires.1.below c.before.before.before.before.before.loop.i (omega arith))
+    omega (arith, c.before.before.wide-slot.ensures, s.requires.1.below c.before.before.before.before.before.loop-i.i (omega arith))
 
 find-requires : tie.Need-find-requires invariant-loop decreases-loop
 find-requires c κs =
     let s = c.before.before.before.before.before.before.before.before.before.before in
     let a = s.args in
-    let l = c.before.before.before.before.before.loop in
-    run_room a.coefficient.now a.monomial.now a.terms.now (get_or a.order.now l.i 0) c.before.before.wide.result c.wide2.result
-    s.requires.0 (s.requires.1.below l.i (omega arith)) c.before.before.wide.ensures c.wide2.ensures
+    let l = c.before.before.before.before.before.loop-i in
+    run_room a.coefficient.now a.monomial.now a.terms.now (get_or a.order.now l.i 0) c.before.before.wide-slot.result c.wide-size.result
+    s.requires.0 (s.requires.1.below l.i (omega arith)) c.before.before.wide-slot.ensures c.wide-size.ensures
 
-loop-again : tie.Need-loop-preserved invariant-loop decreases-loop
+loop-again : tie.Need-loop-i-preserved-then-find-eq128 invariant-loop decreases-loop
 loop-again c =
     let a = c.before.before.before.before.before.before.before.before.before.before.before.before.args in
-    let l = c.before.before.before.before.before.before.before.loop in
+    let l = c.before.before.before.before.before.before.before.loop-i in
     let k : ℕ = get_or a.order.now l.i 0 in
     let p : Polynomial = slot_of a.coefficient.now a.monomial.now a.terms.now k in
     let rest : List Polynomial = forms_left a.coefficient.now a.monomial.now a.terms.now a.order.now a.count (l.i + 1) in
     let found : c.before.find.result ≡ first_place (stores p) (slots_of a.pool.now) =
     c.before.find.ensures
     ∙ ap (λ (q : Polynomial). first_place (stores q) (slots_of a.pool.now)) (run_is a.coefficient.now a.monomial.now a.terms.now k
-    c.before.before.before.before.wide.result c.before.before.wide2.result c.before.before.before.before.wide.ensures c.before.before.wide2.ensures) in
+    c.before.before.before.before.wide-slot.result c.before.before.wide-size.result c.before.before.before.before.wide-slot.ensures c.before.before.wide-size.ensures) in
     let step = ap (new_forms (forms_in_use (slots_of a.pool.now)))
     (forms-cons a.coefficient.now a.monomial.now a.terms.now a.order.now a.count l.i (omega arith))
-    ∙ one-new a.pool.now p rest c.before.find.result found c.if1.true in
+    ∙ one-new a.pool.now p rest c.before.find.result found c.if-find-eq128.true in
     (omega arith, omega arith, omega (arith, l.invariant.2, step))
 
-loop-again-2 : tie.Need-loop-preserved-2 invariant-loop decreases-loop
+loop-again-2 : tie.Need-loop-i-preserved invariant-loop decreases-loop
 loop-again-2 c =
     let a = c.before.before.before.before.before.before.before.before.before.before.before.before.args in
-    let l = c.before.before.before.before.before.before.before.loop in
+    let l = c.before.before.before.before.before.before.before.loop-i in
     let k : ℕ = get_or a.order.now l.i 0 in
     let p : Polynomial = slot_of a.coefficient.now a.monomial.now a.terms.now k in
     let rest : List Polynomial = forms_left a.coefficient.now a.monomial.now a.terms.now a.order.now a.count (l.i + 1) in
     let found : c.before.find.result ≡ first_place (stores p) (slots_of a.pool.now) =
     c.before.find.ensures
     ∙ ap (λ (q : Polynomial). first_place (stores q) (slots_of a.pool.now)) (run_is a.coefficient.now a.monomial.now a.terms.now k
-    c.before.before.before.before.wide.result c.before.before.wide2.result c.before.before.before.before.wide.ensures c.before.before.wide2.ensures) in
+    c.before.before.before.before.wide-slot.result c.before.before.wide-size.result c.before.before.before.before.wide-slot.ensures c.before.before.wide-size.ensures) in
     let step = ap (new_forms (forms_in_use (slots_of a.pool.now)))
     (forms-cons a.coefficient.now a.monomial.now a.terms.now a.order.now a.count l.i (omega arith))
-    ∙ one_known a.pool.now p rest c.before.find.result found c.if1.false in
+    ∙ one_known a.pool.now p rest c.before.find.result found c.if-find-eq128.false in
     (omega arith, omega arith, omega (arith, l.invariant.2, step))
 
 returns : tie.Need-returns invariant-loop decreases-loop
 unfolding new_forms
 returns c =
-    let l = c.before.loop in
+    let l = c.before.loop-i in
     let a = c.before.before.before.before.before.before.args in
     let none = ap (new_forms (forms_in_use (slots_of a.pool.now))) (forms-end a.coefficient.now a.monomial.now a.terms.now a.order.now a.count l.i (omega arith)) in
     (omega (arith, l.invariant.2, none), omega arith)

@@ -10,16 +10,16 @@ use Rattle.pool.proofs.Walks.{unlist-step, unlist-end}
 use Rattle.pool.proofs.unlist_all.Statement.{statement}
 use Rattle.pool.proofs.unlist_all.Tie as tie
 
-abbrev invariant-loop : tie.invariant-loop
+abbrev invariant-loop : tie.invariant-loop-slot
 invariant-loop pool₀ number slot₀ pool slot =
     (slot ≤ 128) × (length pool ≡ length pool₀) × (all_unlisted number pool slot (128 - slot) ≡ all_unlisted number pool₀ 0 128)
 
-abbrev decreases-loop : tie.decreases-loop
+abbrev decreases-loop : tie.decreases-loop-slot
 decreases-loop pool₀ number slot₀ pool slot = 128 - slot
 
-loop-again : tie.Need-loop-preserved invariant-loop decreases-loop
+loop-again : tie.Need-loop-slot-preserved invariant-loop decreases-loop
 loop-again c =
-    let l = c.before.before.before.before.before.loop in
+    let l = c.before.before.before.before.before.loop-slot in
     let a = c.before.before.before.before.before.before.before.args in
     let is = c.before.before.unlist.ensures in (
       omega arith,
@@ -29,12 +29,12 @@ loop-again c =
 
 returns : tie.Need-returns invariant-loop decreases-loop
 returns c =
-    let l = c.before.loop in
+    let l = c.before.loop-slot in
     sym (unlist-end c.before.before.before.args.number l.pool l.slot (omega arith)) ∙ l.invariant.2
 
 pub unlist_all_spec : {M : Type 1} → statement M
 unlist_all_spec =
     tie.close
     (tie.spec invariant-loop decreases-loop (λ c. (omega arith, refl, refl)) (λ c. omega arith) (λ c. omega arith) (λ c. omega arith)
-    (λ c κs. let s = c.before.before.before.before in (omega (arith, c.before.before.loop.invariant.1, s.requires.0), s.requires.1))
-    (λ c. omega arith) loop-again (λ c. c.before.loop.invariant.1) returns)
+    (λ c κs. let s = c.before.before.before.before in (omega (arith, c.before.before.loop-slot.invariant.1, s.requires.0), s.requires.1))
+    (λ c. omega arith) loop-again (λ c. c.before.loop-slot.invariant.1) returns)

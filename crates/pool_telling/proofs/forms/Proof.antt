@@ -4,10 +4,10 @@ use Prim.Native.Nat.{◌-◌, ◌≤◌}
 use Rattle.pool_telling.proofs.forms.Statement.{statement}
 use Rattle.pool_telling.proofs.forms.Tie as tie
 
-abbrev invariant-loop : tie.invariant-loop
+abbrev invariant-loop : tie.invariant-loop-slot
 invariant-loop words total₀ slot₀ total slot = (slot ≤ 128) × (total ≤ slot)
 
-abbrev decreases-loop : tie.decreases-loop
+abbrev decreases-loop : tie.decreases-loop-slot
 decreases-loop words total₀ slot₀ total slot = 128 - slot
 
 pub forms_spec : {M : Type 1} → statement M

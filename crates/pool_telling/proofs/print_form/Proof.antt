@@ -4,10 +4,10 @@ use Prim.Native.Nat.{◌-◌}
 use Rattle.pool_telling.proofs.print_form.Statement.{statement}
 use Rattle.pool_telling.proofs.print_form.Tie as tie
 
-abbrev invariant-loop : tie.invariant-loop
+abbrev invariant-loop : tie.invariant-loop-i
 invariant-loop words slot variables count i₀ i = Unit {0}
 
-abbrev decreases-loop : tie.decreases-loop
+abbrev decreases-loop : tie.decreases-loop-i
 decreases-loop words slot variables count i₀ i = 16 - i
 
 pub print_form_spec : {M : Type 1} → statement M

@@ -4,10 +4,10 @@ use Prim.Native.Nat.{◌-◌}
 use Rattle.pool_telling.proofs.print_slots.Statement.{statement}
 use Rattle.pool_telling.proofs.print_slots.Tie as tie
 
-abbrev invariant-loop : tie.invariant-loop
+abbrev invariant-loop : tie.invariant-loop-slot
 invariant-loop words slot₀ slot = Unit {0}
 
-abbrev decreases-loop : tie.decreases-loop
+abbrev decreases-loop : tie.decreases-loop-slot
 decreases-loop words slot₀ slot = 128 - slot
 
 pub print_slots_spec : {M : Type 1} → statement M

@@ -5,10 +5,10 @@ use borrow.Author.Rules.{rules}
 use Rattle.printing.proofs.begins.Statement.{statement}
 use Rattle.printing.proofs.begins.Tie as tie
 
-abbrev invariant-loop : tie.invariant-loop
+abbrev invariant-loop : tie.invariant-loop-i
 invariant-loop bytes length word i₀ i = Unit {0}
 
-abbrev decreases-loop : tie.decreases-loop
+abbrev decreases-loop : tie.decreases-loop-i
 decreases-loop bytes length word i₀ i = length - i
 
 pub begins_spec : {M : Type 1} → statement M

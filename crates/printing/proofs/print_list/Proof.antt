@@ -5,10 +5,10 @@ use borrow.Author.Rules.{rules}
 use Rattle.printing.proofs.print_list.Statement.{statement}
 use Rattle.printing.proofs.print_list.Tie as tie
 
-abbrev invariant-loop : tie.invariant-loop
+abbrev invariant-loop : tie.invariant-loop-i
 invariant-loop places count i₀ t6 t7 i = Unit {0}
 
-abbrev decreases-loop : tie.decreases-loop
+abbrev decreases-loop : tie.decreases-loop-i
 decreases-loop places count i₀ t6 t7 i = count - i
 
 pub print_list_spec : {M : Type 1} → statement M

@@ -5,9 +5,9 @@ use lib.Seq.{length-take-le}
 use Rattle.read_vectors.proofs.one.Statement.{statement}
 use Rattle.read_vectors.proofs.one.Tie as tie
 
-slice-aggregate-read : tie.Need-slice-aggregate-read
+slice-aggregate-read : tie.Need-slice_bounds-read-end-in-Block
 slice-aggregate-read c =
-    let read = c.before.before.before.before.before.next in
+    let read = c.before.before.before.before.before.next-frame in
     sym (length-take-le read.result.length read.new.0 read.ensures.0)
 
 pub one_spec : {M : Type 1} → statement M

@@ -5,10 +5,10 @@ use lib.ListN.{length}
 use Rattle.readings.proofs.is_whole.Statement.{statement}
 use Rattle.readings.proofs.is_whole.Tie as tie
 
-abbrev invariant-loop : tie.invariant-loop
+abbrev invariant-loop : tie.invariant-loop-i
 invariant-loop word i₀ i = Unit {0}
 
-abbrev decreases-loop : tie.decreases-loop
+abbrev decreases-loop : tie.decreases-loop-i
 decreases-loop word i₀ i = length word - i
 
 pub is_whole_spec : {M : Type 1} → statement M

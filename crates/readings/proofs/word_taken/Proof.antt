@@ -6,14 +6,14 @@ use lib.ListN.{length}
 use Rattle.readings.proofs.word_taken.Statement.{statement}
 use Rattle.readings.proofs.word_taken.Tie as tie
 
-abbrev invariant-loop : tie.invariant-loop
+abbrev invariant-loop : tie.invariant-loop-i
 invariant-loop word numbers₀ next₀ i₀ numbers next i = length numbers ≡ length numbers₀
 
-abbrev decreases-loop : tie.decreases-loop
+abbrev decreases-loop : tie.decreases-loop-i
 decreases-loop word numbers₀ next₀ i₀ numbers next i = length word - i
 
 pub word_taken_spec : {M : Type 1} → statement M
 word_taken_spec =
     tie.close
-    (tie.spec invariant-loop decreases-loop (λ c. refl) (λ c. omega arith) (λ c κs. tt) (λ c. omega arith) (λ c. omega arith) (λ c. c.before.taken.auto.1.1.0 ∙ c.before.before.before.before.before.loop.invariant)
-    (λ c κs. tt) (λ c. c.before.taken2.auto.1.1.0 ∙ c.before.before.before.before.loop.invariant) (λ c. tt))
+    (tie.spec invariant-loop decreases-loop (λ c. refl) (λ c. omega arith) (λ c κs. tt) (λ c. omega arith) (λ c. omega arith) (λ c. c.before.taken-next.auto.1.1.0 ∙ c.before.before.before.before.before.loop-i.invariant)
+    (λ c κs. tt) (λ c. c.before.taken.auto.1.1.0 ∙ c.before.before.before.before.loop-i.invariant) (λ c. tt))

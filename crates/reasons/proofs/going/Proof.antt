@@ -14,17 +14,17 @@ use Rattle.reasons.proofs.going.Tie as tie
 abbrev table : tie.Start → Table
 table s = lent_table s.args.coefficient s.args.monomial s.args.terms s.args.variables
 
-with-places-requires : tie.Need-with-places-requires
+with-places-requires : tie.Need-with_places-requires
 with-places-requires c κs =
     let a = c.before.before.before.before.requires.1 in
-    row-long (c.before.leave-out.ensures a.tokens a.lists).lists
+    row-long (c.before.leave_out-named.ensures a.tokens a.lists).lists
 
 returns : tie.Need-returns
 unfolding made
 returns c l h =
     let s = c.before.before.before.before.before in
-    c.with-places.ensures _ (c.before.before.leave-out.ensures l h).lists
-    ∙ ap₂ (λ (set : ℕ) (named : List ℕ). record { kind = 4; set = set; place = 0; places = words_of named }) c.before.set-of.ensures
+    c.with_places.ensures _ (c.before.before.leave_out-named.ensures l h).lists
+    ∙ ap₂ (λ (set : ℕ) (named : List ℕ). record { kind = 4; set = set; place = 0; places = words_of named }) c.before.set_of.ensures
     (named-for (table s) s.args.state s.args.token l)
 
 pub going_spec : {M : Type 1} → statement M

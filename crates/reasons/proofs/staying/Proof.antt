@@ -6,13 +6,13 @@ use Rattle.reasons.specs.Records.{made}
 use Rattle.reasons.proofs.staying.Statement.{statement}
 use Rattle.reasons.proofs.staying.Tie as tie
 
-kept : tie.Need-returns
+kept : tie.Need-returns-then-set-own
 unfolding made kept_or_narrowed
-kept c = rw (eq-eqb _ _ c.before.if1.true) c.without-places.ensures
+kept c = rw (eq-eqb _ _ c.before.if-set-own.true) c.without_places.ensures
 
-narrowed : tie.Need-returns-2
+narrowed : tie.Need-returns
 unfolding made kept_or_narrowed
-narrowed c = rw (ne_eqb _ _ c.before.if1.false) c.without-places2.ensures
+narrowed c = rw (ne_eqb _ _ c.before.if-set-own.false) c.without_places-2.ensures
 
 pub staying_spec : {M : Type 1} → statement M
 staying_spec = tie.close (tie.spec (λ c κs. search rules) kept (λ c κs. search rules) narrowed)

@@ -11,42 +11,42 @@ use Rattle.reasons.proofs.Stepping.{Way, way-first, tells-staying, others-here, 
 use Rattle.reasons.proofs.told_at.Statement.{statement}
 use Rattle.reasons.proofs.told_at.Tie as tie
 
-abbrev invariant-loop : tie.invariant-loop
+abbrev invariant-loop : tie.invariant-loop-i
 invariant-loop coefficient monomial terms variables token list left state end own kept₀ i₀ kept i =
     (i ≤ end) × Way (table_of coefficient monomial terms variables) list left state token kept i
 
-abbrev decreases-loop : tie.decreases-loop
+abbrev decreases-loop : tie.decreases-loop-i
 decreases-loop coefficient monomial terms variables token list left state end own kept₀ i₀ kept i = end - i
 
-loop-holds : tie.Need-loop-init invariant-loop decreases-loop
+loop-holds : tie.Need-loop-i-init invariant-loop decreases-loop
 loop-holds c = (omega arith, way-first _ _ _ _ _ c.before.before.before.before.before.before.requires.1)
 
 add-i : tie.Need-overflow-add-i invariant-loop decreases-loop
-add-i c = let w = c.before.before.loop.invariant.1 in omega (arith, w.few, w.lists.size, c.before.loop-test.true)
+add-i c = let w = c.before.before.loop-i.invariant.1 in omega (arith, w.few, w.lists.size, c.before.loop-i-test.true)
 
 -- it is this one, and stays
-returns : tie.Need-returns invariant-loop decreases-loop
+returns : tie.Need-returns-then-stays invariant-loop decreases-loop
 returns c l h =
     let loop = c.before.before.before.before.before.before.before.before.before in
-    let w = loop.loop.invariant.1 in
-    let same = sym loop.before.place_of.ensures ∙ c.before.before.before.before.if1.true
-    ∙ c.before.before.before.before.before.place-of2.ensures in
+    let w = loop.loop-i.invariant.1 in
+    let same = sym loop.before.place_of-own.ensures ∙ c.before.before.before.before.if-own-place_of.true
+    ∙ c.before.before.before.before.before.place_of.ensures in
     c.staying.ensures
-    ∙ ap₂ (λ (set own : ℕ). made (kept_or_narrowed (eqb set own) set)) c.before.before.set-of.ensures c.before.set-of2.ensures
-    ∙ ap made (tells-staying _ _ _ _ _ w c.before.before.before.before.before.before.before.before.loop-test.true
-    c.before.before.before.before.before.before.is-next.ensures c.before.before.before.if2.true same h)
+    ∙ ap₂ (λ (set own : ℕ). made (kept_or_narrowed (eqb set own) set)) c.before.before.set_of.ensures c.before.set_of-then-stays.ensures
+    ∙ ap made (tells-staying _ _ _ _ _ w c.before.before.before.before.before.before.before.before.loop-i-test.true
+    c.before.before.before.before.before.before.is_next-stays.ensures c.before.before.before.if-stays.true same h)
 
 -- it is this one, and goes
-others-of-requires : tie.Need-others-of-requires invariant-loop decreases-loop
+others-of-requires : tie.Need-others_of-others-requires invariant-loop decreases-loop
 others-of-requires c κs =
-    let w = c.before.before.before.before.before.before.loop.invariant.1 in (
+    let w = c.before.before.before.before.before.before.loop-i.invariant.1 in (
       omega (arith, w.low, w.rest_lists.size),
       (
         row-long w.rest_lists,
         (
           omega (arith, w.back),
           (
-            omega (arith, c.before.before.before.before.before.loop-test.true),
+            omega (arith, c.before.before.before.before.before.loop-i-test.true),
             omega (arith, w.few, w.lists.size),
           ),
         ),
@@ -56,56 +56,56 @@ others-of-requires c κs =
 going-requires : tie.Need-going-requires invariant-loop decreases-loop
 going-requires c κs =
     let loop = c.before.before.before.before.before.before.before in
-    let w = loop.loop.invariant.1 in (
+    let w = loop.loop-i.invariant.1 in (
       loop.before.before.before.before.before.before.before.requires.0,
-      others-here _ _ _ _ _ w c.before.before.before.before.before.before.loop-test.true
-          c.before.before.before.before.is-next.ensures c.others-of.ensures c.before.if2.false,
+      others-here _ _ _ _ _ w c.before.before.before.before.before.before.loop-i-test.true
+          c.before.before.before.before.is_next-stays.ensures c.others_of-others.ensures c.before.if-stays.false,
     )
 
-returns-2 : tie.Need-returns-2 invariant-loop decreases-loop
+returns-2 : tie.Need-returns-then-own-place_of invariant-loop decreases-loop
 returns-2 c l h =
     let loop = c.before.before.before.before.before.before.before.before in
-    let w = loop.loop.invariant.1 in
-    let same = sym loop.before.place_of.ensures ∙ c.before.before.before.if1.true
-    ∙ c.before.before.before.before.place-of2.ensures in
-    c.going.ensures _ (c.before.others-of.ensures w.left w.carrying w.rest_lists w.lists)
-    ∙ ap made (tells-going _ _ _ _ _ w c.before.before.before.before.before.before.before.loop-test.true
-    c.before.before.before.before.before.is-next.ensures c.before.before.if2.false same h)
+    let w = loop.loop-i.invariant.1 in
+    let same = sym loop.before.place_of-own.ensures ∙ c.before.before.before.if-own-place_of.true
+    ∙ c.before.before.before.before.place_of.ensures in
+    c.going.ensures _ (c.before.others_of-others.ensures w.left-1 w.carrying w.rest_lists w.lists)
+    ∙ ap made (tells-going _ _ _ _ _ w c.before.before.before.before.before.before.before.loop-i-test.true
+    c.before.before.before.before.before.is_next-stays.ensures c.before.before.if-stays.false same h)
 
 -- it is another
 add_kept : tie.Need-overflow-add-kept invariant-loop decreases-loop
 add_kept c =
-    let w = c.before.before.before.before.before.before.loop.invariant.1 in
-    omega (arith, w.few, w.back, w.lists.size, c.before.before.before.before.before.loop-test.true)
+    let w = c.before.before.before.before.before.before.loop-i.invariant.1 in
+    omega (arith, w.few, w.back, w.lists.size, c.before.before.before.before.before.loop-i-test.true)
 
-loop-again : tie.Need-loop-preserved invariant-loop decreases-loop
+loop-again : tie.Need-loop-i-preserved-then-stays-2 invariant-loop decreases-loop
 loop-again c =
     let loop = c.before.before.before.before.before.before in (
       omega arith,
-      one-stays _ _ _ _ _ loop.loop.invariant.1 c.before.before.before.before.before.loop-test.true
-          c.before.before.before.is-next.ensures c.if3.true
-          (λ e. c.before.if1.false (loop.before.place_of.ensures ∙ e ∙ sym c.before.before.place-of2.ensures)),
+      one-stays _ _ _ _ _ loop.loop-i.invariant.1 c.before.before.before.before.before.loop-i-test.true
+          c.before.before.before.is_next-stays.ensures c.if-stays-2.true
+          (λ e. c.before.if-own-place_of.false (loop.before.place_of-own.ensures ∙ e ∙ sym c.before.before.place_of.ensures)),
     )
 
-loop-again-2 : tie.Need-loop-preserved-2 invariant-loop decreases-loop
+loop-again-2 : tie.Need-loop-i-preserved invariant-loop decreases-loop
 loop-again-2 c =
     let loop = c.before.before.before.before.before.before in (
       omega arith,
-      one-goes _ _ _ _ _ loop.loop.invariant.1 c.before.before.before.before.before.loop-test.true
-          c.before.before.before.is-next.ensures c.if3.false
-          (λ e. c.before.if1.false (loop.before.place_of.ensures ∙ e ∙ sym c.before.before.place-of2.ensures)),
+      one-goes _ _ _ _ _ loop.loop-i.invariant.1 c.before.before.before.before.before.loop-i-test.true
+          c.before.before.before.is_next-stays.ensures c.if-stays-2.false
+          (λ e. c.before.if-own-place_of.false (loop.before.place_of-own.ensures ∙ e ∙ sym c.before.before.place_of.ensures)),
     )
 
 -- it is none of them
-returns-3 : tie.Need-returns-3 invariant-loop decreases-loop
+returns-3 : tie.Need-returns invariant-loop decreases-loop
 unfolding made words_of words_from
-returns-3 c l h = c.without-places.ensures ∙ ap made (tells_none _ _ _ _ _ c.before.before.loop.invariant.1 c.before.loop-test.false h)
+returns-3 c l h = c.without_places.ensures ∙ ap made (tells_none _ _ _ _ _ c.before.before.loop-i.invariant.1 c.before.loop-i-test.false h)
 
 pub told_at_spec : {M : Type 1} → statement M
 told_at_spec =
     tie.close
     (tie.spec invariant-loop decreases-loop (λ c κs. tt) loop-holds
-    (λ c. let w = c.before.loop.invariant.1 in omega (arith, w.few, w.lists.size, c.loop-test.true))
-    (λ c. let w = c.before.loop.invariant.1 in omega (arith, w.few, w.lists.size, c.loop-test.true)) add-i
-    (λ c κs. row-long c.before.before.loop.invariant.1.rest_lists) (λ c κs. tt) (λ c κs. tt) (λ c κs. tt)
+    (λ c. let w = c.before.loop-i.invariant.1 in omega (arith, w.few, w.lists.size, c.loop-i-test.true))
+    (λ c. let w = c.before.loop-i.invariant.1 in omega (arith, w.few, w.lists.size, c.loop-i-test.true)) add-i
+    (λ c κs. row-long c.before.before.loop-i.invariant.1.rest_lists) (λ c κs. tt) (λ c κs. tt) (λ c κs. tt)
     (λ c κs. tt) returns others-of-requires going-requires returns-2 add_kept (λ c. omega arith) loop-again (λ c. omega arith) loop-again-2 (λ c κs. tt) returns-3)

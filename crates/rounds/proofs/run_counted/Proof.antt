@@ -5,4 +5,4 @@ use Rattle.rounds.proofs.run_counted.Statement.{statement}
 use Rattle.rounds.proofs.run_counted.Tie as tie
 
 pub run_counted_spec : {M : Type 1} → statement M
-run_counted_spec = tie.close (tie.spec (λ c κs. search rules) (λ c. counted-alone c.before.run-largest.ensures))
+run_counted_spec = tie.close (tie.spec (λ c κs. search rules) (λ c. counted-alone c.before.run_largest-ran.ensures))

@@ -7,10 +7,10 @@ use lib.ListN.{length}
 use Rattle.rounds_vectors.proofs.list_of.Statement.{statement}
 use Rattle.rounds_vectors.proofs.list_of.Tie as tie
 
-abbrev invariant-loop : tie.invariant-loop
+abbrev invariant-loop : tie.invariant-loop-i
 invariant-loop token tokens number₀ set₀ i₀ number set i = (length number ≡ 64) × (length set ≡ 64)
 
-abbrev decreases-loop : tie.decreases-loop
+abbrev decreases-loop : tie.decreases-loop-i
 decreases-loop token tokens number₀ set₀ i₀ number set i = 64 - i
 
 pub list_of_spec : {M : Type 1} → statement M

@@ -4,8 +4,8 @@ use Rattle.rounds_vectors.proofs.Left.{left}
 use Rattle.rounds_vectors.proofs.tell.Statement.{statement}
 use Rattle.rounds_vectors.proofs.tell.Tie as tie
 
-tell-rounds-requires : tie.Need-tell-rounds-requires
-tell-rounds-requires c κs = rw c.before.before.read.ensures (left _)
+tell-rounds-requires : tie.Need-tell_rounds-requires
+tell-rounds-requires c κs = rw c.before.before.read-outcome.ensures (left _)
 
 pub tell_spec : {M : Type 1} → statement M
 tell_spec =

@@ -4,11 +4,11 @@ use Rattle.settled.specs.Ends.{ends-settled}
 use Rattle.rounds_vectors.proofs.tell_rounds.Statement.{statement}
 use Rattle.rounds_vectors.proofs.tell_rounds.Tie as tie
 
-tell-state-requires : tie.Need-tell-state-requires
+tell-state-requires : tie.Need-tell_state-requires
 tell-state-requires c κs =
     let s = c.before.before.before.before.before.before.before.before.before.before.before.before.before.before.before.before.before.before in
-    let ran = c.before.before.before.run-counted.ensures in
-    (search rules, (ran.variables, (ran.atoms, ends-settled s.args.held.variables _ ran.outcome c.if1.false)))
+    let ran = c.before.before.before.run_counted-ran.ensures in
+    (search rules, (ran.variables, (ran.atoms, ends-settled s.args.held.variables _ ran.outcome c.if-ran.false)))
 
 pub tell_rounds_spec : {M : Type 1} → statement M
 tell_rounds_spec =

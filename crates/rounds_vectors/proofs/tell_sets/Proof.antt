@@ -5,10 +5,10 @@ use native.Mathlib.Omega.{arith}
 use Rattle.rounds_vectors.proofs.tell_sets.Statement.{statement}
 use Rattle.rounds_vectors.proofs.tell_sets.Tie as tie
 
-abbrev invariant-loop : tie.invariant-loop
+abbrev invariant-loop : tie.invariant-loop-i
 invariant-loop sets count i₀ i = Unit {0}
 
-abbrev decreases-loop : tie.decreases-loop
+abbrev decreases-loop : tie.decreases-loop-i
 decreases-loop sets count i₀ i = count - i
 
 pub tell_sets_spec : {M : Type 1} → statement M

@@ -9,15 +9,15 @@ use Rattle.script.proofs.script.Tie as tie
 answered-requires : tie.Need-answered-requires
 answered-requires c κs =
     let chosen = c.before in
-    found-read chosen.before.before.before.before.before.before.read-into.ensures chosen.enum_told.given.1
+    found-read chosen.before.before.before.before.before.before.read_into-contents.ensures chosen.enum_told-1.given.1
 
-returns : tie.Need-returns
+returns : tie.Need-returns-in-Refused
 unfolding script_answer
 returns c =
     let chosen = c.before in
-    tells-refused _ (simplified-refused _ (found-refused chosen.before.before.before.before.before.before.read-into.ensures chosen.contents.given.1))
+    tells-refused _ (simplified-refused _ (found-refused chosen.before.before.before.before.before.before.read_into-contents.ensures chosen.contents-1.given.1))
 
-returns-2 : tie.Need-returns-2
+returns-2 : tie.Need-returns-in-Numbers
 unfolding script_answer
 returns-2 c = c.before.before.answered.ensures
 

@@ -5,17 +5,17 @@ use Rattle.script.specs.Entry.{tells-long, tells-script, measured}
 use Rattle.script.proofs.told.Statement.{statement}
 use Rattle.script.proofs.told.Tie as tie
 
-too_long : tie.Need-returns
+too_long : tie.Need-returns-then-text-length
 too_long c block stands =
     let measuring = c.before.before in
-    tells-long block _ (omega (arith, measured block (measuring.put-script.ensures block stands), c.if1.true))
+    tells-long block _ (omega (arith, measured block (measuring.put_script-length.ensures block stands), c.if-text-length.true))
 
-fits : tie.Need-returns-2
+fits : tie.Need-returns
 fits c block stands =
     let writing = c.before.before in
     let tested = writing.before.before in
-    let size = measured block (tested.before.before.put-script.ensures block stands) in
-    tells-script block _ size (omega (arith, size, tested.if1.false)) (writing.put-script2.ensures block stands)
+    let size = measured block (tested.before.before.put_script-length.ensures block stands) in
+    tells-script block _ size (omega (arith, size, tested.if-text-length.false)) (writing.put_script.ensures block stands)
 
 pub told_spec : {M : Type 1} → statement M
 told_spec =

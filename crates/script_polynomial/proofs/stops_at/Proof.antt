@@ -5,11 +5,11 @@ use Rattle.script_polynomial.proofs.Pieces.{some_read, stops-full}
 use Rattle.script_polynomial.proofs.stops_at.Statement.{statement}
 use Rattle.script_polynomial.proofs.stops_at.Tie as tie
 
-longest-requires : tie.Need-longest-requires
+longest-requires : tie.Need-longest-reach-requires
 longest-requires c κs = let s = c.before.before.before.before in (s.requires.1, some_read s.requires.0)
 
-returns-2 : tie.Need-returns-2
-returns-2 c = stops-full _ _ _ _ _ _ _ c.before.longest.ensures c.before.before.if1.false c.smaller-of.ensures
+returns-2 : tie.Need-returns
+returns-2 c = stops-full _ _ _ _ _ _ _ c.before.longest-reach.ensures c.before.before.if-known-lt64.false c.smaller_of.ensures
 
 pub stops_at_spec : {M : Type 1} → statement M
 stops_at_spec = tie.close (tie.spec (λ c. search rules) longest-requires (λ c κs. search rules) returns-2)

@@ -28,39 +28,39 @@ pub +put-declarations-spec : {M : Type 1} → statement M
     close μ-declarations λ t.
     declarations-lts.spec (bytes-reads.Asked, bytes-reads.Learnt, byte-Reads.Asked, byte-Reads.Learnt, declarations-below t, declarations.Post)
     (declarations-at t) declarations.Post
-    (λ c. declarations-none _ _ c.if1.true)
+    (λ c. declarations-none _ _ c.if-count-eq0.true)
     (λ c. refl)
-    (λ c κs. fits-first (declarations-more _ _ c.before.before.if1.false) c.before.before.before.before.requires.1.1)
+    (λ c κs. fits-first (declarations-more _ _ c.before.before.if-count-eq0.false) c.before.before.before.before.requires.1.1)
     (λ c. let s = c.before.before.before.before.before.before.before.before in record { fits = omega (arith, s.requires.1.0) })
     (λ c κs.
     let first = c.before.before.before in
     let s = first.before.before.before.before.before in
-    fits-first two_runs (fits-second (declarations-more _ _ first.before.before.before.if1.false) s.requires.1.1 first.put-bytes.ensures))
+    fits-first two_runs (fits-second (declarations-more _ _ first.before.before.before.if-count-eq0.false) s.requires.1.1 first.put_bytes-letter.ensures))
     (λ c. refl)
     (λ c κs.
     let letter = c.before.before.before.before in
     let first = letter.before.before.before.before in
     let s = first.before.before.before.before.before in
     fits-first two_runs (fits-second two_runs
-    (fits-second (declarations-more _ _ first.before.before.before.if1.false) s.requires.1.1 first.put-bytes.ensures) letter.put_byte.ensures))
+    (fits-second (declarations-more _ _ first.before.before.before.if-count-eq0.false) s.requires.1.1 first.put_bytes-letter.ensures) letter.put_byte-rest.ensures))
     (λ c.
     let first = c.before.before.before.before.before.before.before.before.before.before.before.before in
     let s = first.before.before.before.before.before in
     record { fits = omega (arith, s.requires.1.0) })
     (λ c.
     let first = c.before.before.before.before.before.before.before.before.before.before.before.before in
-    omega (arith, first.before.before.before.if1.false))
+    omega (arith, first.before.before.before.if-count-eq0.false))
     (λ c κs.
     let last = c.before.before.before in
     let letter = last.before.before.before.before.before in
     let first = letter.before.before.before.before in
     let s = first.before.before.before.before.before in (
-      omega (arith, first.before.before.before.if1.false),
+      omega (arith, first.before.before.before.if-count-eq0.false),
       (
-        omega (arith, s.requires.1.0, first.before.before.before.if1.false),
+        omega (arith, s.requires.1.0, first.before.before.before.if-count-eq0.false),
         fits-second two_runs (fits-second two_runs
-            (fits-second (declarations-more _ _ first.before.before.before.if1.false) s.requires.1.1 first.put-bytes.ensures) letter.put_byte.ensures)
-            last.put-bytes2.ensures,
+            (fits-second (declarations-more _ _ first.before.before.before.if-count-eq0.false) s.requires.1.1 first.put_bytes-letter.ensures) letter.put_byte-rest.ensures)
+            last.put_bytes-next.ensures,
       ),
     ))
     (λ c.
@@ -68,11 +68,11 @@ pub +put-declarations-spec : {M : Type 1} → statement M
     let last = others.before.before.before.before in
     let letter = last.before.before.before.before.before in
     let first = letter.before.before.before.before in
-    others.put-declarations.auto.0 ∙ last.put-bytes2.auto.0 ∙ letter.put_byte.auto.0 ∙ first.put-bytes.auto.0)
+    others.put_declarations.auto.0 ∙ last.put_bytes-next.auto.0 ∙ letter.put_byte-rest.auto.0 ∙ first.put_bytes-letter.auto.0)
     (λ c.
     let others = c.before.before in
     let last = others.before.before.before.before in
     let letter = last.before.before.before.before.before in
     let first = letter.before.before.before.before in
-    wrote-split (declarations-more _ _ first.before.before.before.if1.false) first.put-bytes.ensures
-    (wrote-split two_runs letter.put_byte.ensures (wrote-split two_runs last.put-bytes2.ensures others.put-declarations.ensures)))
+    wrote-split (declarations-more _ _ first.before.before.before.if-count-eq0.false) first.put_bytes-letter.ensures
+    (wrote-split two_runs letter.put_byte-rest.ensures (wrote-split two_runs last.put_bytes-next.ensures others.put_declarations.ensures)))

@@ -30,63 +30,63 @@ pub +put-parts-spec : {M : Type 1} → statement M
     close μ-parts λ t.
     parts-lts.spec (byte-Reads.Asked, byte-Reads.Learnt, atom-reads.Asked, atom-reads.Learnt, parts_below t, parts.Post, join-reads.Asked, join-reads.Learnt)
     (parts_at t) parts.Post
-    (λ c. parts_none _ _ _ _ _ _ _ _ c.if1.true)
-    (λ c. omega (arith, first-there c.before.before.before.before.before.requires.1 c.if1.false))
-    (λ c. first-there c.before.before.before.before.before.before.requires.1 c.before.if1.false)
-    (λ c κs. any-space c.before.before.before.before.before.before.before.requires.1 c.before.before.if1.false)
+    (λ c. parts_none _ _ _ _ _ _ _ _ c.if-count-eq0.true)
+    (λ c. omega (arith, first-there c.before.before.before.before.before.requires.1 c.if-count-eq0.false))
+    (λ c. first-there c.before.before.before.before.before.before.requires.1 c.before.if-count-eq0.false)
+    (λ c κs. any-space c.before.before.before.before.before.before.before.requires.1 c.before.before.if-count-eq0.false)
     (λ c κs.
     let space = c.before.before.before.before in
     let s = space.before.before.before.before.before.before.before.before in
-    atom-asks s.requires.1 space.before.before.before.if1.false c.before.if2.true space.put_byte.ensures)
+    atom-asks s.requires.1 space.before.before.before.if-count-eq0.false c.before.if-first-lt-JOIN.true space.put_byte-start.ensures)
     (λ c.
     let space = c.before.before.before.before.before.before.before.before in
-    omega (arith, first-there space.before.before.before.before.before.before.before.before.requires.1 space.before.before.before.if1.false))
-    (λ c. let space = c.before.before.before.before.before.before.before.before in omega (arith, space.before.before.before.if1.false))
+    omega (arith, first-there space.before.before.before.before.before.before.before.before.requires.1 space.before.before.before.if-count-eq0.false))
+    (λ c. let space = c.before.before.before.before.before.before.before.before in omega (arith, space.before.before.before.if-count-eq0.false))
     (λ c κs.
     let first = c.before.before.before in
     let space = first.before.before.before.before.before in
     let s = space.before.before.before.before.before.before.before.before in (
-      omega (arith, first-there s.requires.1 space.before.before.before.if1.false),
-      after-atom s.requires.1 space.before.before.before.if1.false first.before.before.if2.true space.put_byte.ensures first.put-atom.ensures,
+      omega (arith, first-there s.requires.1 space.before.before.before.if-count-eq0.false),
+      after-atom s.requires.1 space.before.before.before.if-count-eq0.false first.before.before.if-first-lt-JOIN.true space.put_byte-start.ensures first.put_atom-next.ensures,
     ))
     (λ c.
     let others = c.before.before in
     let first = others.before.before.before.before in
     let space = first.before.before.before.before.before in
-    others.put-parts.auto.0 ∙ first.put-atom.auto.0 ∙ space.put_byte.auto.0)
+    others.put_parts.auto.0 ∙ first.put_atom-next.auto.0 ∙ space.put_byte-start.auto.0)
     (λ c.
     let others = c.before.before in
     let first = others.before.before.before.before in
     let space = first.before.before.before.before.before in
-    parts-atom _ _ _ _ _ _ _ _ space.before.before.before.if1.false space.put_byte.ensures first.before.before.if2.true first.put-atom.ensures
-    others.put-parts.ensures)
+    parts-atom _ _ _ _ _ _ _ _ space.before.before.before.if-count-eq0.false space.put_byte-start.ensures first.before.before.if-first-lt-JOIN.true first.put_atom-next.ensures
+    others.put_parts.ensures)
     (λ c κs.
     let space = c.before.before.before.before in
-    fits-join space.before.before.before.before.before.before.before.before.requires.1 space.before.before.before.if1.false c.before.if2.false space.put_byte.ensures)
+    fits-join space.before.before.before.before.before.before.before.before.requires.1 space.before.before.before.if-count-eq0.false c.before.if-first-lt-JOIN.false space.put_byte-start.ensures)
     (λ c.
     let space = c.before.before.before.before.before.before.before.before in
-    omega (arith, first-there space.before.before.before.before.before.before.before.before.requires.1 space.before.before.before.if1.false))
+    omega (arith, first-there space.before.before.before.before.before.before.before.before.requires.1 space.before.before.before.if-count-eq0.false))
     (λ c.
     let space = c.before.before.before.before.before.before.before.before in
-    omega (arith, space.before.before.shared-slice-known4.given space.before.before.before.before.before.before.before.before.args.k))
+    omega (arith, space.before.before.shared_slice_known-4-1.given space.before.before.before.before.before.before.before.before.args.k))
     (λ c.
     let space = c.before.before.before.before.before.before.before.before in
-    kind_fits space.before.before.before.before.before.before.before.before.requires.1 space.before.before.before.if1.false c.before.before.before.before.before.if2.false)
+    kind_fits space.before.before.before.before.before.before.before.before.requires.1 space.before.before.before.if-count-eq0.false c.before.before.before.before.before.if-first-lt-JOIN.false)
     (λ c κs.
     let join = c.before.before.before in
     let space = join.before.before.before.before.before in
     let s = space.before.before.before.before.before.before.before.before in (
-      omega (arith, first-there s.requires.1 space.before.before.before.if1.false),
-      inside-join s.requires.1 space.before.before.before.if1.false join.before.before.if2.false space.put_byte.ensures join.put-join.ensures,
+      omega (arith, first-there s.requires.1 space.before.before.before.if-count-eq0.false),
+      inside-join s.requires.1 space.before.before.before.if-count-eq0.false join.before.before.if-first-lt-JOIN.false space.put_byte-start.ensures join.put_join-kids.ensures,
     ))
     (λ c κs.
     let inner = c.before.before.before in
     let join = inner.before.before.before.before in
     let space = join.before.before.before.before.before in
-    fits-end space.before.before.before.before.before.before.before.before.requires.1 space.before.before.before.if1.false join.before.before.if2.false space.put_byte.ensures join.put-join.ensures inner.put-parts2.ensures)
+    fits-end space.before.before.before.before.before.before.before.before.requires.1 space.before.before.before.if-count-eq0.false join.before.before.if-first-lt-JOIN.false space.put_byte-start.ensures join.put_join-kids.ensures inner.put_parts-inner.ensures)
     (λ c.
     let space = c.before.before.before.before.before.before.before.before.before.before.before.before.before.before.before.before in
-    omega (arith, space.before.before.before.if1.false))
+    omega (arith, space.before.before.before.if-count-eq0.false))
     (λ c κs.
     let end = c.before.before.before in
     let inner = end.before.before.before.before in
@@ -95,11 +95,11 @@ pub +put-parts-spec : {M : Type 1} → statement M
     let s = space.before.before.before.before.before.before.before.before in (
       omega (
         arith,
-        first-there s.requires.1 space.before.before.before.if1.false,
-        further s.requires.1 space.before.before.before.if1.false join.before.before.if2.false space.put_byte.ensures join.put-join.ensures inner.put-parts2.ensures,
+        first-there s.requires.1 space.before.before.before.if-count-eq0.false,
+        further s.requires.1 space.before.before.before.if-count-eq0.false join.before.before.if-first-lt-JOIN.false space.put_byte-start.ensures join.put_join-kids.ensures inner.put_parts-inner.ensures,
       ),
-      after-join s.requires.1 space.before.before.before.if1.false join.before.before.if2.false space.put_byte.ensures join.put-join.ensures inner.put-parts2.ensures
-          end.put-byte2.ensures,
+      after-join s.requires.1 space.before.before.before.if-count-eq0.false join.before.before.if-first-lt-JOIN.false space.put_byte-start.ensures join.put_join-kids.ensures inner.put_parts-inner.ensures
+          end.put_byte-next.ensures,
     ))
     (λ c.
     let others = c.before.before in
@@ -107,12 +107,12 @@ pub +put-parts-spec : {M : Type 1} → statement M
     let inner = end.before.before.before.before in
     let join = inner.before.before.before.before in
     let space = join.before.before.before.before.before in
-    others.put-parts3.auto.0 ∙ end.put-byte2.auto.0 ∙ inner.put-parts2.auto.0 ∙ join.put-join.auto.0 ∙ space.put_byte.auto.0)
+    others.put_parts-2.auto.0 ∙ end.put_byte-next.auto.0 ∙ inner.put_parts-inner.auto.0 ∙ join.put_join-kids.auto.0 ∙ space.put_byte-start.auto.0)
     (λ c.
     let others = c.before.before in
     let end = others.before.before.before.before in
     let inner = end.before.before.before.before in
     let join = inner.before.before.before.before in
     let space = join.before.before.before.before.before in
-    parts_join _ _ _ _ _ _ _ _ space.before.before.before.if1.false space.put_byte.ensures join.before.before.if2.false join.put-join.ensures inner.put-parts2.ensures
-    end.put-byte2.ensures others.put-parts3.ensures)
+    parts_join _ _ _ _ _ _ _ _ space.before.before.before.if-count-eq0.false space.put_byte-start.ensures join.before.before.if-first-lt-JOIN.false join.put_join-kids.ensures inner.put_parts-inner.ensures
+    end.put_byte-next.ensures others.put_parts-2.ensures)

@@ -16,25 +16,25 @@ put_atom_spec =
     let s = first.before.before.before.before.before.before in (
       s.requires.0,
       s.requires.2,
-      fits-first two_runs (fits-second (atom-split _ _) s.requires.3 first.put-opening.ensures),
+      fits-first two_runs (fits-second (atom-split _ _) s.requires.3 first.put_opening-polynomial.ensures),
     ))
     (λ c κs.
     let polynomial = c.before.before.before in
     let first = polynomial.before.before.before.before in
     let s = first.before.before.before.before.before.before in
-    fits-first two_runs (fits-second two_runs (fits-second (atom-split _ _) s.requires.3 first.put-opening.ensures) polynomial.put-polynomial.ensures))
+    fits-first two_runs (fits-second two_runs (fits-second (atom-split _ _) s.requires.3 first.put_opening-polynomial.ensures) polynomial.put_polynomial-space.ensures))
     (λ c κs.
     let space = c.before.before.before in
     let polynomial = space.before.before.before.before in
     let first = polynomial.before.before.before.before in
     let s = first.before.before.before.before.before.before in
-    fits-second two_runs (fits-second two_runs (fits-second (atom-split _ _) s.requires.3 first.put-opening.ensures) polynomial.put-polynomial.ensures)
-    space.put_byte.ensures)
+    fits-second two_runs (fits-second two_runs (fits-second (atom-split _ _) s.requires.3 first.put_opening-polynomial.ensures) polynomial.put_polynomial-space.ensures)
+    space.put_byte-end.ensures)
     (λ c. search rules)
     (λ c.
     let end = c.before.before in
     let space = end.before.before.before.before in
     let polynomial = space.before.before.before.before in
     let first = polynomial.before.before.before.before in
-    wrote-split (atom-split _ _) first.put-opening.ensures
-    (wrote-split two_runs polynomial.put-polynomial.ensures (wrote-split two_runs space.put_byte.ensures end.put-closing.ensures))))
+    wrote-split (atom-split _ _) first.put_opening-polynomial.ensures
+    (wrote-split two_runs polynomial.put_polynomial-space.ensures (wrote-split two_runs space.put_byte-end.ensures end.put_closing.ensures))))

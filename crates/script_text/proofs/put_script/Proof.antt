@@ -14,14 +14,14 @@ put_script_spec =
     let logic = c.before.before.before in
     let stands = logic.before.before.before.before.before.before.before.requires.stands in (
       omega (arith, stands.stored.variables),
-      fits-first two_runs (fits-second (script-split stands) (script-fits stands) logic.put-bytes.ensures),
+      fits-first two_runs (fits-second (script-split stands) (script-fits stands) logic.put_bytes-declarations.ensures),
     ))
     (λ c. search rules)
     (λ c κs.
     let names = c.before.before.before.before in
     let logic = names.before.before.before.before in
     let stands = logic.before.before.before.before.before.before.before.requires.stands in
-    fits-first two_runs (fits-second two_runs (fits-second (script-split stands) (script-fits stands) logic.put-bytes.ensures) names.put-declarations.ensures))
+    fits-first two_runs (fits-second two_runs (fits-second (script-split stands) (script-fits stands) logic.put_bytes-declarations.ensures) names.put_declarations-assertion.ensures))
     (λ c κs.
     let begin = c.before.before.before in
     let names = begin.before.before.before.before.before in
@@ -31,8 +31,8 @@ put_script_spec =
       block = some.block;
       stands = some.stands;
       fits = fits-first two_runs (fits-second two_runs (fits-second two_runs
-          (fits-second (script-split some.stands) (script-fits some.stands) logic.put-bytes.ensures) names.put-declarations.ensures)
-          begin.put-bytes2.ensures);
+          (fits-second (script-split some.stands) (script-fits some.stands) logic.put_bytes-declarations.ensures) names.put_declarations-assertion.ensures)
+          begin.put_bytes-tree.ensures);
     })
     (λ c. search rules)
     (λ c κs.
@@ -42,8 +42,8 @@ put_script_spec =
     let logic = names.before.before.before.before in
     let some = logic.before.before.before.before.before.before.before.requires in
     fits-second two_runs (fits-second two_runs (fits-second two_runs
-    (fits-second (script-split some.stands) (script-fits some.stands) logic.put-bytes.ensures) names.put-declarations.ensures)
-    begin.put-bytes2.ensures) (root.put-root.ensures some.block some.stands))
+    (fits-second (script-split some.stands) (script-fits some.stands) logic.put_bytes-declarations.ensures) names.put_declarations-assertion.ensures)
+    begin.put_bytes-tree.ensures) (root.put_root-end.ensures some.block some.stands))
     (λ c. search rules)
     (λ c block stands.
     let end = c.before.before in
@@ -51,5 +51,5 @@ put_script_spec =
     let begin = root.before.before.before.before in
     let names = begin.before.before.before.before.before in
     let logic = names.before.before.before.before in
-    wrote-split (script-split stands) logic.put-bytes.ensures (wrote-split two_runs names.put-declarations.ensures
-    (wrote-split two_runs begin.put-bytes2.ensures (wrote-split two_runs (root.put-root.ensures block stands) end.put-bytes3.ensures)))))
+    wrote-split (script-split stands) logic.put_bytes-declarations.ensures (wrote-split two_runs names.put_declarations-assertion.ensures
+    (wrote-split two_runs begin.put_bytes-tree.ensures (wrote-split two_runs (root.put_root-end.ensures block stands) end.put_bytes.ensures)))))

@@ -18,34 +18,34 @@ use Rattle.search.proofs.search.Tie as tie
 abbrev table : tie.Start → Table
 table s = lent_table s.args.coefficient s.args.monomial s.args.terms s.args.state.board.variables
 
-search-board-requires : tie.Need-search-board-requires
+search-board-requires : tie.Need-search_board-of_board-requires
 search-board-requires c κs =
     let s = c.before.before.before.before.before.before.before.before.before in
     let st = s.args.state in
-    let nowhere = c.no-floor.ensures in (
+    let nowhere = c.no_floor.ensures in (
       (
-        rw c.before.before.before.sign-list.ensures (list-ready st.board st.atoms _ s.requires.0 refl (length-replicate {A = ℕ} 1280 0)),
+        rw c.before.before.before.sign_list.ensures (list-ready st.board st.atoms _ s.requires.0 refl (length-replicate {A = ℕ} 1280 0)),
         s.requires.1,
       ),
       (nowhere-floor (atoms_of (table s) st.atoms) s.requires.0.variables nowhere s.requires.1, nowhere.variables),
     )
 
-search-atoms-requires : tie.Need-search-atoms-requires
+search-atoms-requires : tie.Need-search_atoms-of_atoms-requires
 search-atoms-requires c κs =
     let s = c.before.before.before.before.before.before.before.before.before.before.before.before in
     let st = s.args.state in
     let ready = list-ready st.board st.atoms _ s.requires.0 refl (length-replicate {A = ℕ} 1280 0) in
-    (rw c.before.before.before.before.before.before.sign-list.ensures ready, s.requires.1)
+    (rw c.before.before.before.before.before.before.sign_list.ensures ready, s.requires.1)
 
-returns : tie.Need-returns
+returns : tie.Need-returns-then-of_board
 returns c =
     let s = c.before.before.before.before.before.before.before.before.before.before.before.before in
     let st = s.args.state in
-    let board = c.before.before.search-board in
+    let board = c.before.before.search_board-of_board in
     record {
       found =
           found-of-board st.board.variables (state_of (table s) st) board.result.found (sets_of board.result.board) board.ensures.found
-          c.before.if1.true;
+          c.before.if-of_board.true;
       variables = board.ensures.variables;
       count = refl;
       number = refl;
@@ -55,16 +55,16 @@ returns c =
 abbrev with-atoms : State → Atoms → State
 with-atoms st a = record { board = st.board; atoms = a }
 
-returns-2 : tie.Need-returns-2
+returns-2 : tie.Need-returns
 returns-2 c =
     let s = c.before.before.before.before.before.before.before.before.before.before.before.before.before.before in
     let st = s.args.state in
-    let board = c.before.before.before.before.search-board in
-    let atoms = c.before.search-atoms in
+    let board = c.before.before.before.before.search_board-of_board in
+    let atoms = c.before.search_atoms-of_atoms in
     record {
       found =
           found-of-atoms st.board.variables (state_of (table s) st) board.result.found (sets_of board.result.board) board.ensures.found
-          c.before.before.before.if1.false atoms.result.found (atoms_of (table s) atoms.result.atoms) atoms.ensures.found;
+          c.before.before.before.if-of_board.false atoms.result.found (atoms_of (table s) atoms.result.atoms) atoms.ensures.found;
       variables = refl;
       count = atoms.ensures.count;
       number = atoms.ensures.number;

@@ -12,33 +12,33 @@ use Rattle.settled.proofs.says.Tie as tie
 abbrev table : tie.Start → Table
 table s = lent_table s.args.coefficient s.args.monomial s.args.terms s.args.variables
 
-says-before-pairs-requires : tie.Need-says-before-pairs-requires
+says-before-pairs-requires : tie.Need-says_before_pairs-said-requires
 says-before-pairs-requires c κs =
     let s = c.before.before.before.before.before.before.before in
-    let (forms, (same, low)) = s.requires.0 in
-    let ((places, (signed, settled)), words) = s.requires.1 in
+    let (forms, (same, low)) = s.requires.forms in
+    let ((places, (signed, settled)), words) = s.requires.fact in
     ((table-ready s.args.state.atoms forms places signed, (same, low)), signed s.args.number (omega arith))
 
-cut-by-others-requires : tie.Need-cut-by-others-requires
+cut-by-others-requires : tie.Need-cut_by_others-requires
 cut-by-others-requires c κs =
     let s = c.before.before.before.before.before.before.before.before.before.before.before in
-    let (forms, (same, low)) = s.requires.0 in
-    let ((places, (signed, settled)), words) = s.requires.1 in
+    let (forms, (same, low)) = s.requires.forms in
+    let ((places, (signed, settled)), words) = s.requires.fact in
     let ready = table-ready s.args.state.atoms forms places signed in
     ((ready, (same, low)), ((signed s.args.number (omega arith), settled-board settled), words))
 
-returns : tie.Need-returns
+returns : tie.Need-returns-then-pairs_matter
 returns c =
     let s = c.before.before.before.before.before.before.before.before.before.before.before.before in
     let t = table s in
-    let said = c.before.before.before.before.says-before-pairs.ensures in
-    c.cut-by-others.ensures
+    let said = c.before.before.before.before.says_before_pairs-said.ensures in
+    c.cut_by_others.ensures
     ∙ says-by-pairs s.args.variables (state_of t s.args.state) (form_at t s.args.number) said
 
-returns-2 : tie.Need-returns-2
+returns-2 : tie.Need-returns
 returns-2 c =
     let s = c.before.before.before.before.before.before.before.before.before.before.before in
-    c.before.before.before.says-before-pairs.ensures ∙ sym (c.before.pairs-matter.ensures.idle c.if1.false s.requires.1.0.1.1)
+    c.before.before.before.says_before_pairs-said.ensures ∙ sym (c.before.pairs_matter.ensures.idle c.if-pairs_matter.false s.requires.fact.0.1.1)
 
 pub says_spec : {M : Type 1} → statement M
 says_spec =

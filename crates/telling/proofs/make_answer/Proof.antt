@@ -7,10 +7,10 @@ use Rattle.telling.specs.Told.{verdict_in, counts_in, made}
 use Rattle.telling.proofs.make_answer.Statement.{statement}
 use Rattle.telling.proofs.make_answer.Tie as tie
 
-room-counts : tie.Need-put-counts-requires
+room-counts : tie.Need-put_counts-end-requires
 room-counts c κs = omega (arith, word-long (verdict_in c.before.before.before.before.before.before.args.verdict))
 
-room-newline : tie.Need-put-byte-requires
+room-newline : tie.Need-put_byte-requires
 room-newline c κs =
     let given = c.before.before.before.before.before.before.before.before.before.before.args in
     omega (arith, word-long (verdict_in given.verdict), counts-long (counts_in given.counts))
@@ -23,7 +23,7 @@ returns c =
     let word = counts.before.before.before.before in
     let start = word.before.before.before in
     made (line-long (verdict_in start.args.verdict) (counts_in start.args.counts)) start.requires
-    (wrote-both word.put_word.ensures (wrote-both counts.put-counts.ensures newline.put_byte.ensures))
+    (wrote-both word.put_word-numbers.ensures (wrote-both counts.put_counts-end.ensures newline.put_byte.ensures))
 
 pub make_answer_spec : {M : Type 1} → statement M
 make_answer_spec = tie.close (tie.spec (λ c κs. search rules) room-counts room-newline (λ c. search rules) returns)

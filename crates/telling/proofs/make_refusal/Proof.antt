@@ -8,10 +8,10 @@ use Rattle.telling.proofs.Lines.{refusal-line}
 use Rattle.telling.proofs.make_refusal.Statement.{statement}
 use Rattle.telling.proofs.make_refusal.Tie as tie
 
-room-number : tie.Need-put-number-requires
+room-number : tie.Need-put_number-end-requires
 room-number c κs = omega (arith, decimal-long c.before.before.before.before.before.before.before.args.number)
 
-room-newline : tie.Need-put-byte-requires
+room-newline : tie.Need-put_byte-requires
 room-newline c κs =
     let given = c.before.before.before.before.before.before.before.before.before.before.before.args in
     omega (arith, decimal-long given.number)
@@ -22,7 +22,7 @@ returns c =
     let number = newline.before.before.before.before in
     let word = number.before.before.before.before in
     let start = word.before.before.before.before in
-    let line = wrote-both word.put-bytes.ensures (wrote-both number.put-number.ensures newline.put_byte.ensures) in
+    let line = wrote-both word.put_bytes-after.ensures (wrote-both number.put_number-end.ensures newline.put_byte.ensures) in
     made (omega (arith, refusal-long start.args.number)) start.requires (wrote_as line (refusal-line start.args.number))
 
 pub make_refusal_spec : {M : Type 1} → statement M

@@ -8,22 +8,22 @@ use Rattle.telling.proofs.Lines.{few}
 use Rattle.telling.proofs.put_counts.Statement.{statement}
 use Rattle.telling.proofs.put_counts.Tie as tie
 
-room : tie.Need-put-number-requires
+room : tie.Need-put_number-second-requires
 room c κs =
     let digits = few c.before.before.args.counts in
     omega arith
 
-room-2 : tie.Need-put-number-requires-2
+room-2 : tie.Need-put_number-third-requires
 room-2 c κs =
     let digits = few c.before.before.before.before.before.before.args.counts in
     omega arith
 
-room-3 : tie.Need-put-number-requires-3
+room-3 : tie.Need-put_number-last-requires
 room-3 c κs =
     let digits = few c.before.before.before.before.before.before.before.before.before.before.args.counts in
     omega arith
 
-room-4 : tie.Need-put-number-requires-4
+room-4 : tie.Need-put_number-requires
 room-4 c κs =
     let digits = few c.before.before.before.before.before.before.before.before.before.before.before.before.before.before.args.counts in
     omega arith
@@ -35,8 +35,8 @@ returns c =
     let third = fourth.before.before.before.before in
     let second = third.before.before.before.before in
     let first = second.before.before.before.before in
-    wrote-both first.put-number.ensures
-    (wrote-both second.put-number2.ensures (wrote-both third.put-number3.ensures fourth.put-number4.ensures))
+    wrote-both first.put_number-second.ensures
+    (wrote-both second.put_number-third.ensures (wrote-both third.put_number-last.ensures fourth.put_number.ensures))
 
 pub put_counts_spec : {M : Type 1} → statement M
 put_counts_spec = tie.close (tie.spec room room-2 room-3 room-4 (λ c. search rules) returns)

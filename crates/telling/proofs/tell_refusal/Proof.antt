@@ -9,18 +9,18 @@ use Rattle.telling.specs.Told.{told_none, told-all}
 use Rattle.telling.proofs.tell_refusal.Statement.{statement}
 use Rattle.telling.proofs.tell_refusal.Tie as tie
 
-lends-line : tie.Need-slice-aggregate-put-bytes
+lends-line : tie.Need-slice_bounds-put_bytes-end
 lends-line c =
-    let line = c.before.before.before.before.make-refusal in
+    let line = c.before.before.before.before.make_refusal-n in
     sym (length-take-le line.result line.new.0 line.ensures.inside)
 
-room : tie.Need-put-bytes-requires
-room c κs = omega (arith, ap length c.before.before.before.before.make-refusal.ensures.is)
+room : tie.Need-put_bytes-requires
+room c κs = omega (arith, ap length c.before.before.before.before.make_refusal-n.ensures.is)
 
-returns : tie.Need-returns-2
+returns : tie.Need-returns
 returns c =
-    let line = c.before.before.before.before.before.before.before.make-refusal in
-    told-all (omega arith) (wrote_as c.before.before.put-bytes.ensures line.ensures.is)
+    let line = c.before.before.before.before.before.before.before.make_refusal-n in
+    told-all (omega arith) (wrote_as c.before.before.put_bytes.ensures line.ensures.is)
 
 pub tell_refusal_spec : {M : Type 1} → statement M
 tell_refusal_spec =

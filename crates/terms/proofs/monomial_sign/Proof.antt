@@ -8,4 +8,4 @@ use Rattle.terms.proofs.monomial_sign.Tie as tie
 pub monomial_sign_spec : {M : Type 1} → statement M
 monomial_sign_spec =
     tie.close
-    (tie.spec (λ c κs. search rules) (λ c κs. search rules) (λ c. c.sign.ensures ∙ sign-by-masks c.before.masks-of.ensures _))
+    (tie.spec (λ c κs. search rules) (λ c κs. search rules) (λ c. c.sign.ensures ∙ sign-by-masks c.before.masks_of.ensures _))

@@ -6,4 +6,4 @@ use Rattle.terms.proofs.sign_terms.Tie as tie
 pub sign_terms_spec : {M : Type 1} → statement M
 sign_terms_spec =
     tie.close
-    (tie.spec (λ c κs. search rules) (λ c κs. search rules) (λ c. search rules) (λ c. c.before.before.sign-by.ensures _ c.before.before.before.before.masks-of.ensures))
+    (tie.spec (λ c κs. search rules) (λ c κs. search rules) (λ c. search rules) (λ c. c.before.before.sign_by.ensures _ c.before.before.before.before.masks_of.ensures))

@@ -6,10 +6,10 @@ use Rattle.used.proofs.Slots.{tape-fits, Counting, counting-starts, counting-ato
 use Rattle.used.proofs.atoms.Statement.{statement}
 use Rattle.used.proofs.atoms.Tie as tie
 
-abbrev invariant-loop : tie.invariant-loop
+abbrev invariant-loop : tie.invariant-loop-i
 invariant-loop token count found₀ i₀ found i = Counting token count found i
 
-abbrev decreases-loop : tie.decreases-loop
+abbrev decreases-loop : tie.decreases-loop-i
 decreases-loop token count found₀ i₀ found i = count - i
 
 long : (c : tie.Start invariant-loop decreases-loop) → c.args.count ≤ length c.args.token.now
@@ -25,9 +25,9 @@ atoms_spec =
     (λ c. omega (arith, long c.before.before))
     (λ c. omega (arith, long c.before.before.before))
     (λ c. omega (arith, long c.before.before.before))
-    (λ c. omega (arith, long c.before.before.before.before, c.before.before.before.loop.invariant.few))
+    (λ c. omega (arith, long c.before.before.before.before, c.before.before.before.loop-i.invariant.few))
     (λ c. omega arith)
-    (λ c. counting-atom (long c.before.before.before.before) c.before.before.loop-test.true c.before.before.before.loop.invariant c.if1.true)
+    (λ c. counting-atom (long c.before.before.before.before) c.before.before.loop-i-test.true c.before.before.before.loop-i.invariant c.if-next-lt-JOIN.true)
     (λ c. omega arith)
-    (λ c. counting-join (long c.before.before.before.before) c.before.before.loop-test.true c.before.before.before.loop.invariant c.if1.false)
-    (λ c. counted c.before.loop.invariant c.loop-test.false))
+    (λ c. counting-join (long c.before.before.before.before) c.before.before.loop-i-test.true c.before.before.before.loop-i.invariant c.if-next-lt-JOIN.false)
+    (λ c. counted c.before.loop-i.invariant c.loop-i-test.false))

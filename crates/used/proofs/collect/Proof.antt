@@ -7,18 +7,18 @@ use Rattle.used.proofs.Collected.{order-fits, collected}
 use Rattle.used.proofs.collect.Statement.{statement}
 use Rattle.used.proofs.collect.Tie as tie
 
-order-slots-requires : tie.Need-order-slots-requires
+order-slots-requires : tie.Need-order_slots-polynomials-requires
 order-slots-requires c κs =
     let start = c.before.before.before.before.before.before.before.before in
     (tape-fits start.requires.1.holds, refl, refl)
 
-copy-forms-requires : tie.Need-copy-forms-requires
+copy-forms-requires : tie.Need-copy_forms-requires
 copy-forms-requires c κs =
     let ordering = c.before.before.before.before.before.before in
     let start = ordering.before.before.before.before.before.before.before.before.before in
     let forms = start.requires.0 in
     let room = start.requires.2 in
-    let ordered = ordering.order-slots.ensures in (
+    let ordered = ordering.order_slots-polynomials.ensures in (
       record { coefficients = forms.coefficients; monomials = forms.monomials; counts = forms.counts; few = forms.few },
       order-fits start.requires.1.holds refl ordered,
       record {
@@ -28,12 +28,12 @@ copy-forms-requires c κs =
       },
     )
 
-renumber-all-requires : tie.Need-renumber-all-requires
+renumber-all-requires : tie.Need-renumber_all-requires
 renumber-all-requires c κs =
     let ordering = c.before.before.before.before.before.before.before.before.before.before.before.before.before.before in
     let start = ordering.before.before.before.before.before.before.before.before.before in
     let holds = start.requires.1.holds in
-    (tape-fits holds, ordering.order-slots.ensures.numbers.size, omega (arith, holds.few, start.requires.2.tokens))
+    (tape-fits holds, ordering.order_slots-polynomials.ensures.numbers.size, omega (arith, holds.few, start.requires.2.tokens))
 
 returns : tie.Need-returns
 returns c tree h =
@@ -42,8 +42,8 @@ returns c tree h =
     let ordering = copying.before.before.before.before.before.before.before in
     let start = ordering.before.before.before.before.before.before.before.before.before in
     let a = start.args in
-    collected start.requires.0 h ordering.order-slots.ensures a.new-coefficient.now a.new-monomial.now a.new-terms.now a.new-token.now
-    (copying.copy-forms.ensures a.variables) renumbering.renumber-all.ensures
+    collected start.requires.0 h ordering.order_slots-polynomials.ensures a.new-coefficient.now a.new-monomial.now a.new-terms.now a.new-token.now
+    (copying.copy_forms.ensures a.variables) renumbering.renumber_all.ensures
 
 pub collect_spec : {M : Type 1} → statement M
 collect_spec =

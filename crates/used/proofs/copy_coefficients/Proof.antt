@@ -8,10 +8,10 @@ use Rattle.used.proofs.Copying.{Running, run-starts, run-next, run_ends}
 use Rattle.used.proofs.copy_coefficients.Statement.{statement}
 use Rattle.used.proofs.copy_coefficients.Tie as tie
 
-abbrev invariant-loop : tie.invariant-loop
+abbrev invariant-loop : tie.invariant-loop-i
 invariant-loop source target₀ from to count i₀ target i = Running source from to count target₀ target i
 
-abbrev decreases-loop : tie.decreases-loop
+abbrev decreases-loop : tie.decreases-loop-i
 decreases-loop source target₀ from to count i₀ target i = count - i
 
 pub copy_coefficients_spec : {M : Type 1} → statement M
@@ -21,6 +21,6 @@ copy_coefficients_spec =
     (λ c. let a = c.args in run-starts a.source.now a.from a.to a.count a.target.now)
     (λ c. omega arith) (λ c. omega arith) (λ c. omega arith) (λ c. omega arith) (λ c. omega arith) (λ c. omega arith) (λ c. omega arith) (λ c. omega arith)
     (λ c. let here = c.before in
-    run-next here.before.loop.invariant (pos 0) (to_z-of_z w32 _ (record { sfits = c.x.given })) here.loop-test.true here.before.before.requires.0)
-    (λ c. c.before.loop.invariant.size)
-    (λ c. run_ends c.before.loop.invariant c.loop-test.false))
+    run-next here.before.loop-i.invariant (pos 0) (to_z-of_z w32 _ (record { sfits = c.x-1.given })) here.loop-i-test.true here.before.before.requires.0)
+    (λ c. c.before.loop-i.invariant.size)
+    (λ c. run_ends c.before.loop-i.invariant c.loop-i-test.false))

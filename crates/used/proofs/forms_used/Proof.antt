@@ -9,19 +9,19 @@ use Rattle.used.proofs.Counted.{counts-used}
 use Rattle.used.proofs.forms_used.Statement.{statement}
 use Rattle.used.proofs.forms_used.Tie as tie
 
-order-slots-requires : tie.Need-order-slots-requires
+order-slots-requires : tie.Need-order_slots-used-requires
 order-slots-requires c κs = (tape-fits c.before.before.before.before.before.requires.2.holds, refl, refl)
 
-count-forms-requires : tie.Need-count-forms-requires
+count-forms-requires : tie.Need-count_forms-requires
 count-forms-requires c κs =
     let ordering = c.before.before.before in
     let start = ordering.before.before.before.before.before.before in
-    (start.requires.0, start.requires.1, order-fits start.requires.2.holds refl ordering.order-slots.ensures)
+    (start.requires.0, start.requires.1, order-fits start.requires.2.holds refl ordering.order_slots-used.ensures)
 
 returns : tie.Need-returns
 returns c n cs tree forms h =
     let ordering = c.before.before.before.before in
-    c.count-forms.ensures n cs ∙ ap (λ l. length (without_constants l)) (counts-used forms h ordering.order-slots.ensures)
+    c.count_forms.ensures n cs ∙ ap (λ l. length (without_constants l)) (counts-used forms h ordering.order_slots-used.ensures)
 
 pub forms_used_spec : {M : Type 1} → statement M
 forms_used_spec =

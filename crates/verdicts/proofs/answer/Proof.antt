@@ -6,7 +6,7 @@ use lib.Seq.{length-take-le}
 use Rattle.verdicts.proofs.answer.Statement.{statement}
 use Rattle.verdicts.proofs.answer.Tie as tie
 
-slice-aggregate-evaluate : tie.Need-slice-aggregate-evaluate
+slice-aggregate-evaluate : tie.Need-slice_bounds-evaluate-end
 slice-aggregate-evaluate c = let s = c.before.before.before in sym (length-take-le s.args.count s.args.readings.now (omega arith))
 
 pub answer_spec : {M : Type 1} → statement M

@@ -4,10 +4,10 @@ use Prim.Native.Nat.{◌-◌, ◌≤◌}
 use Rattle.why_telling.proofs.count_kept.Statement.{statement}
 use Rattle.why_telling.proofs.count_kept.Tie as tie
 
-abbrev invariant-loop : tie.invariant-loop
+abbrev invariant-loop : tie.invariant-loop-i
 invariant-loop found kept₀ i₀ kept i = (i ≤ 255) × (kept ≤ i)
 
-abbrev decreases-loop : tie.decreases-loop
+abbrev decreases-loop : tie.decreases-loop-i
 decreases-loop found kept₀ i₀ kept i = 255 - i
 
 pub count_kept_spec : {M : Type 1} → statement M

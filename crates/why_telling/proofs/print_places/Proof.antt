@@ -4,10 +4,10 @@ use Prim.Native.Nat.{◌-◌}
 use Rattle.why_telling.proofs.print_places.Statement.{statement}
 use Rattle.why_telling.proofs.print_places.Tie as tie
 
-abbrev invariant-loop : tie.invariant-loop
+abbrev invariant-loop : tie.invariant-loop-place
 invariant-loop places first₀ place₀ first place = Unit {0}
 
-abbrev decreases-loop : tie.decreases-loop
+abbrev decreases-loop : tie.decreases-loop-place
 decreases-loop places first₀ place₀ first place = 256 - place
 
 pub print_places_spec : {M : Type 1} → statement M

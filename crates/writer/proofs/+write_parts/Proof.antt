@@ -26,49 +26,49 @@ parts_below t = and 2 parts-kinds.ps (falls 2 parts-kinds.ps ◌<◌ μ-parts t)
 pub +write-parts-spec : {M : Type 1} → statement M
 +write-parts-spec =
     close μ-parts λ t. parts-lts.spec (atom-reads.Asked, atom-reads.Learnt, parts_below t, parts.Post, join-reads.Asked, join-reads.Learnt) (parts_at t) parts.Post
-    (λ c. parts_none _ _ _ _ c.if1.true)
-    (λ c. omega (arith, first-there c.before.before.before.requires.1 c.if1.false))
-    (λ c. first-there c.before.before.before.before.requires.1 c.before.if1.false)
-    (λ c κs. let read = c.before.before in room-atom read.before.before.before.before.requires.1 read.before.if1.false c.before.if2.true)
+    (λ c. parts_none _ _ _ _ c.if-count-eq0.true)
+    (λ c. omega (arith, first-there c.before.before.before.requires.1 c.if-count-eq0.false))
+    (λ c. first-there c.before.before.before.before.requires.1 c.before.if-count-eq0.false)
+    (λ c κs. let read = c.before.before in room-atom read.before.before.before.before.requires.1 read.before.if-count-eq0.false c.before.if-first-lt16777216.true)
     (λ c. let s = c.before.before.before.before.before.before.before.before.before.before in omega (
       arith,
       first-there s.requires.1
-          c.before.before.before.before.before.before.before.if1.false,
+          c.before.before.before.before.before.before.before.if-count-eq0.false,
     ))
     (λ c. omega arith)
     (λ c κs.
     let first = c.before.before.before in
     let read = first.before.before.before in
     let s = read.before.before.before.before in (
-      omega (arith, first-there s.requires.1 read.before.if1.false),
-      after-atom s.requires.1 read.before.if1.false first.before.before.if2.true first.write-atom.ensures first.write-atom.auto.0,
+      omega (arith, first-there s.requires.1 read.before.if-count-eq0.false),
+      after-atom s.requires.1 read.before.if-count-eq0.false first.before.before.if-first-lt16777216.true first.write_atom-next.ensures first.write_atom-next.auto.0,
     ))
-    (λ c. c.before.before.write-parts.auto.0 ∙ c.before.before.before.before.before.before.write-atom.auto.0)
+    (λ c. c.before.before.write_parts.auto.0 ∙ c.before.before.before.before.before.before.write_atom-next.auto.0)
     (λ c.
     let others = c.before.before in
     let first = others.before.before.before.before in
     let read = first.before.before.before in
-    parts-atom _ _ _ _ read.before.if1.false first.before.before.if2.true first.write-atom.ensures others.write-parts.ensures)
-    (λ c. let read = c.before.before in omega (arith, read.shared-slice-known2.given read.before.before.before.before.args.k))
-    (λ c κs. let read = c.before.before in room-join read.before.before.before.before.requires.1 read.before.if1.false c.before.if2.false)
+    parts-atom _ _ _ _ read.before.if-count-eq0.false first.before.before.if-first-lt16777216.true first.write_atom-next.ensures others.write_parts.ensures)
+    (λ c. let read = c.before.before in omega (arith, read.shared_slice_known-2-1.given read.before.before.before.before.args.k))
+    (λ c κs. let read = c.before.before in room-join read.before.before.before.before.requires.1 read.before.if-count-eq0.false c.before.if-first-lt16777216.false)
     (λ c. let s = c.before.before.before.before.before.before.before.before.before.before in omega (
       arith,
       first-there s.requires.1
-          c.before.before.before.before.before.before.before.if1.false,
+          c.before.before.before.before.before.before.before.if-count-eq0.false,
     ))
     (λ c. let read = c.before.before.before.before.before.before in omega (
       arith,
-      read.shared-slice-known2.given
+      read.shared_slice_known-2-1.given
           read.before.before.before.before.args.k,
     ))
-    (λ c. let read = c.before.before.before.before.before.before in kind_fits read.before.before.before.before.requires.1 read.before.if1.false
-    c.before.before.before.before.before.if2.false)
+    (λ c. let read = c.before.before.before.before.before.before in kind_fits read.before.before.before.before.requires.1 read.before.if-count-eq0.false
+    c.before.before.before.before.before.if-first-lt16777216.false)
     (λ c κs.
     let first = c.before.before.before in
     let read = first.before.before.before in
     let s = read.before.before.before.before in (
-      omega (arith, first-there s.requires.1 read.before.if1.false),
-      inside-join s.requires.1 read.before.if1.false first.before.before.if2.false first.write-join.ensures first.write-join.auto.0,
+      omega (arith, first-there s.requires.1 read.before.if-count-eq0.false),
+      inside-join s.requires.1 read.before.if-count-eq0.false first.before.before.if-first-lt16777216.false first.write_join-next.ensures first.write_join-next.auto.0,
     ))
     (λ c. omega arith)
     (λ c κs.
@@ -78,18 +78,18 @@ pub +write-parts-spec : {M : Type 1} → statement M
     let s = read.before.before.before.before in (
       omega (
         arith,
-        first-there s.requires.1 read.before.if1.false,
-        further s.requires.1 read.before.if1.false first.before.before.if2.false first.write-join.ensures inner.write-parts2.ensures,
+        first-there s.requires.1 read.before.if-count-eq0.false,
+        further s.requires.1 read.before.if-count-eq0.false first.before.before.if-first-lt16777216.false first.write_join-next.ensures inner.write_parts-inner.ensures,
       ),
-      after-join s.requires.1 read.before.if1.false first.before.before.if2.false first.write-join.ensures inner.write-parts2.ensures
-          (inner.write-parts2.auto.0 ∙ first.write-join.auto.0),
+      after-join s.requires.1 read.before.if-count-eq0.false first.before.before.if-first-lt16777216.false first.write_join-next.ensures inner.write_parts-inner.ensures
+          (inner.write_parts-inner.auto.0 ∙ first.write_join-next.auto.0),
     ))
-    (λ c. c.before.before.write-parts3.auto.0 ∙ c.before.before.before.before.before.before.write-parts2.auto.0
-    ∙ c.before.before.before.before.before.before.before.before.before.before.write-join.auto.0)
+    (λ c. c.before.before.write_parts-2.auto.0 ∙ c.before.before.before.before.before.before.write_parts-inner.auto.0
+    ∙ c.before.before.before.before.before.before.before.before.before.before.write_join-next.auto.0)
     (λ c.
     let others = c.before.before in
     let inner = others.before.before.before.before in
     let first = inner.before.before.before.before in
     let read = first.before.before.before in
-    parts_join _ _ _ _ read.before.if1.false first.before.before.if2.false first.write-join.ensures inner.write-parts2.ensures
-    others.write-parts3.ensures)
+    parts_join _ _ _ _ read.before.if-count-eq0.false first.before.before.if-first-lt16777216.false first.write_join-next.ensures inner.write_parts-inner.ensures
+    others.write_parts-2.ensures)

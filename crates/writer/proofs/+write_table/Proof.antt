@@ -23,7 +23,7 @@ table_below t = and 4 table-kinds.ps (falls 4 table-kinds.ps ◌<◌ μ-table t)
 
 pub +write-table-spec : {M : Type 1} → statement M
 +write-table-spec = close μ-table λ t. table-lts.spec (polynomial-reads.Asked, polynomial-reads.Learnt, table_below t, table.Post) (table_at t) table.Post
-    (λ c. table_none _ _ _ _ _ _ _ c.if1.true)
+    (λ c. table_none _ _ _ _ _ _ _ c.if-i-m.true)
     (λ c κs.
     let s = c.before.before.before.before.before in
     let i : s.args.i < s.args.m = omega arith in (
@@ -32,7 +32,7 @@ pub +write-table-spec : {M : Type 1} → statement M
       omega arith,
       s.requires.1.4.in_coefficients s.args.i i,
       s.requires.1.4.in_monomials s.args.i i,
-      room-first (table-split _ _ _ _ _ _ _ s.requires.1.1 c.before.if1.false) s.requires.1.5,
+      room-first (table-split _ _ _ _ _ _ _ s.requires.1.1 c.before.if-i-m.false) s.requires.1.5,
     ))
     (λ c. omega arith)
     (λ c κs.
@@ -45,13 +45,13 @@ pub +write-table-spec : {M : Type 1} → statement M
         s.requires.1.2,
         s.requires.1.3,
         s.requires.1.4,
-        room-second (table-split _ _ _ _ _ _ _ s.requires.1.1 first.before.before.if1.false) s.requires.1.5 first.write-polynomial.ensures
-            first.write-polynomial.auto.0,
+        room-second (table-split _ _ _ _ _ _ _ s.requires.1.1 first.before.before.if-i-m.false) s.requires.1.5 first.write_polynomial-next.ensures
+            first.write_polynomial-next.auto.0,
       ),
     ))
-    (λ c. c.before.before.write-table.auto.0 ∙ c.before.before.before.before.before.before.write-polynomial.auto.0)
+    (λ c. c.before.before.write_table.auto.0 ∙ c.before.before.before.before.before.before.write_polynomial-next.auto.0)
     (λ c.
     let others = c.before.before in
     let first = others.before.before.before.before in
-    wrote-both (table-split _ _ _ _ _ _ _ first.before.before.before.before.before.before.requires.1.1 first.before.before.if1.false)
-    first.write-polynomial.ensures others.write-table.ensures)
+    wrote-both (table-split _ _ _ _ _ _ _ first.before.before.before.before.before.before.requires.1.1 first.before.before.if-i-m.false)
+    first.write_polynomial-next.ensures others.write_table.ensures)

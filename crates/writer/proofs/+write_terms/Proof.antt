@@ -26,12 +26,12 @@ terms-below t = and 3 terms-kinds.ps (falls 3 terms-kinds.ps ◌<◌ μ-terms t)
 
 pub +write-terms-spec : {M : Type 1} → statement M
 +write-terms-spec = close μ-terms λ t. terms-lts.spec (term-reads.Asked, term-reads.Learnt, terms-below t, terms.Post) (terms-at t) terms.Post
-    (λ c. terms-none _ _ _ _ _ _ c.if1.true)
+    (λ c. terms-none _ _ _ _ _ _ c.if-count-eq0.true)
     (λ c. search rules) (λ c. omega arith) (λ c. search rules) (λ c. omega arith)
     (λ c κs.
     let value = c.before.before in
     let s = value.before.before.before.before in
-    (s.requires.1.0, room-first (terms-split _ _ _ _ _ _ value.before.if1.false (to_z-of_z w32 _ (record { sfits = value.value.given }))) s.requires.1.3))
+    (s.requires.1.0, room-first (terms-split _ _ _ _ _ _ value.before.if-count-eq0.false (to_z-of_z w32 _ (record { sfits = value.value-1.given }))) s.requires.1.3))
     (λ c. omega arith) (λ c. omega arith)
     (λ c κs.
     let first = c.before.before.before in
@@ -42,14 +42,14 @@ pub +write-terms-spec : {M : Type 1} → statement M
         s.requires.1.0,
         omega arith,
         omega arith,
-        room-second (terms-split _ _ _ _ _ _ value.before.if1.false (to_z-of_z w32 _ (record { sfits = value.value.given }))) s.requires.1.3
-            first.write-term.ensures first.write-term.auto.0,
+        room-second (terms-split _ _ _ _ _ _ value.before.if-count-eq0.false (to_z-of_z w32 _ (record { sfits = value.value-1.given }))) s.requires.1.3
+            first.write_term-next.ensures first.write_term-next.auto.0,
       ),
     ))
-    (λ c. c.before.before.write-terms.auto.0 ∙ c.before.before.before.before.before.before.write-term.auto.0)
+    (λ c. c.before.before.write_terms.auto.0 ∙ c.before.before.before.before.before.before.write_term-next.auto.0)
     (λ c.
     let others = c.before.before in
     let first = others.before.before.before.before in
     let value = first.before.before.before in
-    wrote-both (terms-split _ _ _ _ _ _ value.before.if1.false (to_z-of_z w32 _ (record { sfits = value.value.given }))) first.write-term.ensures
-    others.write-terms.ensures)
+    wrote-both (terms-split _ _ _ _ _ _ value.before.if-count-eq0.false (to_z-of_z w32 _ (record { sfits = value.value-1.given }))) first.write_term-next.ensures
+    others.write_terms.ensures)

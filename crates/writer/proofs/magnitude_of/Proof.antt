@@ -7,7 +7,7 @@ pub magnitude_of_spec : {M : Type 1} → statement M
 magnitude_of_spec =
     tie.close
     (tie.spec (λ c. long-fits c.args.coefficient c.ranges.coefficient) (λ c. negation-fits c.before.args.coefficient c.before.ranges.coefficient)
-    (λ c. (magnitude-below c.before.args.coefficient c.before.ranges.coefficient c.if1.true).0)
-    (λ c. (magnitude-above c.before.args.coefficient c.before.ranges.coefficient c.if1.false).0)
-    (λ c. (magnitude-below c.before.args.coefficient c.before.ranges.coefficient c.if1.true).1)
-    (λ c. (magnitude-above c.before.args.coefficient c.before.ranges.coefficient c.if1.false).1))
+    (λ c. (magnitude-below c.before.args.coefficient c.before.ranges.coefficient c.if-long-lt0.true).0)
+    (λ c. (magnitude-above c.before.args.coefficient c.before.ranges.coefficient c.if-long-lt0.false).0)
+    (λ c. (magnitude-below c.before.args.coefficient c.before.ranges.coefficient c.if-long-lt0.true).1)
+    (λ c. (magnitude-above c.before.args.coefficient c.before.ranges.coefficient c.if-long-lt0.false).1))

@@ -7,7 +7,7 @@ use Rattle.writer.proofs.WritingWhole.{few-variables, few-polynomials, terms-ins
 use Rattle.writer.proofs.write.Statement.{statement}
 use Rattle.writer.proofs.write.Tie as tie
 
-write-table-requires : tie.Need-write-table-requires
+write-table-requires : tie.Need-write_table-tree-requires
 write-table-requires c κs =
     let start = c.before.before.before.before.before in
     let room = start.requires.0 in
@@ -20,11 +20,11 @@ write-table-requires c κs =
       room-table _ _ _ _ w,
     )
 
-write-parts-requires : tie.Need-write-parts-requires
+write-parts-requires : tie.Need-write_parts-last-requires
 write-parts-requires c κs =
     let table = c.before.before.before in
     let start = table.before.before.before.before.before.before in
-    tree-ahead _ _ _ _ start.requires.1.writable table.write-table.ensures table.write-table.auto.0
+    tree-ahead _ _ _ _ start.requires.1.writable table.write_table-tree.ensures table.write_table-tree.auto.0
 
 add-size : tie.Need-overflow-add-size
 add-size c =
@@ -32,7 +32,7 @@ add-size c =
     let table = tree.before.before.before.before in
     let start = table.before.before.before.before.before.before in
     let w = start.requires.1.writable in
-    omega (arith, end-small _ _ _ _ w table.write-table.ensures (tree.write-parts.ensures (alone start.requires.1.block.tree) w.holds.tree (one-child start.requires.1.block.tree)))
+    omega (arith, end-small _ _ _ _ w table.write_table-tree.ensures (tree.write_parts-last.ensures (alone start.requires.1.block.tree) w.holds.tree (one-child start.requires.1.block.tree)))
 
 mul-write-field : tie.Need-overflow-mul-write-field
 mul-write-field c =
@@ -40,20 +40,20 @@ mul-write-field c =
     let table = tree.before.before.before.before in
     let start = table.before.before.before.before.before.before in
     let w = start.requires.1.writable in
-    omega (arith, end-small _ _ _ _ w table.write-table.ensures (tree.write-parts.ensures (alone start.requires.1.block.tree) w.holds.tree (one-child start.requires.1.block.tree)))
+    omega (arith, end-small _ _ _ _ w table.write_table-tree.ensures (tree.write_parts-last.ensures (alone start.requires.1.block.tree) w.holds.tree (one-child start.requires.1.block.tree)))
 
-write-field-requires : tie.Need-write-field-requires
+write-field-requires : tie.Need-write_field-requires
 write-field-requires c κs =
     let tree = c.before.before.before in
     let table = tree.before.before.before.before in
     let start = table.before.before.before.before.before.before in
     let w = start.requires.1.writable in (
       omega arith,
-      room-padding _ _ _ _ w table.write-table.ensures (tree.write-parts.ensures (alone start.requires.1.block.tree) w.holds.tree (one-child start.requires.1.block.tree))
-          (tree.write-parts.auto.0 ∙ table.write-table.auto.0),
+      room-padding _ _ _ _ w table.write_table-tree.ensures (tree.write_parts-last.ensures (alone start.requires.1.block.tree) w.holds.tree (one-child start.requires.1.block.tree))
+          (tree.write_parts-last.auto.0 ∙ table.write_table-tree.auto.0),
     )
 
-write-head-requires : tie.Need-write-head-requires
+write-head-requires : tie.Need-write_head-requires
 write-head-requires c κs =
     let padding = c.before.before.before in
     let tree = padding.before.before.before.before in
@@ -62,10 +62,10 @@ write-head-requires c κs =
     let w = start.requires.1.writable in
     omega (
       arith,
-      five-bytes _ _ _ _ w table.write-table.ensures (tree.write-parts.ensures (alone start.requires.1.block.tree) w.holds.tree (one-child start.requires.1.block.tree)),
-      padding.write-field.auto.0,
-      tree.write-parts.auto.0,
-      table.write-table.auto.0,
+      five-bytes _ _ _ _ w table.write_table-tree.ensures (tree.write_parts-last.ensures (alone start.requires.1.block.tree) w.holds.tree (one-child start.requires.1.block.tree)),
+      padding.write_field.auto.0,
+      tree.write_parts-last.auto.0,
+      table.write_table-tree.auto.0,
     )
 
 returns : tie.Need-returns
@@ -75,11 +75,11 @@ returns c block w =
     let tree = padding.before.before.before.before in
     let table = tree.before.before.before.before in
     let known = table.before.before in
-    let parts = tree.write-parts.ensures (alone block.tree) w.holds.tree (one-child block.tree) in (
-      length_is _ _ _ _ w table.write-table.ensures parts,
-      block_written _ _ _ _ w table.write-table.ensures parts padding.write-field.ensures head.write-head.ensures (λ i. (known.slice-known.given i).fits)
-          (λ i. (c.slice-known5.given i).fits)
-          (head.write-head.auto.0 ∙ padding.write-field.auto.0 ∙ tree.write-parts.auto.0 ∙ table.write-table.auto.0) refl,
+    let parts = tree.write_parts-last.ensures (alone block.tree) w.holds.tree (one-child block.tree) in (
+      length_is _ _ _ _ w table.write_table-tree.ensures parts,
+      block_written _ _ _ _ w table.write_table-tree.ensures parts padding.write_field.ensures head.write_head.ensures (λ i. (known.slice_known-1.given i).fits)
+          (λ i. (c.slice_known-5-1.given i).fits)
+          (head.write_head.auto.0 ∙ padding.write_field.auto.0 ∙ tree.write_parts-last.auto.0 ∙ table.write_table-tree.auto.0) refl,
     )
 
 pub write_spec : {M : Type 1} → statement M

@@ -13,18 +13,18 @@ write_atom_spec =
     (λ c. search rules)
     (λ c κs.
     let kind = c.before.before.before in
-    (omega arith, room-first two_runs (room-second (atom-split _) kind.before.before.before.requires kind.write-field.ensures kind.write-field.auto.0)))
+    (omega arith, room-first two_runs (room-second (atom-split _) kind.before.before.before.requires kind.write_field-kind.ensures kind.write_field-kind.auto.0)))
     (λ c. search rules)
     (λ c κs.
     let number = c.before.before.before in
     let kind = number.before.before.before.before in (
       omega arith,
-      room-second two_runs (room-second (atom-split _) kind.before.before.before.requires kind.write-field.ensures kind.write-field.auto.0)
-          number.write-field2.ensures number.write-field2.auto.0,
+      room-second two_runs (room-second (atom-split _) kind.before.before.before.requires kind.write_field-kind.ensures kind.write_field-kind.auto.0)
+          number.write_field-number.ensures number.write_field-number.auto.0,
     ))
     (λ c. search rules)
     (λ c.
     let set = c.before.before in
     let number = set.before.before.before.before in
-    wrote-both (atom-split _) number.before.before.before.before.write-field.ensures (wrote-both two_runs number.write-field2.ensures
-    set.write-field3.ensures)))
+    wrote-both (atom-split _) number.before.before.before.before.write_field-kind.ensures (wrote-both two_runs number.write_field-number.ensures
+    set.write_field.ensures)))

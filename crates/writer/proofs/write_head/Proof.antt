@@ -19,7 +19,7 @@ write_head_spec =
     let s = edition.before.before.before in (
       omega arith,
       room-first two_runs (room-second (head-split s.args.edition s.args.variables s.args.polynomials s.args.nodes s.args.size) (room-head _ _ _ _ _ s.requires)
-          edition.write-field.ensures edition.write-field.auto.0),
+          edition.write_field-start.ensures edition.write_field-start.auto.0),
     ))
     (λ c κs.
     let first = c.before.before.before in
@@ -28,8 +28,8 @@ write_head_spec =
       omega arith,
       room-first two_runs (room-second two_runs
           (room-second (head-split s.args.edition s.args.variables s.args.polynomials s.args.nodes s.args.size) (room-head _ _ _ _ _ s.requires)
-          edition.write-field.ensures edition.write-field.auto.0)
-          first.write-field2.ensures first.write-field2.auto.0),
+          edition.write_field-start.ensures edition.write_field-start.auto.0)
+          first.write_field-first.ensures first.write_field-first.auto.0),
     ))
     (λ c κs.
     let second = c.before.before.before in
@@ -39,9 +39,9 @@ write_head_spec =
       omega arith,
       room-first two_runs (room-second two_runs (room-second two_runs
           (room-second (head-split s.args.edition s.args.variables s.args.polynomials s.args.nodes s.args.size) (room-head _ _ _ _ _ s.requires)
-          edition.write-field.ensures edition.write-field.auto.0)
-          first.write-field2.ensures first.write-field2.auto.0)
-          second.write-field3.ensures second.write-field3.auto.0),
+          edition.write_field-start.ensures edition.write_field-start.auto.0)
+          first.write_field-first.ensures first.write_field-first.auto.0)
+          second.write_field-second.ensures second.write_field-second.auto.0),
     ))
     (λ c κs.
     let third = c.before.before.before in
@@ -52,10 +52,10 @@ write_head_spec =
       omega arith,
       room-second two_runs (room-second two_runs (room-second two_runs
           (room-second (head-split s.args.edition s.args.variables s.args.polynomials s.args.nodes s.args.size) (room-head _ _ _ _ _ s.requires)
-          edition.write-field.ensures edition.write-field.auto.0)
-          first.write-field2.ensures first.write-field2.auto.0)
-          second.write-field3.ensures second.write-field3.auto.0)
-          third.write-field4.ensures third.write-field4.auto.0,
+          edition.write_field-start.ensures edition.write_field-start.auto.0)
+          first.write_field-first.ensures first.write_field-first.auto.0)
+          second.write_field-second.ensures second.write_field-second.auto.0)
+          third.write_field-third.ensures third.write_field-third.auto.0,
     ))
     (λ c. search rules)
     (λ c.
@@ -63,6 +63,6 @@ write_head_spec =
     let third = last.before.before.before.before in
     let second = third.before.before.before.before in
     let first = second.before.before.before.before in
-    wrote-both (head-split _ _ _ _ _) first.before.before.before.before.write-field.ensures (wrote-both two_runs first.write-field2.ensures
-    (wrote-both two_runs second.write-field3.ensures
-    (wrote-both two_runs third.write-field4.ensures last.write-field5.ensures)))))
+    wrote-both (head-split _ _ _ _ _) first.before.before.before.before.write_field-start.ensures (wrote-both two_runs first.write_field-first.ensures
+    (wrote-both two_runs second.write_field-second.ensures
+    (wrote-both two_runs third.write_field-third.ensures last.write_field.ensures)))))

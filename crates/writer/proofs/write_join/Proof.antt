@@ -12,8 +12,8 @@ write_join_spec =
     (λ c κs. (omega arith, room-first (join-split _ _) c.before.before.requires))
     (λ c κs. let kind = c.before.before.before in (
       omega arith,
-      room-second (join-split _ _) kind.before.before.before.requires kind.write-field.ensures
-          kind.write-field.auto.0,
+      room-second (join-split _ _) kind.before.before.before.requires kind.write_field-next.ensures
+          kind.write_field-next.auto.0,
     ))
     (λ c. search rules)
-    (λ c. wrote-both (join-split _ _) c.before.before.before.before.before.before.write-field.ensures c.before.before.write-field2.ensures))
+    (λ c. wrote-both (join-split _ _) c.before.before.before.before.before.before.write_field-next.ensures c.before.before.write_field.ensures))

@@ -19,15 +19,15 @@ pub write_term_spec : {M : Type 1} → statement M
 write_term_spec =
     tie.close
     (tie.spec (λ c κs. search rules)
-    (λ c κs. let s = c.before.before.before in (omega arith, room-first (term-split _ _ _ (c.minus-of.ensures ∙ ap minus_bit (back s)) refl) s.requires.1))
+    (λ c κs. let s = c.before.before.before in (omega arith, room-first (term-split _ _ _ (c.minus_of.ensures ∙ ap minus_bit (back s)) refl) s.requires.1))
     (λ c κs. search rules)
     (λ c κs.
     let sign = c.before.before.before.before in
     let s = sign.before.before.before.before in (
       omega arith,
       room-first two_runs
-          (room-second (term-split _ _ _ (sign.before.minus-of.ensures ∙ ap minus_bit (back s)) (c.magnitude-of.ensures ∙ ap nat_abs (back s))) s.requires.1
-          sign.write-field.ensures sign.write-field.auto.0),
+          (room-second (term-split _ _ _ (sign.before.minus_of.ensures ∙ ap minus_bit (back s)) (c.magnitude_of.ensures ∙ ap nat_abs (back s))) s.requires.1
+          sign.write_field-sign.ensures sign.write_field-sign.auto.0),
     ))
     (λ c κs.
     let size = c.before.before.before in
@@ -35,10 +35,10 @@ write_term_spec =
     let s = sign.before.before.before.before in (
       s.requires.0,
       room-second two_runs
-          (room-second (term-split _ _ _ (sign.before.minus-of.ensures ∙ ap minus_bit (back s)) (size.before.magnitude-of.ensures ∙ ap nat_abs (back s)))
+          (room-second (term-split _ _ _ (sign.before.minus_of.ensures ∙ ap minus_bit (back s)) (size.before.magnitude_of.ensures ∙ ap nat_abs (back s)))
           s.requires.1
-          sign.write-field.ensures sign.write-field.auto.0)
-          size.write-field2.ensures size.write-field2.auto.0,
+          sign.write_field-sign.ensures sign.write_field-sign.auto.0)
+          size.write_field-size.ensures size.write_field-size.auto.0,
     ))
     (λ c. search rules)
     (λ c.
@@ -46,5 +46,5 @@ write_term_spec =
     let size = last.before.before.before.before in
     let sign = size.before.before.before.before.before in
     let s = sign.before.before.before.before in
-    wrote-both (term-split _ _ _ (sign.before.minus-of.ensures ∙ ap minus_bit (back s)) (size.before.magnitude-of.ensures ∙ ap nat_abs (back s)))
-    sign.write-field.ensures (wrote-both two_runs size.write-field2.ensures last.write-exponents.ensures)))
+    wrote-both (term-split _ _ _ (sign.before.minus_of.ensures ∙ ap minus_bit (back s)) (size.before.magnitude_of.ensures ∙ ap nat_abs (back s)))
+    sign.write_field-sign.ensures (wrote-both two_runs size.write_field-size.ensures last.write_exponents.ensures)))

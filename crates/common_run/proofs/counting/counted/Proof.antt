@@ -6,19 +6,19 @@ use Rattle.common_run.proofs.Counts.{others-afresh, known-lost}
 use Rattle.common_run.proofs.counting.counted.Statement.{statement}
 use Rattle.common_run.proofs.counting.counted.Tie as tie
 
-form-counted-requires : tie.Need-form-counted-requires
+form-counted-requires : tie.Need-form_counted-requires
 form-counted-requires c κs =
     let s = c.before.before.before.before.before.before in
-    (s.requires, (refl, sym c.before.before.which.ensures.0 ∙ ap variable_of c.enum_told.given.1))
+    (s.requires, (refl, sym c.before.before.which-holds.ensures.0 ∙ ap variable_of c.enum_told-1.given.1))
 
-fresh-rounds-requires : tie.Need-fresh-rounds-requires
+fresh-rounds-requires : tie.Need-fresh_rounds-rounds-requires
 fresh-rounds-requires c κs = let s = c.before.before.before.before.before.before.before in (s.requires.0, others-afresh s.requires.1.0)
 
-returns-2 : tie.Need-returns-2
+returns-2 : tie.Need-returns-in-Variable
 returns-2 c =
     let s = c.before.before.before.before.before.before.before.before.before in
     let (forms, (remain, known)) = s.requires in
-    record { counts = c.before.fresh-rounds.ensures; known = known-lost remain known c.lost.ensures }
+    record { counts = c.before.fresh_rounds-rounds.ensures; known = known-lost remain known c.lost-known.ensures }
 
 pub counted_spec : {M : Type 1} → statement M
 counted_spec =

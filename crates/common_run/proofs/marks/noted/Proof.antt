@@ -7,5 +7,5 @@ use Rattle.common_run.proofs.marks.noted.Tie as tie
 pub noted_spec : {M : Type 1} → statement M
 noted_spec =
     tie.close
-    (tie.spec (λ c. rw c.if1.true (sym (none-marked c.before.args.round)))
-    (λ c. sym (some-marked c.before.args.mark c.before.args.round c.if1.false)))
+    (tie.spec (λ c. rw c.if-mark-eq0.true (sym (none-marked c.before.args.round)))
+    (λ c. sym (some-marked c.before.args.mark c.before.args.round c.if-mark-eq0.false)))

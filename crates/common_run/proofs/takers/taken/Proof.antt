@@ -5,7 +5,7 @@ use Rattle.common_run.proofs.takers.taken.Statement.{statement}
 use Rattle.common_run.proofs.takers.taken.Tie as tie
 
 returns : tie.Need-returns
-returns c = three-signs _ _ _ _ c.before.before.taker.ensures c.before.taker2.ensures c.taker3.ensures
+returns c = three-signs _ _ _ _ c.before.before.taker-negative.ensures c.before.taker-nought.ensures c.taker-positive.ensures
 
 pub taken_spec : {M : Type 1} → statement M
 taken_spec = tie.close (tie.spec (λ c κs. search rules) (λ c κs. search rules) (λ c κs. search rules) returns)

@@ -23,23 +23,23 @@ sixteen s = search rules
 place : (s : tie.Start) → s.args.i < few s.args.t5.variables
 place s = omega (arith, s.requires.0.forms.variables, s.requires.1.0)
 
-returns : tie.Need-returns
+returns : tie.Need-returns-then-old-low
 returns c =
     let s = c.before.before.before.before.before.before in
-    turn-floored s.args.t5 s.requires.1.1.1 refl s.args.i s.requires.1.0 (place s) _ _ c.if1.true s.requires.0
+    turn-floored s.args.t5 s.requires.1.1.1 refl s.args.i s.requires.1.0 (place s) _ _ c.if-old-low.true s.requires.0
 
-returns-2 : tie.Need-returns-2
+returns-2 : tie.Need-returns-then-cut-old
 returns-2 c =
     let s = c.before.before.before.before.before.before.before.before.before.before.before in
-    turn-idle (table s) s.args.atoms s.args.t5 refl s.args.i (place s) c.before.before.before.cut-marking.ensures c.if2.true s.requires.0
+    turn-idle (table s) s.args.atoms s.args.t5 refl s.args.i (place s) c.before.before.before.cut_marking-cut.ensures c.if-cut-old.true s.requires.0
 
-returns-3 : tie.Need-returns-3
+returns-3 : tie.Need-returns
 returns-3 c =
     let s = c.before.before.before.before.before.before.before.before.before.before.before.before.before.before.before in
     let ready = s.requires.0 in
     let long : length s.args.t5.sets ≡ 16 = sixteen s in
-    turn-cuts (table s) s.args.atoms s.args.t5 refl s.args.i (place s) c.before.before.before.before.before.before.before.cut-marking.ensures (omega (arith, long, ready.forms.variables, s.requires.1.0))
-    (rw c.before.before.sign-list.ensures (list-ready _ s.args.atoms _ ready.forms refl ready.places))
+    turn-cuts (table s) s.args.atoms s.args.t5 refl s.args.i (place s) c.before.before.before.before.before.before.before.cut_marking-cut.ensures (omega (arith, long, ready.forms.variables, s.requires.1.0))
+    (rw c.before.before.sign_list.ensures (list-ready _ s.args.atoms _ ready.forms refl ready.places))
 
 pub turn_marking_spec : {M : Type 1} → statement M
 turn_marking_spec =

@@ -9,20 +9,20 @@ use Rattle.deduce.proofs.LoneTerms.{met-here, met-later, met-nowhere}
 use Rattle.deduce.proofs.alone.meets.Statement.{statement}
 use Rattle.deduce.proofs.alone.meets.Tie as tie
 
-abbrev invariant-loop : tie.invariant-loop
+abbrev invariant-loop : tie.invariant-loop-i
 invariant-loop monomial m to i₀ i = met m (numbers_from monomial i (to - i)) ≡ met m (numbers_from monomial i₀ (to - i₀))
 
-abbrev decreases-loop : tie.decreases-loop
+abbrev decreases-loop : tie.decreases-loop-i
 decreases-loop monomial m to i₀ i = to - i
 
-returns : tie.Need-returns invariant-loop decreases-loop
-returns c = met-here _ _ _ _ (omega arith) c.if1.true ∙ c.before.before.before.loop.invariant
+returns : tie.Need-returns-then-its-m invariant-loop decreases-loop
+returns c = met-here _ _ _ _ (omega arith) c.if-its-m.true ∙ c.before.before.before.loop-i.invariant
 
-loop-again : tie.Need-loop-preserved invariant-loop decreases-loop
-loop-again c = sym (met-later _ _ _ _ (omega arith) c.if1.false) ∙ c.before.before.before.loop.invariant
+loop-again : tie.Need-loop-i-preserved invariant-loop decreases-loop
+loop-again c = sym (met-later _ _ _ _ (omega arith) c.if-its-m.false) ∙ c.before.before.before.loop-i.invariant
 
-returns-2 : tie.Need-returns-2 invariant-loop decreases-loop
-returns-2 c = sym (met-nowhere _ _ _ _ (omega arith)) ∙ c.before.loop.invariant
+returns-2 : tie.Need-returns invariant-loop decreases-loop
+returns-2 c = sym (met-nowhere _ _ _ _ (omega arith)) ∙ c.before.loop-i.invariant
 
 pub meets_spec : {M : Type 1} → statement M
 meets_spec =

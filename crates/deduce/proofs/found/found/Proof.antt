@@ -21,73 +21,73 @@ use Rattle.deduce.proofs.LastWalks.{left-zero, left-any}
 use Rattle.deduce.proofs.found.found.Statement.{statement}
 use Rattle.deduce.proofs.found.found.Tie as tie
 
-abbrev invariant-loop : tie.invariant-loop
+abbrev invariant-loop : tie.invariant-loop-i
 invariant-loop coefficient monomial sign set p-to q-to c₀ i₀ j₀ c i j = Walked coefficient monomial sign i₀ p-to j₀ q-to nothing (gathered_of c) i j
 
-abbrev decreases-loop : tie.decreases-loop
+abbrev decreases-loop : tie.decreases-loop-i
 decreases-loop coefficient monomial sign set p-to q-to c₀ i₀ j₀ c i j = p-to + q-to - (i + j)
 
-loop-holds : tie.Need-loop-init invariant-loop decreases-loop
+loop-holds : tie.Need-loop-i-init invariant-loop decreases-loop
 unfolding nothing every_t everywhere
 loop-holds c = record { first = omega arith; second = omega arith; rest = λ s t. refl }
 
 -- the row's coefficients, from their bits
-a_back : (c : tie.After-struct-told2 invariant-loop decreases-loop) → let n = c.before.before.next.result in to_z w32 (of_z w32 n.a) ≡ n.a
-a_back c = back {z = c.before.before.next.result.a} (record { sfits = c.struct-told2.given.0.1 })
+a_back : (c : tie.After-struct_told-in-loop-i-1 invariant-loop decreases-loop) → let n = c.before.before.next-step.result in to_z w32 (of_z w32 n.a) ≡ n.a
+a_back c = back {z = c.before.before.next-step.result.a} (record { sfits = c.struct_told-in-loop-i-1.given.0.1 })
 
-b-back : (c : tie.After-struct-told2 invariant-loop decreases-loop) → let n = c.before.before.next.result in to_z w32 (of_z w32 n.b) ≡ n.b
-b-back c = back {z = c.before.before.next.result.b} (record { sfits = c.struct-told2.given.1.0.1 })
+b-back : (c : tie.After-struct_told-in-loop-i-1 invariant-loop decreases-loop) → let n = c.before.before.next-step.result in to_z w32 (of_z w32 n.b) ≡ n.b
+b-back c = back {z = c.before.before.next-step.result.b} (record { sfits = c.struct_told-in-loop-i-1.given.1.0.1 })
 
 -- the row leaves one t
-leaves : (c : tie.Then1 invariant-loop decreases-loop) → let n = c.before.before.before.before.next.result in not (is_zero n.b) && asks_zero (kind n.s) ≡ true
-leaves c = rw (b-back c.before.before) at (sym c.before.leaves-one.ensures ∙ c.if1.true)
+leaves : (c : tie.Then-leaves_one invariant-loop decreases-loop) → let n = c.before.before.before.before.next-step.result in not (is_zero n.b) && asks_zero (kind n.s) ≡ true
+leaves c = rw (b-back c.before.before) at (sym c.before.leaves_one.ensures ∙ c.if-leaves_one.true)
 
-root : (c : tie.Then1 invariant-loop decreases-loop) → let n = c.before.before.before.before.next.result in RootOf n.a n.b
+root : (c : tie.Then-leaves_one invariant-loop decreases-loop) → let n = c.before.before.before.before.next-step.result in RootOf n.a n.b
 root c =
-    let n = c.before.before.before.before.next.result in
+    let n = c.before.before.before.before.next-step.result in
     root-of n.a n.b (not-true (is_zero n.b) (and_first (not (is_zero n.b)) (asks_zero (kind n.s)) (leaves c)))
 
-end_is : (c : tie.Then1 invariant-loop decreases-loop) → let n = c.before.before.before.before.next.result in
+end_is : (c : tie.Then-leaves_one invariant-loop decreases-loop) → let n = c.before.before.before.before.next-step.result in
     end_at (to_z w32 (of_z w32 n.a)) (to_z w32 (of_z w32 n.b)) ≡ at (root c).fraction
 end_is c = rw (a_back c.before.before, b-back c.before.before) (root c).is
 
-left : (c : tie.After-at invariant-loop decreases-loop) → let n = c.before.before.before.before.before.next.result in
-    Alike (gather_row (kind n.s) n.a n.b (gathered_of c.before.before.before.before.before.before.before.loop.c)) (last_of c.at.result)
+left : (c : tie.After-at-last invariant-loop decreases-loop) → let n = c.before.before.before.before.before.next-step.result in
+    Alike (gather_row (kind n.s) n.a n.b (gathered_of c.before.before.before.before.before.before.before.loop-i.c)) (last_of c.at-last.result)
 left c =
-    let n = c.before.before.before.before.before.next.result in
+    let n = c.before.before.before.before.before.next-step.result in
     let r = root c.before in
-    root-left (kind n.s) r.fraction (end_is c.before) r.root (and_second (not (is_zero n.b)) (asks_zero (kind n.s)) (leaves c.before)) c.at.ensures
+    root-left (kind n.s) r.fraction (end_is c.before) r.root (and_second (not (is_zero n.b)) (asks_zero (kind n.s)) (leaves c.before)) c.at-last.ensures
 
-there : (c : tie.After-at invariant-loop decreases-loop) → There c.at.result.t
-there c = record { fraction = (root c.before).fraction; is = ap end_of c.at.ensures.t ∙ end_is c.before }
+there : (c : tie.After-at-last invariant-loop decreases-loop) → There c.at-last.result.t
+there c = record { fraction = (root c.before).fraction; is = ap end_of c.at-last.ensures.t ∙ end_is c.before }
 
 -- after one more row
-walked : (c : tie.After-by invariant-loop decreases-loop) →
+walked : (c : tie.After-by-c invariant-loop decreases-loop) →
     let s = c.before.before.before.before.before.before.before.before.before.before.args in
-    let r = c.before.before.before.before.before.next.result in
-    Walked s.coefficient.now s.monomial.now s.sign.now s.p.from s.p.to s.q.from s.q.to nothing (gathered_of c.by.result) r.i r.j
+    let r = c.before.before.before.before.before.next-step.result in
+    Walked s.coefficient.now s.monomial.now s.sign.now s.p.from s.p.to s.q.from s.q.to nothing (gathered_of c.by-c.result) r.i r.j
 walked c =
-    walk-on c.before.before.before.before.before.before.before.loop.invariant c.before.before.before.before.before.next.ensures
-    (rw (c.by.ensures, a_back c.before.before.before, b-back c.before.before.before))
+    walk-on c.before.before.before.before.before.before.before.loop-i.invariant c.before.before.before.before.before.next-step.ensures
+    (rw (c.by-c.ensures, a_back c.before.before.before, b-back c.before.before.before))
 
-found-at-zero-requires : tie.Need-found-at-zero-requires invariant-loop decreases-loop
+found-at-zero-requires : tie.Need-found_at_zero-requires invariant-loop decreases-loop
 unfolding there
 found-at-zero-requires c κs =
     let start = c.before.before.before.before.before.before.before.before.before.before.before in
-    let fits = c.before.before.before.before.struct-told2.given.0.1 in
-    let nought = (root c.before.before).nought (is-zero (record { sfits = fits }) c.if2.true) in
-    ((start.requires.0.coefficients, start.requires.0.signs), record { there = there c.before; nought = nought })
+    let fits = c.before.before.before.before.struct_told-in-loop-i-1.given.0.1 in
+    let nought = (root c.before.before).nought (is-zero (record { sfits = fits }) c.if-a-eq0.true) in
+    ((start.requires.within.coefficients, start.requires.within.signs), record { there = there c.before; nought = nought })
 
-returns : tie.Need-returns invariant-loop decreases-loop
+returns : tie.Need-returns-then-a-eq0 invariant-loop decreases-loop
 returns c =
     let d = c.before.before in
-    left-zero d.at.result d.before.before.before.before.before.before.before.loop.invariant d.before.before.before.before.before.next.ensures (left d)
-    c.found-at-zero.ensures
+    left-zero d.at-last.result d.before.before.before.before.before.before.before.loop-i.invariant d.before.before.before.before.before.next-step.ensures (left d)
+    c.found_at_zero.ensures
 
-found-at-requires : tie.Need-found-at-requires invariant-loop decreases-loop
+found-at-requires : tie.Need-found_at-requires invariant-loop decreases-loop
 found-at-requires c κs =
     let start = c.before.before.before.before.before.before.before.before.before.before.before in
-    let step = c.before.before.before.before.before.before.next.ensures in
+    let step = c.before.before.before.before.before.before.next-step.ensures in
     let (mine, its) = start.requires in (
       record { ordered = step.first.within; coefficients = mine.coefficients; monomials = mine.monomials; signs = mine.signs },
       (
@@ -96,22 +96,22 @@ found-at-requires c κs =
       ),
     )
 
-returns-2 : tie.Need-returns-2 invariant-loop decreases-loop
+returns-2 : tie.Need-returns-then-leaves_one invariant-loop decreases-loop
 returns-2 c =
     let d = c.before.before in
-    left-any d.at.result d.before.before.before.before.before.before.before.loop.invariant d.before.before.before.before.before.next.ensures (left d)
+    left-any d.at-last.result d.before.before.before.before.before.before.before.loop-i.invariant d.before.before.before.before.before.next-step.ensures (left d)
     c.found_at.ensures
 
-returns-3 : tie.Need-returns-3 invariant-loop decreases-loop
+returns-3 : tie.Need-returns-then-not-has_t invariant-loop decreases-loop
 returns-3 c =
     let w = walked c.before.before in
-    let r = c.before.before.by.result in
-    let none = (neither (has_t (interval_of r.l)) (has_t (interval_of r.u))).0 (sym c.before.has-t.ensures ∙ not-true _ c.if3.true) in
+    let r = c.before.before.by-c.result in
+    let none = (neither (has_t (interval_of r.l)) (has_t (interval_of r.u))).0 (sym c.before.has_t.ensures ∙ not-true _ c.if-not-has_t.true) in
     record { found = λ s t. finding-nothing _ (gathered_of r) _ none.0 none.1 ∙ ap (found_from _) (w.rest s t) }
 
-returns-4 : tie.Need-returns-4 invariant-loop decreases-loop
+returns-4 : tie.Need-returns invariant-loop decreases-loop
 returns-4 c =
-    let l = c.before.before.before.before.before.loop in
+    let l = c.before.before.before.before.before.loop-i in
     let a = c.before.before.before.before.before.before.before.before.args in
     let h : a.p.to ≤ l.i = omega arith in
     let k : a.q.to ≤ l.j = omega arith in

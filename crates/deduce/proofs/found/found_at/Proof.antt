@@ -15,52 +15,52 @@ use Rattle.deduce.proofs.LastWalks.{LastWalked, last-walk-on, last_none, last_do
 use Rattle.deduce.proofs.found.found_at.Statement.{statement}
 use Rattle.deduce.proofs.found.found_at.Tie as tie
 
-abbrev invariant-loop : tie.invariant-loop
+abbrev invariant-loop : tie.invariant-loop-i
 invariant-loop coefficient monomial sign set p-to q-to left₀ i₀ j₀ left i j = LastWalked coefficient monomial sign i₀ p-to j₀ q-to left₀ left i j
 
-abbrev decreases-loop : tie.decreases-loop
+abbrev decreases-loop : tie.decreases-loop-i
 decreases-loop coefficient monomial sign set p-to q-to left₀ i₀ j₀ left i j = p-to + q-to - (i + j)
 
 -- the sign of a + tb
-value-is : (c : tie.After-sign-at invariant-loop decreases-loop) →
-    let n = c.before.before.before.before.next.result in
-    (f : Fraction) → end_of c.before.before.before.before.before.before.loop.left.t ≡ at f → c.sign_at.result.0 ≡ only (sign_of (combined f n.a n.b))
+value-is : (c : tie.After-sign_at-value invariant-loop decreases-loop) →
+    let n = c.before.before.before.before.next-step.result in
+    (f : Fraction) → end_of c.before.before.before.before.before.before.loop-i.left.t ≡ at f → c.sign_at-value.result.0 ≡ only (sign_of (combined f n.a n.b))
 value-is c f e =
-    let n = c.before.before.before.before.next.result in
-    let told = c.before.before.struct_told.given in
-    rw (← back {z = n.a} (record { sfits = told.0.1 }), ← back {z = n.b} (record { sfits = told.1.0.1 })) (c.sign_at.ensures f e)
+    let n = c.before.before.before.before.next-step.result in
+    let told = c.before.before.struct_told-1.given in
+    rw (← back {z = n.a} (record { sfits = told.0.1 }), ← back {z = n.b} (record { sfits = told.1.0.1 })) (c.sign_at-value.ensures f e)
 
 -- after one more row, of which r is left
-walked : (c : tie.After-sign-at invariant-loop decreases-loop) (r : Last) →
+walked : (c : tie.After-sign_at-value invariant-loop decreases-loop) (r : Last) →
     let s = c.before.before.before.before.before.before.before.before.before.args in
-    let l = c.before.before.before.before.before.before.loop in
-    let n = c.before.before.before.before.next.result in
-    Kept l.left c.sign_at.result.0 (kind n.s) r
+    let l = c.before.before.before.before.before.before.loop-i in
+    let n = c.before.before.before.before.next-step.result in
+    Kept l.left c.sign_at-value.result.0 (kind n.s) r
     → LastWalked s.coefficient.now s.monomial.now s.sign.now s.p.from s.p.to s.q.from s.q.to s.last r n.i n.j
-walked c r kept = last-walk-on c.before.before.before.before.before.before.loop.invariant c.before.before.before.before.next.ensures (value-is c) kept
+walked c r kept = last-walk-on c.before.before.before.before.before.before.loop-i.invariant c.before.before.before.before.next-step.ensures (value-is c) kept
 
-returns : tie.Need-returns invariant-loop decreases-loop
+returns : tie.Need-returns-then-rules_out invariant-loop decreases-loop
 returns c =
     let d = c.before.before in
     let start = d.before.before.before.before.before.before.before.before.before in
-    let l = d.before.before.before.before.before.before.loop in
-    let there = start.requires.1.1 in
+    let l = d.before.before.before.before.before.before.loop-i in
+    let there = start.requires.within_2.1 in
     let value = value-is d there.fraction (ap end_of l.invariant.t ∙ there.is) in
-    let out = ruled_out {x = l.left} _ value (sym c.before.rules-out.ensures ∙ c.if1.true) in
+    let out = ruled_out {x = l.left} _ value (sym c.before.rules_out.ensures ∙ c.if-rules_out.true) in
     last_none (walked d (gone l.left) out) there refl
 
-returns-2 : tie.Need-returns-2 invariant-loop decreases-loop
+returns-2 : tie.Need-returns-then-is_gone invariant-loop decreases-loop
 returns-2 c =
     let d = c.before.before.before.before.before in
     let start = d.before.before.before.before.before.before.before.before.before in
-    last_none (walked d _ c.before.before.by.ensures) start.requires.1.1 (sym c.before.is-gone.ensures ∙ c.if2.true)
+    last_none (walked d _ c.before.before.by-left.ensures) start.requires.within_2.1 (sym c.before.is_gone.ensures ∙ c.if-is_gone.true)
 
-returns-3 : tie.Need-returns-3 invariant-loop decreases-loop
-returns-3 c = last_done c.before.before.loop.invariant c.before.before.before.before.before.requires.1.1 (omega arith) (omega arith) c.found.ensures
+returns-3 : tie.Need-returns invariant-loop decreases-loop
+returns-3 c = last_done c.before.before.loop-i.invariant c.before.before.before.before.before.requires.within_2.1 (omega arith) (omega arith) c.found.ensures
 
 pub found_at_spec : {M : Type 1} → statement M
 found_at_spec =
     tie.close
     (tie.spec invariant-loop decreases-loop (λ c. record { first = omega arith; second = omega arith; t = refl; rest = λ s t k e. refl }) (λ c. omega arith) (λ c. omega arith)
     (λ c κs. search rules) (λ c κs. search rules) (λ c κs. search rules) returns (λ c κs. search rules) (λ c κs. search rules) returns-2 (λ c. omega arith)
-    (λ c. walked c.before.before.before.before.before _ c.before.before.by.ensures) (λ c κs. search rules) returns-3)
+    (λ c. walked c.before.before.before.before.before _ c.before.before.by-left.ensures) (λ c κs. search rules) returns-3)

@@ -4,4 +4,4 @@ use Rattle.deduce.proofs.last.asks_zero.Statement.{statement}
 use Rattle.deduce.proofs.last.asks_zero.Tie as tie
 
 pub asks_zero_spec : {M : Type 1} → statement M
-asks_zero_spec = tie.close (tie.spec (λ c. zero-asked _ c.if1.true) (λ c. zero-asked-from _ c.if1.false))
+asks_zero_spec = tie.close (tie.spec (λ c. zero-asked _ c.if-s-eq5.true) (λ c. zero-asked-from _ c.if-s-eq5.false))

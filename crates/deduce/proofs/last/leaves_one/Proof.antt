@@ -7,5 +7,5 @@ use Rattle.deduce.proofs.last.leaves_one.Tie as tie
 pub leaves_one_spec : {M : Type 1} → statement M
 leaves_one_spec =
     tie.close
-    (tie.spec (λ c κs. search rules) (λ c. rw (is-zero c.before.ranges.b c.if1.true))
-    (λ c. rw (not_zero c.before.before.ranges.b c.before.if1.false) c.asks-zero.ensures))
+    (tie.spec (λ c κs. search rules) (λ c. rw (is-zero c.before.ranges.b c.if-b-eq0.true))
+    (λ c. rw (not_zero c.before.before.ranges.b c.before.if-b-eq0.false) c.asks_zero.ensures))

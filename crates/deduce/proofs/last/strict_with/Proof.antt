@@ -8,5 +8,5 @@ pub strict_with_spec : {M : Type 1} → statement M
 strict_with_spec =
     tie.close
     (tie.spec (λ c. search rules) (λ c κs. search rules)
-    (λ c. let d = c.before.before.before in simp (d.if1.false, sym c.before.before.is-strict.ensures ∙ c.before.if2.true))
-    (λ c. simp (c.before.before.if1.false, sym c.before.is-strict.ensures ∙ c.if2.false)))
+    (λ c. let d = c.before.before.before in simp (d.if-before.false, sym c.before.before.is_strict.ensures ∙ c.before.if-is_strict.true))
+    (λ c. simp (c.before.before.if-before.false, sym c.before.is_strict.ensures ∙ c.if-is_strict.false)))

@@ -8,22 +8,22 @@ use Rattle.forms.specs.Slots.{copied}
 use Rattle.forms.proofs.slots.copy_monomials.Statement.{statement}
 use Rattle.forms.proofs.slots.copy_monomials.Tie as tie
 
-abbrev invariant-loop : tie.invariant-loop
+abbrev invariant-loop : tie.invariant-loop-i
 invariant-loop source target₀ count i₀ target i =
     (length target ≡ length target₀) × (stores 0 (λ j. j) (λ j x. get_or source j 0) target i count ≡ copied source target₀ count)
 
-abbrev decreases-loop : tie.decreases-loop
+abbrev decreases-loop : tie.decreases-loop-i
 decreases-loop source target₀ count i₀ target i = count - i
 
-loop-again : tie.Need-loop-preserved invariant-loop decreases-loop
+loop-again : tie.Need-loop-i-preserved invariant-loop decreases-loop
 loop-again c =
-    let l = c.before.before.loop in
+    let l = c.before.before.loop-i in
     let a = c.before.before.before.args in
     (simp length-set l.invariant.0, sym (stores-step 0 (λ j. j) (λ j x. get_or a.source.now j 0) l.target l.i a.count (omega arith)) ∙ l.invariant.1)
 
 returns : tie.Need-returns invariant-loop decreases-loop
 returns c =
-    let l = c.before.loop in
+    let l = c.before.loop-i in
     let a = c.before.before.args in
     sym (stores-end 0 (λ j. j) (λ j x. get_or a.source.now j 0) l.target l.i a.count (omega arith)) ∙ l.invariant.1
 
@@ -32,4 +32,4 @@ copy_monomials_spec =
     tie.close
     (tie.spec invariant-loop decreases-loop (λ c. (refl, refl)) (λ c. omega arith) (λ c. omega arith) (λ c. omega arith) (λ c. omega arith) (λ c. omega arith)
     (λ c. omega arith) loop-again
-    (λ c. c.before.loop.invariant.0) returns)
+    (λ c. c.before.loop-i.invariant.0) returns)

@@ -13,24 +13,24 @@ use Rattle.forms.specs.Slots.{is_own, filled_coefficients, filled_monomials, fil
 use Rattle.forms.proofs.slots.fill.Statement.{statement}
 use Rattle.forms.proofs.slots.fill.Tie as tie
 
-abbrev invariant-loop : tie.invariant-loop
+abbrev invariant-loop : tie.invariant-loop-i
 invariant-loop coefficient₀ monomial₀ terms₀ number polynomials i₀ coefficient monomial terms i =
     (i ≤ 64) × (length coefficient ≡ length coefficient₀) × (length monomial ≡ length monomial₀) × (length terms ≡ length terms₀)
     × (stores (pos 0) (λ j. 16 * j) (λ j x. cond (is_own number polynomials j) x (pos 0)) coefficient i 64 ≡ filled_coefficients (is_own number polynomials) coefficient₀)
     × (stores 0 (λ j. 16 * j) (λ j x. cond (is_own number polynomials j) x (j + 1)) monomial i 64 ≡ filled_monomials (is_own number polynomials) monomial₀)
     × (stores 0 (λ j. j) (λ j x. cond (is_own number polynomials j) x 1) terms i 64 ≡ filled_counts (is_own number polynomials) terms₀)
 
-abbrev decreases-loop : tie.decreases-loop
+abbrev decreases-loop : tie.decreases-loop-i
 decreases-loop coefficient₀ monomial₀ terms₀ number polynomials i₀ coefficient monomial terms i = 64 - i
 
-loop-again : tie.Need-loop-preserved invariant-loop decreases-loop
+loop-again : tie.Need-loop-i-preserved-then-not-is_own invariant-loop decreases-loop
 loop-again c =
-    let l = c.before.before.before.before.before.before.before.before.before.before.before.before.loop in
+    let l = c.before.before.before.before.before.before.before.before.before.before.before.before.loop-i in
     let a = c.before.before.before.before.before.before.before.before.before.before.before.before.before.before.before.before.args in
     let own = is_own a.number.now a.polynomials in
-    let put = c.before.before.before.before.before.put-term.ensures in
+    let put = c.before.before.before.before.before.put_term.ensures in
     let test = c.before.before.before.before.before.before.before.before.before.before in
-    let fails : own l.i ≡ false = sym test.is-own.ensures ∙ not-true _ c.before.before.before.before.before.before.before.before.before.if1.true in (
+    let fails : own l.i ≡ false = sym test.is_own.ensures ∙ not-true _ c.before.before.before.before.before.before.before.before.before.if-not-is_own.true in (
       omega arith,
       ap length put.0 ∙ length-set l.coefficient (16 * l.i) (pos 0) ∙ l.invariant.1,
       ap length put.1 ∙ length-set l.monomial (16 * l.i) (l.i + 1) ∙ l.invariant.2,
@@ -43,12 +43,12 @@ loop-again c =
           ∙ sym (unless-failed 0 (λ j. j) own (λ j. 1) l.terms l.i 64 (omega arith) fails) ∙ l.invariant.6,
     )
 
-loop-again-2 : tie.Need-loop-preserved-2 invariant-loop decreases-loop
+loop-again-2 : tie.Need-loop-i-preserved invariant-loop decreases-loop
 loop-again-2 c =
-    let l = c.before.before.before.loop in
+    let l = c.before.before.before.loop-i in
     let a = c.before.before.before.before.before.before.before.args in
     let own = is_own a.number.now a.polynomials in
-    let passes : own l.i ≡ true = sym c.before.is-own.ensures ∙ not-false _ c.if1.false in (
+    let passes : own l.i ≡ true = sym c.before.is_own.ensures ∙ not-false _ c.if-not-is_own.false in (
       omega arith,
       l.invariant.1,
       l.invariant.2,
@@ -60,7 +60,7 @@ loop-again-2 c =
 
 returns : tie.Need-returns invariant-loop decreases-loop
 returns c =
-    let l = c.before.loop in
+    let l = c.before.loop-i in
     let a = c.before.before.before.before.before.args in
     let own = is_own a.number.now a.polynomials in (
       sym (stores-end (pos 0) (λ j. 16 * j) (λ j x. cond (own j) x (pos 0)) l.coefficient l.i 64 (omega arith)) ∙ l.invariant.4,
@@ -72,4 +72,4 @@ pub fill_spec : {M : Type 1} → statement M
 fill_spec =
     tie.close
     (tie.spec invariant-loop decreases-loop (λ c. (omega arith, refl, refl, refl, refl, refl, refl)) (λ c. omega arith) (λ c κs. search rules) (λ c κs. omega arith)
-    (λ c. omega arith) loop-again (λ c. omega arith) loop-again-2 (λ c. c.before.loop.invariant.1) (λ c. c.before.loop.invariant.2) (λ c. c.before.loop.invariant.3) returns)
+    (λ c. omega arith) loop-again (λ c. omega arith) loop-again-2 (λ c. c.before.loop-i.invariant.1) (λ c. c.before.loop-i.invariant.2) (λ c. c.before.loop-i.invariant.3) returns)

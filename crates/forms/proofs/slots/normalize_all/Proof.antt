@@ -16,30 +16,30 @@ use Rattle.forms.proofs.NormalSlots.{slots-step, slots_end}
 use Rattle.forms.proofs.slots.normalize_all.Statement.{statement}
 use Rattle.forms.proofs.slots.normalize_all.Tie as tie
 
-abbrev invariant-loop : tie.invariant-loop
+abbrev invariant-loop : tie.invariant-loop-i
 invariant-loop coefficient terms target₀ turned₀ polynomials i₀ target turned i =
     (length target ≡ length target₀) × (length turned ≡ length turned₀)
     × (normal_slots coefficient terms target i (polynomials - i) ≡ normal_slots coefficient terms target₀ 0 polynomials)
     × (stores false (λ j. j) (λ j x. slot_turned coefficient terms j) turned i polynomials ≡ turned_slots coefficient terms turned₀ polynomials)
 
-abbrev decreases-loop : tie.decreases-loop
+abbrev decreases-loop : tie.decreases-loop-i
 decreases-loop coefficient terms target₀ turned₀ polynomials i₀ target turned i = polynomials - i
 
 -- The end of the slot's run.
 count-few : (c : tie.After-wide invariant-loop decreases-loop) → c.wide.result ≤ 16
 count-few c =
     let start = c.before.before.before.before.before.before in
-    rw c.wide.ensures (start.requires.0.few c.before.before.before.loop.i (omega arith))
+    rw c.wide.ensures (start.requires.0.few c.before.before.before.loop-i.i (omega arith))
 
 normalize-requires : tie.Need-normalize-requires invariant-loop decreases-loop
 normalize-requires c κs =
     let start = c.before.before.before.before.before.before.before in
-    let i = c.before.before.before.before.loop.i in
+    let i = c.before.before.before.before.loop-i.i in
     (rw c.before.wide.ensures (start.requires.0.bounded i (omega arith)), omega (arith, count-few c.before))
 
-loop-again : tie.Need-loop-preserved invariant-loop decreases-loop
+loop-again : tie.Need-loop-i-preserved invariant-loop decreases-loop
 loop-again c =
-    let l = c.before.before.before.before.before.before.loop in
+    let l = c.before.before.before.before.before.before.loop-i in
     let a = c.before.before.before.before.before.before.before.before.before.args in
     let cs = a.coefficient.now in
     let ts = a.terms.now in
@@ -56,7 +56,7 @@ loop-again c =
 
 returns : tie.Need-returns invariant-loop decreases-loop
 returns c =
-    let l = c.before.loop in
+    let l = c.before.loop-i in
     let a = c.before.before.before.before.args in (
       sym (slots_end a.coefficient.now a.terms.now l.target l.i a.polynomials (omega arith)) ∙ l.invariant.2,
       sym (stores-end false (λ j. j) (λ j x. slot_turned a.coefficient.now a.terms.now j) l.turned l.i a.polynomials (omega arith)) ∙ l.invariant.3,
@@ -67,4 +67,4 @@ normalize_all_spec =
     tie.close
     (tie.spec invariant-loop decreases-loop (λ c. (refl, refl, simp sub-zero, refl)) (λ c. omega arith) (λ c. omega arith) (λ c κs. search rules)
     (λ c. omega (arith, count-few c)) normalize-requires
-    (λ c. omega arith) (λ c. omega arith) (λ c. omega arith) loop-again (λ c. c.before.loop.invariant.0) (λ c. c.before.loop.invariant.1) returns)
+    (λ c. omega arith) (λ c. omega arith) (λ c. omega arith) loop-again (λ c. c.before.loop-i.invariant.0) (λ c. c.before.loop-i.invariant.1) returns)

@@ -10,22 +10,22 @@ use Rattle.forms.proofs.Searches.{number-within}
 use Rattle.forms.proofs.slots.number_all.Statement.{statement}
 use Rattle.forms.proofs.slots.number_all.Tie as tie
 
-abbrev invariant-loop : tie.invariant-loop
+abbrev invariant-loop : tie.invariant-loop-i
 invariant-loop coefficient monomial terms number₀ polynomials i₀ number i =
     (length number ≡ length number₀) × (stores 0 (λ j. j) (λ j x. number_of coefficient monomial terms j) number i polynomials
     ≡ numbered_slots coefficient monomial terms number₀ polynomials)
 
-abbrev decreases-loop : tie.decreases-loop
+abbrev decreases-loop : tie.decreases-loop-i
 decreases-loop coefficient monomial terms number₀ polynomials i₀ number i = polynomials - i
 
 cast-number : tie.Need-overflow-cast-number invariant-loop decreases-loop
 cast-number c =
     let a = c.before.before.before.before.before.before.args in
-    record { fits = rw c.find.ensures (omega (arith, number-within a.coefficient.now a.monomial.now a.terms.now c.before.before.loop.i)) }
+    record { fits = rw c.find.ensures (omega (arith, number-within a.coefficient.now a.monomial.now a.terms.now c.before.before.loop-i.i)) }
 
-loop-again : tie.Need-loop-preserved invariant-loop decreases-loop
+loop-again : tie.Need-loop-i-preserved invariant-loop decreases-loop
 loop-again c =
-    let l = c.before.before.loop in
+    let l = c.before.before.loop-i in
     let a = c.before.before.before.before.before.before.args in (
       simp length-set l.invariant.0,
       rw c.find.ensures (sym (stores-step 0 (λ j. j) (λ j x. number_of a.coefficient.now a.monomial.now a.terms.now j) l.number l.i
@@ -34,7 +34,7 @@ loop-again c =
 
 returns : tie.Need-returns invariant-loop decreases-loop
 returns c =
-    let l = c.before.loop in
+    let l = c.before.loop-i in
     let a = c.before.before.before.before.before.args in
     sym (stores-end 0 (λ j. j) (λ j x. number_of a.coefficient.now a.monomial.now a.terms.now j) l.number l.i a.polynomials (omega arith)) ∙ l.invariant.1
 
@@ -42,4 +42,4 @@ pub number_all_spec : {M : Type 1} → statement M
 number_all_spec =
     tie.close
     (tie.spec invariant-loop decreases-loop (λ c. (refl, refl)) (λ c κs. search rules) cast-number (λ c. omega arith) (λ c. omega arith) (λ c. omega arith) loop-again
-    (λ c. c.before.loop.invariant.0) returns)
+    (λ c. c.before.loop-i.invariant.0) returns)

@@ -11,21 +11,21 @@ use Rattle.forms.proofs.Numbers.{variable-shifted}
 use Rattle.forms.proofs.slots.put_variables.Statement.{statement}
 use Rattle.forms.proofs.slots.put_variables.Tie as tie
 
-abbrev invariant-loop : tie.invariant-loop
+abbrev invariant-loop : tie.invariant-loop-i
 invariant-loop coefficient₀ monomial₀ terms₀ variables i₀ coefficient monomial terms i =
     (i ≤ variables) × (length coefficient ≡ length coefficient₀) × (length monomial ≡ length monomial₀) × (length terms ≡ length terms₀)
     × (stores (pos 0) (λ j. 16 * (64 + j)) (λ j x. pos 1) coefficient i variables ≡ variable_coefficients variables coefficient₀)
     × (stores 0 (λ j. 16 * (64 + j)) (λ j x. 16 ^ (variables - suc j)) monomial i variables ≡ variable_monomials variables monomial₀)
     × (stores 0 (λ j. 64 + j) (λ j x. 1) terms i variables ≡ variable_counts variables terms₀)
 
-abbrev decreases-loop : tie.decreases-loop
+abbrev decreases-loop : tie.decreases-loop-i
 decreases-loop coefficient₀ monomial₀ terms₀ variables i₀ coefficient monomial terms i = variables - i
 
-loop-again : tie.Need-loop-preserved invariant-loop decreases-loop
+loop-again : tie.Need-loop-i-preserved invariant-loop decreases-loop
 loop-again c =
-    let l = c.before.before.before.before.before.before.before.before.before.before.loop in
+    let l = c.before.before.before.before.before.before.before.before.before.before.loop-i in
     let a = c.before.before.before.before.before.before.before.before.before.before.before.before.before.args in
-    let put = c.before.before.before.before.before.put-term.ensures in
+    let put = c.before.before.before.before.before.put_term.ensures in
     let power : ℕ → ℕ = λ j. 16 ^ (a.variables - suc j) in
     let stored = put.1 ∙ ap (set l.monomial (16 * (64 + l.i))) (variable-shifted a.variables l.i (omega arith) (omega arith)) in (
       omega arith,
@@ -42,7 +42,7 @@ loop-again c =
 
 returns : tie.Need-returns invariant-loop decreases-loop
 returns c =
-    let l = c.before.loop in
+    let l = c.before.loop-i in
     let n = c.before.before.before.before.args.variables in (
       sym (stores-end (pos 0) (λ j. 16 * (64 + j)) (λ j x. pos 1) l.coefficient l.i n (omega arith)) ∙ l.invariant.4,
       sym (stores-end 0 (λ j. 16 * (64 + j)) (λ j x. 16 ^ (n - suc j)) l.monomial l.i n (omega arith)) ∙ l.invariant.5,
@@ -54,4 +54,4 @@ put_variables_spec =
     tie.close
     (tie.spec invariant-loop decreases-loop (λ c. (omega arith, refl, refl, refl, refl, refl, refl)) (λ c. omega arith) (λ c. omega arith) (λ c. omega arith) (λ c. omega arith)
     (λ c. omega arith)
-    (λ c κs. omega arith) (λ c. omega arith) loop-again (λ c. c.before.loop.invariant.1) (λ c. c.before.loop.invariant.2) (λ c. c.before.loop.invariant.3) returns)
+    (λ c κs. omega arith) (λ c. omega arith) loop-again (λ c. c.before.loop-i.invariant.1) (λ c. c.before.loop-i.invariant.2) (λ c. c.before.loop-i.invariant.3) returns)

@@ -10,30 +10,30 @@ use Rattle.forms.proofs.Searches.{same_left, same-goes-on, same-stops, same_end}
 use Rattle.forms.proofs.slots.same_terms.Statement.{statement}
 use Rattle.forms.proofs.slots.same_terms.Tie as tie
 
-abbrev invariant-loop : tie.invariant-loop
+abbrev invariant-loop : tie.invariant-loop-i
 invariant-loop coefficient monomial first second count i₀ i =
     same_left coefficient monomial first second i count ≡ same (terms_from coefficient monomial first count) (terms_from coefficient monomial second count)
 
-abbrev decreases-loop : tie.decreases-loop
+abbrev decreases-loop : tie.decreases-loop-i
 decreases-loop coefficient monomial first second count i₀ i = count - i
 
-returns : tie.Need-returns invariant-loop decreases-loop
+returns : tie.Need-returns-then-not-same_term invariant-loop decreases-loop
 returns c =
-    let l = c.before.before.before.loop in
+    let l = c.before.before.before.loop-i in
     let a = c.before.before.before.before.before.args in
     same-stops a.coefficient.now a.monomial.now a.first a.second l.i a.count (omega arith)
-    (sym c.before.same-term.ensures ∙ not-true _ c.if1.true) ∙ l.invariant
+    (sym c.before.same_term.ensures ∙ not-true _ c.if-not-same_term.true) ∙ l.invariant
 
-loop-again : tie.Need-loop-preserved invariant-loop decreases-loop
+loop-again : tie.Need-loop-i-preserved invariant-loop decreases-loop
 loop-again c =
-    let l = c.before.before.before.loop in
+    let l = c.before.before.before.loop-i in
     let a = c.before.before.before.before.before.args in
     same-goes-on a.coefficient.now a.monomial.now a.first a.second l.i a.count (omega arith)
-    (sym c.before.same-term.ensures ∙ not-false _ c.if1.false) ∙ l.invariant
+    (sym c.before.same_term.ensures ∙ not-false _ c.if-not-same_term.false) ∙ l.invariant
 
-returns-2 : tie.Need-returns-2 invariant-loop decreases-loop
+returns-2 : tie.Need-returns invariant-loop decreases-loop
 returns-2 c =
-    let l = c.before.loop in
+    let l = c.before.loop-i in
     let a = c.before.before.before.args in
     same_end a.coefficient.now a.monomial.now a.first a.second l.i a.count (omega arith) ∙ l.invariant
 

@@ -7,26 +7,26 @@ use Rattle.interval.proofs.Allowed.{allowed-positive, allowed-negative, allowed-
 use Rattle.interval.proofs.finding.finding.Statement.{statement}
 use Rattle.interval.proofs.finding.finding.Tie as tie
 
-returns : tie.Need-returns
+returns : tie.Need-returns-in-1
 returns c =
     let s = c.before.before.before in
     let a = s.before.args in
-    let k = allowed-positive a.set (interval_of a.l) (interval_of a.u) s.match.keys1 in
-    rw (c.found-in-both.ensures, c.before.before.cut-not-negative.ensures, c.before.cut-not-negative2.ensures, k.0, k.1)
+    let k = allowed-positive a.set (interval_of a.l) (interval_of a.u) s.in-1.keys1 in
+    rw (c.found_in_both.ensures, c.before.before.cut_not_negative.ensures, c.before.cut_not_negative-in-1.ensures, k.0, k.1)
 
-returns-2 : tie.Need-returns-2
+returns-2 : tie.Need-returns-in-4
 returns-2 c =
     let s = c.before.before.before in
     let a = s.before.args in
-    let k = allowed-negative a.set (interval_of a.l) (interval_of a.u) s.match.keys2 in
-    rw (c.found-in-both2.ensures, c.before.before.cut-not-negative3.ensures, c.before.cut-not-negative4.ensures, k.0, k.1)
+    let k = allowed-negative a.set (interval_of a.l) (interval_of a.u) s.in-1.keys2 in
+    rw (c.found_in_both-in-4.ensures, c.before.before.cut_not_negative-in-4.ensures, c.before.cut_not_negative-in-4-2.ensures, k.0, k.1)
 
-returns-3 : tie.Need-returns-3
+returns-3 : tie.Need-returns-in-2
 unfolding only_allowed kind
-returns-3 c = rw (c.found-in-both3.ensures, c.before.match.keys3)
+returns-3 c = rw (c.found_in_both-in-2.ensures, c.before.in-1.keys3)
 
-returns-4 : tie.Need-returns-4
-returns-4 c = let m = c.match.rest in allowed-none _ _ _ _ m.0.0.1 m.0.1 m.1
+returns-4 : tie.Need-returns-in_default
+returns-4 c = let m = c.in-1.rest in allowed-none _ _ _ _ m.0.0.1 m.0.1 m.1
 
 pub finding_spec : {M : Type 1} → statement M
 finding_spec =

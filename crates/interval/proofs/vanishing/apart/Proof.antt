@@ -14,9 +14,9 @@ returns c =
     let s = c.before.before.before.before in
     let f = s.ranges in
     rw (
-      c.before.sign-between.ensures,
-      product-back f.a f.d c.before.before.before.cross.ensures,
-      product-back f.c f.b c.before.before.cross2.ensures,
+      c.before.sign_between-between.ensures,
+      product-back f.a f.d c.before.before.before.cross-ad.ensures,
+      product-back f.c f.b c.before.before.cross-cb.ensures,
     )
     (ap not (zero-sign _))
 

@@ -6,4 +6,4 @@ use Rattle.interval.proofs.vanishing.both_zero.Tie as tie
 pub both_zero_spec : {M : Type 1} → statement M
 both_zero_spec =
     tie.close
-    (tie.spec (λ c. simp (zero_test c.before.ranges.b, is-zero c.before.ranges.a c.if1.true)) (λ c. simp (not_zero c.before.ranges.a c.if1.false)))
+    (tie.spec (λ c. simp (zero_test c.before.ranges.b, is-zero c.before.ranges.a c.if-a-eq0.true)) (λ c. simp (not_zero c.before.ranges.a c.if-a-eq0.false)))

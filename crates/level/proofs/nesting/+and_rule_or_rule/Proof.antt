@@ -43,18 +43,18 @@ abbrev or-rule-below : ℕ → In 4 or-rule-kinds.ps
 or-rule-below t = and 4 or-rule-kinds.ps (falls 4 or-rule-kinds.ps ◌<◌ μ-or-rule t) or-rule.Pre
 
 -- the loop over the parts, the same for both rules but for the polarity
-abbrev and-rule-Inv-loop : and-rule-lts.invariant-loop
+abbrev and-rule-Inv-loop : and-rule-lts.invariant-loop-i
 and-rule-Inv-loop coefficient monomial terms variables token at nesting largest parts list₀ count₀ walked₀ rounds₀ place₀ i₀ list count walked rounds place i =
     (parts ≡ get_or token at 0 - 16777216) × ((i ≤ parts) × ((length list ≡ 256) × Runs (table_of coefficient monomial terms variables) token true at nesting largest (row_of list count) walked rounds place i))
 
-abbrev and-rule-μ-loop : and-rule-lts.decreases-loop
+abbrev and-rule-μ-loop : and-rule-lts.decreases-loop-i
 and-rule-μ-loop coefficient monomial terms variables token at nesting largest parts list₀ count₀ walked₀ rounds₀ place₀ i₀ list count walked rounds place i = parts - i
 
-abbrev or-rule-Inv-loop : or-rule-lts.invariant-loop
+abbrev or-rule-Inv-loop : or-rule-lts.invariant-loop-i
 or-rule-Inv-loop coefficient monomial terms variables token at nesting largest parts list₀ count₀ walked₀ rounds₀ place₀ i₀ list count walked rounds place i =
     (parts ≡ get_or token at 0 - 16777216) × ((i ≤ parts) × ((length list ≡ 256) × Runs (table_of coefficient monomial terms variables) token false at nesting largest (row_of list count) walked rounds place i))
 
-abbrev or-rule-μ-loop : or-rule-lts.decreases-loop
+abbrev or-rule-μ-loop : or-rule-lts.decreases-loop-i
 or-rule-μ-loop coefficient monomial terms variables token at nesting largest parts list₀ count₀ walked₀ rounds₀ place₀ i₀ list count walked rounds place i = parts - i
 
 pub +and-rule-or-rule-spec : {M : Type 1} → statement M
@@ -79,26 +79,26 @@ pub +and-rule-or-rule-spec : {M : Type 1} → statement M
     (λ c. (stood-first c.before.before.before.before.requires.1.1).1)
     (λ c κs. tt)
     (λ c. omega (arith, (stood-first c.before.before.before.before.before.requires.1.1).0))
-    (λ c. (refl, (omega arith, (refl, runs-start refl (record { is = refl; size = refl }) c.begin.ensures.1.0 (c.begin.ensures.1.1 _)))))
-    (λ c. omega (arith, (runs-inside c.before.loop.invariant.1.1.1 _ c.before.loop.invariant.0 c.loop-test.true c.before.before.before.before.before.before.before.requires.1.1).1.1))
-    (λ c. omega (arith, (runs-inside c.before.loop.invariant.1.1.1 _ c.before.loop.invariant.0 c.loop-test.true c.before.before.before.before.before.before.before.requires.1.1).0))
-    (λ c. (runs-inside c.before.before.loop.invariant.1.1.1 _ c.before.before.loop.invariant.0 c.before.loop-test.true c.before.before.before.before.before.before.before.before.requires.1.1).0)
-    (λ c. omega (arith, (runs-inside c.before.before.before.loop.invariant.1.1.1 _ c.before.before.before.loop.invariant.0 c.before.before.loop-test.true c.before.before.before.before.before.before.before.before.before.requires.1.1).1.0))
-    (λ c. omega (arith, (runs-inside c.before.before.before.loop.invariant.1.1.1 _ c.before.before.before.loop.invariant.0 c.before.before.loop-test.true c.before.before.before.before.before.before.before.before.before.requires.1.1).1.0, c.before.before.before.loop.invariant.1.1.0))
-    (λ c. omega (arith, (runs-inside c.before.before.before.loop.invariant.1.1.1 _ c.before.before.before.loop.invariant.0 c.before.before.loop-test.true c.before.before.before.before.before.before.before.before.before.requires.1.1).1.0))
-    (λ c. omega (arith, (runs-inside c.before.before.before.loop.invariant.1.1.1 _ c.before.before.before.loop.invariant.0 c.before.before.loop-test.true c.before.before.before.before.before.before.before.before.before.requires.1.1).0))
-    (λ c. omega (arith, c.before.before.loop-test.true))
-    (λ c. let loop = c.before.before.before.loop in (refl, (omega (arith, c.before.before.loop-test.true), (simp length-set loop.invariant.1.1.0, runs-leaf loop.invariant.1.1.1 _ loop.invariant.0 c.before.before.loop-test.true c.if1.true _ refl (stored loop.list loop.count _ (omega (arith, (runs-inside c.before.before.before.loop.invariant.1.1.1 _ c.before.before.before.loop.invariant.0 c.before.before.loop-test.true c.before.before.before.before.before.before.before.before.before.requires.1.1).1.0, loop.invariant.1.1.0)))))))
-    (λ c κs. (_, (runs-ready c.before.before.before.before.loop.invariant.1.1.1 _ c.before.before.before.before.loop.invariant.0 c.before.before.before.loop-test.true c.before.before.before.before.before.before.before.before.before.before.requires.1.1 c.before.if1.false).1))
-    (λ c. omega (arith, c.before.before.before.before.loop-test.true))
-    (λ c. (refl, (omega (arith, c.before.before.before.before.loop-test.true), (c.before.before.before.before.before.loop.invariant.1.1.0, runs_skip c.before.before.before.before.before.loop.invariant.1.1.1 _ c.before.before.before.before.before.loop.invariant.0 c.before.before.before.before.loop-test.true c.before.before.if1.false c.before.if2.true _ c.skip.ensures))))
-    (λ c. omega (arith, (runs-ready c.before.before.before.before.loop.invariant.1.1.1 _ c.before.before.before.before.loop.invariant.0 c.before.before.before.loop-test.true c.before.before.before.before.before.before.before.before.before.before.requires.1.1 c.before.if1.false).0))
-    (λ c κs. let below = runs-ready c.before.before.before.before.loop.invariant.1.1.1 _ c.before.before.before.before.loop.invariant.0 c.before.before.before.loop-test.true c.before.before.before.before.before.before.before.before.before.before.requires.1.1 c.before.if1.false in (omega (arith, below.0, c.before.before.before.before.before.before.before.before.before.before.requires.0), (c.before.before.before.before.before.before.before.before.before.before.requires.1.0, below.1)))
-    (λ c κs. runs-room c.before.before.before.before.before.before.loop.invariant.1.1.1 _ c.before.before.before.before.before.before.loop.invariant.0 c.before.before.before.before.before.loop-test.true c.before.before.before.if1.false c.before.before.if2.false _ c.before.or-rule.ensures c.before.before.before.before.before.before.before.before.before.before.before.before.requires.1.1)
-    (λ c. omega (arith, c.before.before.before.before.before.before.loop-test.true))
-    (λ c. (refl, (omega (arith, c.before.before.before.before.before.before.loop-test.true), (c.before.before.before.before.before.before.before.loop.invariant.1.1.0, runs-node c.before.before.before.before.before.before.before.loop.invariant.1.1.1 _ c.before.before.before.before.before.before.before.loop.invariant.0 c.before.before.before.before.before.before.loop-test.true c.before.before.before.before.if1.false c.before.before.before.if2.false _ c.before.before.or-rule.ensures _ (c.add.ensures _)))))
-    (λ c κs. (c.before.before.before.before.before.before.before.requires.1.0, runs-gathered c.before.loop.invariant.1.1.1 c.before.before.before.before.before.before.before.requires.1.1))
-    (λ c. runs-end c.before.before.before.loop.invariant.1.1.1 _ c.before.before.before.loop.invariant.0 c.before.before.loop-test.false _ _ c.before.finish.ensures))
+    (λ c. (refl, (omega arith, (refl, runs-start refl (record { is = refl; size = refl }) c.begin-walked.ensures.1.0 (c.begin-walked.ensures.1.1 _)))))
+    (λ c. omega (arith, (runs-inside c.before.loop-i.invariant.1.1.1 _ c.before.loop-i.invariant.0 c.loop-i-test.true c.before.before.before.before.before.before.before.requires.1.1).1.1))
+    (λ c. omega (arith, (runs-inside c.before.loop-i.invariant.1.1.1 _ c.before.loop-i.invariant.0 c.loop-i-test.true c.before.before.before.before.before.before.before.requires.1.1).0))
+    (λ c. (runs-inside c.before.before.loop-i.invariant.1.1.1 _ c.before.before.loop-i.invariant.0 c.before.loop-i-test.true c.before.before.before.before.before.before.before.before.requires.1.1).0)
+    (λ c. omega (arith, (runs-inside c.before.before.before.loop-i.invariant.1.1.1 _ c.before.before.before.loop-i.invariant.0 c.before.before.loop-i-test.true c.before.before.before.before.before.before.before.before.before.requires.1.1).1.0))
+    (λ c. omega (arith, (runs-inside c.before.before.before.loop-i.invariant.1.1.1 _ c.before.before.before.loop-i.invariant.0 c.before.before.loop-i-test.true c.before.before.before.before.before.before.before.before.before.requires.1.1).1.0, c.before.before.before.loop-i.invariant.1.1.0))
+    (λ c. omega (arith, (runs-inside c.before.before.before.loop-i.invariant.1.1.1 _ c.before.before.before.loop-i.invariant.0 c.before.before.loop-i-test.true c.before.before.before.before.before.before.before.before.before.requires.1.1).1.0))
+    (λ c. omega (arith, (runs-inside c.before.before.before.loop-i.invariant.1.1.1 _ c.before.before.before.loop-i.invariant.0 c.before.before.loop-i-test.true c.before.before.before.before.before.before.before.before.before.requires.1.1).0))
+    (λ c. omega (arith, c.before.before.loop-i-test.true))
+    (λ c. let loop = c.before.before.before.loop-i in (refl, (omega (arith, c.before.before.loop-i-test.true), (simp length-set loop.invariant.1.1.0, runs-leaf loop.invariant.1.1.1 _ loop.invariant.0 c.before.before.loop-i-test.true c.if-part-lt-NODE.true _ refl (stored loop.list loop.count _ (omega (arith, (runs-inside c.before.before.before.loop-i.invariant.1.1.1 _ c.before.before.before.loop-i.invariant.0 c.before.before.loop-i-test.true c.before.before.before.before.before.before.before.before.before.requires.1.1).1.0, loop.invariant.1.1.0)))))))
+    (λ c κs. (_, (runs-ready c.before.before.before.before.loop-i.invariant.1.1.1 _ c.before.before.before.before.loop-i.invariant.0 c.before.before.before.loop-i-test.true c.before.before.before.before.before.before.before.before.before.before.requires.1.1 c.before.if-part-lt-NODE.false).1))
+    (λ c. omega (arith, c.before.before.before.before.loop-i-test.true))
+    (λ c. (refl, (omega (arith, c.before.before.before.before.loop-i-test.true), (c.before.before.before.before.before.loop-i.invariant.1.1.0, runs_skip c.before.before.before.before.before.loop-i.invariant.1.1.1 _ c.before.before.before.before.before.loop-i.invariant.0 c.before.before.before.before.loop-i-test.true c.before.before.if-part-lt-NODE.false c.before.if-walked.true _ c.skip-place.ensures))))
+    (λ c. omega (arith, (runs-ready c.before.before.before.before.loop-i.invariant.1.1.1 _ c.before.before.before.before.loop-i.invariant.0 c.before.before.before.loop-i-test.true c.before.before.before.before.before.before.before.before.before.before.requires.1.1 c.before.if-part-lt-NODE.false).0))
+    (λ c κs. let below = runs-ready c.before.before.before.before.loop-i.invariant.1.1.1 _ c.before.before.before.before.loop-i.invariant.0 c.before.before.before.loop-i-test.true c.before.before.before.before.before.before.before.before.before.before.requires.1.1 c.before.if-part-lt-NODE.false in (omega (arith, below.0, c.before.before.before.before.before.before.before.before.before.before.requires.0), (c.before.before.before.before.before.before.before.before.before.before.requires.1.0, below.1)))
+    (λ c κs. runs-room c.before.before.before.before.before.before.loop-i.invariant.1.1.1 _ c.before.before.before.before.before.before.loop-i.invariant.0 c.before.before.before.before.before.loop-i-test.true c.before.before.before.if-part-lt-NODE.false c.before.before.if-walked.false _ c.before.or_rule-found.ensures c.before.before.before.before.before.before.before.before.before.before.before.before.requires.1.1)
+    (λ c. omega (arith, c.before.before.before.before.before.before.loop-i-test.true))
+    (λ c. (refl, (omega (arith, c.before.before.before.before.before.before.loop-i-test.true), (c.before.before.before.before.before.before.before.loop-i.invariant.1.1.0, runs-node c.before.before.before.before.before.before.before.loop-i.invariant.1.1.1 _ c.before.before.before.before.before.before.before.loop-i.invariant.0 c.before.before.before.before.before.before.loop-i-test.true c.before.before.before.before.if-part-lt-NODE.false c.before.before.before.if-walked.false _ c.before.before.or_rule-found.ensures _ (c.add-walked.ensures _)))))
+    (λ c κs. (c.before.before.before.before.before.before.before.requires.1.0, runs-gathered c.before.loop-i.invariant.1.1.1 c.before.before.before.before.before.before.before.requires.1.1))
+    (λ c. runs-end c.before.before.before.loop-i.invariant.1.1.1 _ c.before.before.before.loop-i.invariant.0 c.before.before.loop-i-test.false _ _ c.before.finish-finished.ensures))
     (λ t. or-rule-lts.spec (
       begin-reads.Asked,
       begin-reads.Learnt,
@@ -122,24 +122,24 @@ pub +and-rule-or-rule-spec : {M : Type 1} → statement M
     (λ c. (stood-first c.before.before.before.before.requires.1.1).1)
     (λ c κs. tt)
     (λ c. omega (arith, (stood-first c.before.before.before.before.before.requires.1.1).0))
-    (λ c. (refl, (omega arith, (refl, runs-start refl (record { is = refl; size = refl }) c.begin.ensures.1.0 (c.begin.ensures.1.1 _)))))
-    (λ c. omega (arith, (runs-inside c.before.loop.invariant.1.1.1 _ c.before.loop.invariant.0 c.loop-test.true c.before.before.before.before.before.before.before.requires.1.1).1.1))
-    (λ c. omega (arith, (runs-inside c.before.loop.invariant.1.1.1 _ c.before.loop.invariant.0 c.loop-test.true c.before.before.before.before.before.before.before.requires.1.1).0))
-    (λ c. (runs-inside c.before.before.loop.invariant.1.1.1 _ c.before.before.loop.invariant.0 c.before.loop-test.true c.before.before.before.before.before.before.before.before.requires.1.1).0)
+    (λ c. (refl, (omega arith, (refl, runs-start refl (record { is = refl; size = refl }) c.begin-walked.ensures.1.0 (c.begin-walked.ensures.1.1 _)))))
+    (λ c. omega (arith, (runs-inside c.before.loop-i.invariant.1.1.1 _ c.before.loop-i.invariant.0 c.loop-i-test.true c.before.before.before.before.before.before.before.requires.1.1).1.1))
+    (λ c. omega (arith, (runs-inside c.before.loop-i.invariant.1.1.1 _ c.before.loop-i.invariant.0 c.loop-i-test.true c.before.before.before.before.before.before.before.requires.1.1).0))
+    (λ c. (runs-inside c.before.before.loop-i.invariant.1.1.1 _ c.before.before.loop-i.invariant.0 c.before.loop-i-test.true c.before.before.before.before.before.before.before.before.requires.1.1).0)
     (λ c κs. tt)
-    (λ c. omega (arith, (runs-inside c.before.before.before.before.loop.invariant.1.1.1 _ c.before.before.before.before.loop.invariant.0 c.before.before.before.loop-test.true c.before.before.before.before.before.before.before.before.before.before.requires.1.1).1.0))
-    (λ c. omega (arith, (runs-inside c.before.before.before.before.loop.invariant.1.1.1 _ c.before.before.before.before.loop.invariant.0 c.before.before.before.loop-test.true c.before.before.before.before.before.before.before.before.before.before.requires.1.1).1.0, c.before.before.before.before.loop.invariant.1.1.0))
-    (λ c. omega (arith, (runs-inside c.before.before.before.before.loop.invariant.1.1.1 _ c.before.before.before.before.loop.invariant.0 c.before.before.before.loop-test.true c.before.before.before.before.before.before.before.before.before.before.requires.1.1).1.0))
-    (λ c. omega (arith, (runs-inside c.before.before.before.before.loop.invariant.1.1.1 _ c.before.before.before.before.loop.invariant.0 c.before.before.before.loop-test.true c.before.before.before.before.before.before.before.before.before.before.requires.1.1).0))
-    (λ c. omega (arith, c.before.before.before.loop-test.true))
-    (λ c. let loop = c.before.before.before.before.loop in (refl, (omega (arith, c.before.before.before.loop-test.true), (simp length-set loop.invariant.1.1.0, runs-leaf loop.invariant.1.1.1 _ loop.invariant.0 c.before.before.before.loop-test.true c.before.if1.true _ refl (stored-as loop.list loop.count _ _ c.opposite.ensures (omega (arith, (runs-inside c.before.before.before.before.loop.invariant.1.1.1 _ c.before.before.before.before.loop.invariant.0 c.before.before.before.loop-test.true c.before.before.before.before.before.before.before.before.before.before.requires.1.1).1.0, loop.invariant.1.1.0)))))))
-    (λ c κs. (_, (runs-ready c.before.before.before.before.loop.invariant.1.1.1 _ c.before.before.before.before.loop.invariant.0 c.before.before.before.loop-test.true c.before.before.before.before.before.before.before.before.before.before.requires.1.1 c.before.if1.false).1))
-    (λ c. omega (arith, c.before.before.before.before.loop-test.true))
-    (λ c. (refl, (omega (arith, c.before.before.before.before.loop-test.true), (c.before.before.before.before.before.loop.invariant.1.1.0, runs_skip c.before.before.before.before.before.loop.invariant.1.1.1 _ c.before.before.before.before.before.loop.invariant.0 c.before.before.before.before.loop-test.true c.before.before.if1.false c.before.if2.true _ c.skip.ensures))))
-    (λ c. omega (arith, (runs-ready c.before.before.before.before.loop.invariant.1.1.1 _ c.before.before.before.before.loop.invariant.0 c.before.before.before.loop-test.true c.before.before.before.before.before.before.before.before.before.before.requires.1.1 c.before.if1.false).0))
-    (λ c κs. let below = runs-ready c.before.before.before.before.loop.invariant.1.1.1 _ c.before.before.before.before.loop.invariant.0 c.before.before.before.loop-test.true c.before.before.before.before.before.before.before.before.before.before.requires.1.1 c.before.if1.false in (omega (arith, below.0, c.before.before.before.before.before.before.before.before.before.before.requires.0), (c.before.before.before.before.before.before.before.before.before.before.requires.1.0, below.1)))
-    (λ c κs. runs-room c.before.before.before.before.before.before.loop.invariant.1.1.1 _ c.before.before.before.before.before.before.loop.invariant.0 c.before.before.before.before.before.loop-test.true c.before.before.before.if1.false c.before.before.if2.false _ c.before.and-rule.ensures c.before.before.before.before.before.before.before.before.before.before.before.before.requires.1.1)
-    (λ c. omega (arith, c.before.before.before.before.before.before.loop-test.true))
-    (λ c. (refl, (omega (arith, c.before.before.before.before.before.before.loop-test.true), (c.before.before.before.before.before.before.before.loop.invariant.1.1.0, runs-node c.before.before.before.before.before.before.before.loop.invariant.1.1.1 _ c.before.before.before.before.before.before.before.loop.invariant.0 c.before.before.before.before.before.before.loop-test.true c.before.before.before.before.if1.false c.before.before.before.if2.false _ c.before.before.and-rule.ensures _ (c.add.ensures _)))))
-    (λ c κs. (c.before.before.before.before.before.before.before.requires.1.0, runs-gathered c.before.loop.invariant.1.1.1 c.before.before.before.before.before.before.before.requires.1.1))
-    (λ c. runs-end c.before.before.before.loop.invariant.1.1.1 _ c.before.before.before.loop.invariant.0 c.before.before.loop-test.false _ _ c.before.finish.ensures))
+    (λ c. omega (arith, (runs-inside c.before.before.before.before.loop-i.invariant.1.1.1 _ c.before.before.before.before.loop-i.invariant.0 c.before.before.before.loop-i-test.true c.before.before.before.before.before.before.before.before.before.before.requires.1.1).1.0))
+    (λ c. omega (arith, (runs-inside c.before.before.before.before.loop-i.invariant.1.1.1 _ c.before.before.before.before.loop-i.invariant.0 c.before.before.before.loop-i-test.true c.before.before.before.before.before.before.before.before.before.before.requires.1.1).1.0, c.before.before.before.before.loop-i.invariant.1.1.0))
+    (λ c. omega (arith, (runs-inside c.before.before.before.before.loop-i.invariant.1.1.1 _ c.before.before.before.before.loop-i.invariant.0 c.before.before.before.loop-i-test.true c.before.before.before.before.before.before.before.before.before.before.requires.1.1).1.0))
+    (λ c. omega (arith, (runs-inside c.before.before.before.before.loop-i.invariant.1.1.1 _ c.before.before.before.before.loop-i.invariant.0 c.before.before.before.loop-i-test.true c.before.before.before.before.before.before.before.before.before.before.requires.1.1).0))
+    (λ c. omega (arith, c.before.before.before.loop-i-test.true))
+    (λ c. let loop = c.before.before.before.before.loop-i in (refl, (omega (arith, c.before.before.before.loop-i-test.true), (simp length-set loop.invariant.1.1.0, runs-leaf loop.invariant.1.1.1 _ loop.invariant.0 c.before.before.before.loop-i-test.true c.before.if-part-lt-NODE.true _ refl (stored-as loop.list loop.count _ _ c.opposite.ensures (omega (arith, (runs-inside c.before.before.before.before.loop-i.invariant.1.1.1 _ c.before.before.before.before.loop-i.invariant.0 c.before.before.before.loop-i-test.true c.before.before.before.before.before.before.before.before.before.before.requires.1.1).1.0, loop.invariant.1.1.0)))))))
+    (λ c κs. (_, (runs-ready c.before.before.before.before.loop-i.invariant.1.1.1 _ c.before.before.before.before.loop-i.invariant.0 c.before.before.before.loop-i-test.true c.before.before.before.before.before.before.before.before.before.before.requires.1.1 c.before.if-part-lt-NODE.false).1))
+    (λ c. omega (arith, c.before.before.before.before.loop-i-test.true))
+    (λ c. (refl, (omega (arith, c.before.before.before.before.loop-i-test.true), (c.before.before.before.before.before.loop-i.invariant.1.1.0, runs_skip c.before.before.before.before.before.loop-i.invariant.1.1.1 _ c.before.before.before.before.before.loop-i.invariant.0 c.before.before.before.before.loop-i-test.true c.before.before.if-part-lt-NODE.false c.before.if-walked.true _ c.skip-place.ensures))))
+    (λ c. omega (arith, (runs-ready c.before.before.before.before.loop-i.invariant.1.1.1 _ c.before.before.before.before.loop-i.invariant.0 c.before.before.before.loop-i-test.true c.before.before.before.before.before.before.before.before.before.before.requires.1.1 c.before.if-part-lt-NODE.false).0))
+    (λ c κs. let below = runs-ready c.before.before.before.before.loop-i.invariant.1.1.1 _ c.before.before.before.before.loop-i.invariant.0 c.before.before.before.loop-i-test.true c.before.before.before.before.before.before.before.before.before.before.requires.1.1 c.before.if-part-lt-NODE.false in (omega (arith, below.0, c.before.before.before.before.before.before.before.before.before.before.requires.0), (c.before.before.before.before.before.before.before.before.before.before.requires.1.0, below.1)))
+    (λ c κs. runs-room c.before.before.before.before.before.before.loop-i.invariant.1.1.1 _ c.before.before.before.before.before.before.loop-i.invariant.0 c.before.before.before.before.before.loop-i-test.true c.before.before.before.if-part-lt-NODE.false c.before.before.if-walked.false _ c.before.and_rule-found.ensures c.before.before.before.before.before.before.before.before.before.before.before.before.requires.1.1)
+    (λ c. omega (arith, c.before.before.before.before.before.before.loop-i-test.true))
+    (λ c. (refl, (omega (arith, c.before.before.before.before.before.before.loop-i-test.true), (c.before.before.before.before.before.before.before.loop-i.invariant.1.1.0, runs-node c.before.before.before.before.before.before.before.loop-i.invariant.1.1.1 _ c.before.before.before.before.before.before.before.loop-i.invariant.0 c.before.before.before.before.before.before.loop-i-test.true c.before.before.before.before.if-part-lt-NODE.false c.before.before.before.if-walked.false _ c.before.before.and_rule-found.ensures _ (c.add-walked.ensures _)))))
+    (λ c κs. (c.before.before.before.before.before.before.before.requires.1.0, runs-gathered c.before.loop-i.invariant.1.1.1 c.before.before.before.before.before.before.before.requires.1.1))
+    (λ c. runs-end c.before.before.before.loop-i.invariant.1.1.1 _ c.before.before.before.loop-i.invariant.0 c.before.before.loop-i-test.false _ _ c.before.finish-finished.ensures))

@@ -8,11 +8,11 @@ use Rattle.tape.specs.Storing.{stored}
 use Rattle.level.proofs.writing.opened.Statement.{statement}
 use Rattle.level.proofs.writing.opened.Tie as tie
 
-one : tie.Need-returns
-one c = (rw (eq-eqb _ _ c.if1.true) (record { is = refl; size = refl }), omega arith)
+one : tie.Need-returns-then-parts-eq1
+one c = (rw (eq-eqb _ _ c.if-parts-eq1.true) (record { is = refl; size = refl }), omega arith)
 
-more : tie.Need-returns-2
-more c = (rw (ne_eqb _ _ c.if1.false) (stored c.before.args.out.now 0 _ c.before.requires.1 [] (record { is = refl; size = refl })), omega arith)
+more : tie.Need-returns
+more c = (rw (ne_eqb _ _ c.if-parts-eq1.false) (stored c.before.args.out.now 0 _ c.before.requires.1 [] (record { is = refl; size = refl })), omega arith)
 
 pub opened_spec : {M : Type 1} → statement M
 opened_spec = tie.close (tie.spec one (λ c. search rules) (λ c. search rules) (λ c. search rules) more)

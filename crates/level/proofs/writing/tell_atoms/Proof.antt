@@ -10,17 +10,17 @@ use Rattle.level.proofs.Telling.{tell-start, tell-turn}
 use Rattle.level.proofs.writing.tell_atoms.Statement.{statement}
 use Rattle.level.proofs.writing.tell_atoms.Tie as tie
 
-abbrev invariant-loop : tie.invariant-loop
+abbrev invariant-loop : tie.invariant-loop-i
 invariant-loop out₀ n row from to conjunction place₀ i₀ out place i =
     (from ≤ i) × ((i ≤ to) × ((place + from ≡ n + i) × ((length out ≡ length out₀)
     × ((k : ℕ) (l m : List ℕ) → Lists (row_of out₀ n) l → Lists (row_of row k) m → to ≤ length m → Lists (row_of out place) (l ++ map (told conjunction) (take (i - from) (drop from m)))))))
 
-abbrev decreases-loop : tie.decreases-loop
+abbrev decreases-loop : tie.decreases-loop-i
 decreases-loop out₀ n row from to conjunction place₀ i₀ out place i = to - i
 
-loop-again : tie.Need-loop-preserved invariant-loop decreases-loop
+loop-again : tie.Need-loop-i-preserved invariant-loop decreases-loop
 loop-again c =
-    let loop = c.before.before.before.loop in
+    let loop = c.before.before.before.loop-i in
     let inv = loop.invariant in
     let args = c.before.before.before.before.before.before.args in (
       omega arith,
@@ -38,7 +38,7 @@ loop-again c =
 
 returns : tie.Need-returns invariant-loop decreases-loop
 returns c k l m p q h =
-    let loop = c.before.loop in
+    let loop = c.before.loop-i in
     let args = c.before.before.before.before.args in
     let e : loop.i ≡ args.to = omega arith in
     let f : loop.place ≡ args.n + (args.to - args.from) = omega arith in
@@ -48,4 +48,4 @@ pub tell_atoms_spec : {M : Type 1} → statement M
 tell_atoms_spec =
     tie.close
     (tie.spec invariant-loop decreases-loop (λ c. (omega arith, (omega arith, (refl, (refl, λ k l m p q h. tell-start c.before.before.args.conjunction m c.before.before.args.from p))))) (λ c. omega arith) (λ c. omega arith)
-    (λ c κs. tt) (λ c. omega arith) (λ c. omega arith) (λ c. omega arith) (λ c. omega arith) (λ c. omega arith) loop-again (λ c. c.before.loop.invariant.1.1.1.0) returns)
+    (λ c κs. tt) (λ c. omega arith) (λ c. omega arith) (λ c. omega arith) (λ c. omega arith) (λ c. omega arith) loop-again (λ c. c.before.loop-i.invariant.1.1.1.0) returns)

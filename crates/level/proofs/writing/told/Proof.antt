@@ -4,4 +4,4 @@ use Rattle.level.proofs.writing.told.Statement.{statement}
 use Rattle.level.proofs.writing.told.Tie as tie
 
 pub told_spec : {M : Type 1} → statement M
-told_spec = tie.close (tie.spec (λ c. rw c.if1.true) (λ c κs. search rules) (λ c. rw (c.before.if1.false, c.opposite.ensures)))
+told_spec = tie.close (tie.spec (λ c. rw c.if-conjunction.true) (λ c κs. search rules) (λ c. rw (c.before.if-conjunction.false, c.opposite.ensures)))

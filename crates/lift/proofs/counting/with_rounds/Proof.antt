@@ -9,20 +9,20 @@ use Rattle.lift.specs.Rounds.{rounds_in, rounds-answer-short, rounds-answer, at-
 use Rattle.lift.proofs.counting.with_rounds.Statement.{statement}
 use Rattle.lift.proofs.counting.with_rounds.Tie as tie
 
-returns : tie.Need-returns
+returns : tie.Need-returns-then-output-input
 returns c =
     let a = c.before.before.before.args in (
-      rounds-answer-short a.input.now a.output.now (omega (arith, c.if1.true)),
+      rounds-answer-short a.input.now a.output.now (omega (arith, c.if-output-input.true)),
       same-lifts (length a.output.now) a.input.now,
       never-longer-answer (length a.output.now) a.input.now,
       omega arith,
     )
 
-returns-2 : tie.Need-returns-2
+returns-2 : tie.Need-returns
 returns-2 c =
     let answering = c.before.before.before in
     let a = answering.before.before.before.before.before.before.args in
-    let counted = rounds-answer (omega (arith, answering.before.before.before.if1.false)) answering.answered.ensures.0 answering.answered.ensures.1.1 in (
+    let counted = rounds-answer (omega (arith, answering.before.before.before.if-output-input.false)) answering.answered.ensures.0 answering.answered.ensures.1.1 in (
       counted,
       same-lifts (length a.output.now) a.input.now,
       never-longer-answer (length a.output.now) a.input.now,

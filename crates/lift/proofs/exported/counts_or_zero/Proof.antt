@@ -5,8 +5,8 @@ use Rattle.lift.specs.Exported.{counts_or_zero}
 use Rattle.lift.proofs.exported.counts_or_zero.Statement.{statement}
 use Rattle.lift.proofs.exported.counts_or_zero.Tie as tie
 
-returns : tie.Need-returns
-returns c = sym (ap counts_or_zero c.enum_told.given.1)
+returns : tie.Need-returns-in-Refused
+returns c = sym (ap counts_or_zero c.enum_told-1.given.1)
 
 pub counts_or_zero_spec : {M : Type 1} → statement M
 counts_or_zero_spec = tie.close (tie.spec (λ c. search rules) (λ c. search rules) returns (λ c. search rules))

@@ -6,14 +6,14 @@ use Rattle.lift.specs.Exported.{packed_of}
 use Rattle.lift.proofs.exported.packed.Statement.{statement}
 use Rattle.lift.proofs.exported.packed.Tie as tie
 
-returns : tie.Need-returns
-returns c = sym (ap (λ (v : Verdict). packed_of v c.before.before.args.size) c.enum_told.given.1)
+returns : tie.Need-returns-in-Formula
+returns c = sym (ap (λ (v : Verdict). packed_of v c.before.before.args.size) c.enum_told-1.given.1)
 
-returns-2 : tie.Need-returns-2
-returns-2 c = sym (ap (λ (v : Verdict). packed_of v c.before.before.args.size) c.enum-told2.given.1)
+returns-2 : tie.Need-returns-in-Always
+returns-2 c = sym (ap (λ (v : Verdict). packed_of v c.before.before.args.size) c.enum_told-in-Always-1.given.1)
 
-returns-3 : tie.Need-returns-3
-returns-3 c = sym (ap (λ (v : Verdict). packed_of v c.before.before.args.size) c.enum-told3.given.1)
+returns-3 : tie.Need-returns-in-Unsatisfiable
+returns-3 c = sym (ap (λ (v : Verdict). packed_of v c.before.before.args.size) c.enum_told-in-Unsatisfiable-1.given.1)
 
 pub packed_spec : {M : Type 1} → statement M
 packed_spec =

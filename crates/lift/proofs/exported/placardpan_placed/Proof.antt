@@ -5,12 +5,12 @@ use Rattle.lift.specs.Exported.{placed-length-short, placed-number}
 use Rattle.lift.proofs.exported.placardpan_placed.Statement.{statement}
 use Rattle.lift.proofs.exported.placardpan_placed.Tie as tie
 
-number-in-requires : tie.Need-number-in-requires
-number-in-requires c κs = placed-length-short c.before.before.before.before.placed.ensures.0
+number-in-requires : tie.Need-number_in-requires
+number-in-requires c κs = placed-length-short c.before.before.before.before.placed-given.ensures.0
 
 returns : tie.Need-returns
 returns c =
-    let answers = c.before.before.before.before.before.placed.ensures.0 in
+    let answers = c.before.before.before.before.before.placed-given.ensures.0 in
     (c.number_in.ensures ∙ placed-number answers, answers.output, answers.places)
 
 pub placardpan_placed_spec : {M : Type 1} → statement M

@@ -8,7 +8,7 @@ use Rattle.lift.proofs.exported.placardpan_simplified.Tie as tie
 returns : tie.Need-returns
 returns c =
     let answers = c.before.before.before.simplify.ensures.0 in
-    (c.length-in.ensures ∙ part_length answers, answers.output)
+    (c.length_in.ensures ∙ part_length answers, answers.output)
 
 pub placardpan_simplified_spec : {M : Type 1} → statement M
 placardpan_simplified_spec = tie.close (tie.spec (λ c κs. search rules) (λ c κs. search rules) (λ c. search rules) returns)

@@ -5,7 +5,7 @@ use Rattle.loading.specs.Exported.{short-load, short-found, number-told}
 use Rattle.loading.proofs.exported.placardpan_load.Statement.{statement}
 use Rattle.loading.proofs.exported.placardpan_load.Tie as tie
 
-number-in-requires : tie.Need-number-in-requires
+number-in-requires : tie.Need-number_in-requires
 number-in-requires c κs =
     let loading = c.before.before in
     let a = loading.before.before.before.before.args in

@@ -5,7 +5,7 @@ use Rattle.loading.specs.Exported.{short-start, short-found, number-told}
 use Rattle.loading.proofs.exported.placardpan_start.Statement.{statement}
 use Rattle.loading.proofs.exported.placardpan_start.Tie as tie
 
-number-in-requires : tie.Need-number-in-requires
+number-in-requires : tie.Need-number_in-requires
 number-in-requires c κs =
     let a = c.before.before.args in
     short-found (start_of a.area.now) c.start.ensures (short-start a.area.now)

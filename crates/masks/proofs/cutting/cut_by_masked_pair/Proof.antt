@@ -8,4 +8,4 @@ pub cut_by_masked_pair_spec : {M : Type 1} → statement M
 cut_by_masked_pair_spec =
     tie.close
     (tie.spec (λ c κs. search rules) (λ c κs. search rules) (λ c. search rules)
-    (λ c. c.before.may-cut.ensures.leaves c.if1.false c.before.before.before.before.requires.1 refl refl _))
+    (λ c. c.before.may_cut.ensures.leaves c.if-may_cut.false c.before.before.before.before.requires.1 refl refl _))

@@ -9,4 +9,4 @@ pub may_cut_spec : {M : Type 1} → statement M
 may_cut_spec =
     tie.close
     (tie.spec (λ c. some-cut) (λ c κs. search rules) (λ c. some-cut) (λ c κs. search rules)
-    (λ c. neither-cuts (omega arith) c.before.before.may-raise.ensures c.before.if2.false c.may-lower.ensures))
+    (λ c. neither-cuts (omega arith) c.before.before.may_raise.ensures c.before.if-may_raise.false c.may_lower.ensures))

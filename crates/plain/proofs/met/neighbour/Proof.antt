@@ -18,52 +18,52 @@ use Rattle.plain.proofs.met.neighbour.Tie as tie
 abbrev Nearest : KeptEnd → KeptEnd → List Row → List Row → Type 0
 Nearest f near all left = nearest (end_of f) (end_of near) left ≡ neighbour (end_of f) all
 
-abbrev invariant-loop : tie.invariant-loop
+abbrev invariant-loop : tie.invariant-loop-i
 invariant-loop coefficient monomial sign f p-to q-to near₀ i₀ j₀ near i j =
     Walked coefficient monomial sign i₀ p-to j₀ q-to (Nearest f near) i j × (SmallEnd near × (There near₀ → There near))
 
-abbrev decreases-loop : tie.decreases-loop
+abbrev decreases-loop : tie.decreases-loop-i
 decreases-loop coefficient monomial sign f p-to q-to near₀ i₀ j₀ near i j = p-to + q-to - (i + j)
 
-nearer-requires : tie.Need-nearer-requires invariant-loop decreases-loop
+nearer-requires : tie.Need-nearer-near-requires invariant-loop decreases-loop
 nearer-requires c κs = (pair_small (record { first = omega arith; second = omega arith }), pair_small (record { first = omega arith; second = omega arith }))
 
-loop-holds : tie.Need-loop-init invariant-loop decreases-loop
+loop-holds : tie.Need-loop-i-init invariant-loop decreases-loop
 unfolding neighbour at_zero
 loop-holds c =
     let s = c.before.before.before in (
-      walk_from s.requires.first.ordered s.requires.second.ordered (λ all. ap (λ n. nearest (end_of s.args.f) n all) c.nearer.ensures.0),
-      (c.nearer.ensures.1, λ h. h),
+      walk_from s.requires.first.ordered s.requires.second.ordered (λ all. ap (λ n. nearest (end_of s.args.f) n all) c.nearer-near.ensures.0),
+      (c.nearer-near.ensures.1, λ h. h),
     )
 
-nearer-requires-2 : tie.Need-nearer-requires-2 invariant-loop decreases-loop
+nearer-requires-2 : tie.Need-nearer-near-requires-in-loop-i invariant-loop decreases-loop
 nearer-requires-2 c κs =
-    let n = c.before.before.next in
-    let l = c.before.before.before.before.loop in
+    let n = c.before.before.next-step in
+    let l = c.before.before.before.before.loop-i in
     let s = c.before.before.before.before.before.before.before.before in
-    let told = c.struct-told2.given in (
+    let told = c.struct_told-in-loop-i-1.given in (
       l.invariant.1.0,
       pair_small (rw (back {z = n.result.a} (record { sfits = told.0.1 }), back {z = n.result.b} (record { sfits = told.1.0.1 }))
           (row_small l.invariant.0 n.ensures s.requires.first_small s.requires.second_small)),
     )
 
-loop-again : tie.Need-loop-preserved invariant-loop decreases-loop
+loop-again : tie.Need-loop-i-preserved invariant-loop decreases-loop
 loop-again c =
     let d = c.before in
-    let n = d.before.before.next in
-    let l = d.before.before.before.before.loop in
-    let told = d.struct-told2.given in
+    let n = d.before.before.next-step in
+    let l = d.before.before.before.before.loop-i in
+    let told = d.struct_told-in-loop-i-1.given in
     let a = back {z = n.result.a} (record { sfits = told.0.1 }) in
     let b = back {z = n.result.b} (record { sfits = told.1.0.1 }) in (
-      walk-on l.invariant.0 n.ensures (λ board s t left m h. nearest-row _ _ _ left (rw (a, b) at c.nearer2.ensures.0) h),
-      (c.nearer2.ensures.1, λ h. still-there _ _ (l.invariant.1.1 h) c.nearer2.ensures.0),
+      walk-on l.invariant.0 n.ensures (λ board s t left m h. nearest-row _ _ _ left (rw (a, b) at c.nearer-near-in-loop-i.ensures.0) h),
+      (c.nearer-near-in-loop-i.ensures.1, λ h. still-there _ _ (l.invariant.1.1 h) c.nearer-near-in-loop-i.ensures.0),
     )
 
 returns : tie.Need-returns invariant-loop decreases-loop
 unfolding nearest at_zero
 returns c =
-    let l = c.before.loop in
-    let first = c.before.before.nearer in
+    let l = c.before.loop-i in
+    let first = c.before.before.nearer-near in
     record {
       on = λ s t. walk-done l.invariant.0 (omega arith) (omega arith) s t;
       small = l.invariant.1.0;

@@ -12,7 +12,7 @@ unfolding after_all
 returns c f i =
     let sign = c.before.sign.ensures ∙ ap (λ z. only (sign_of z)) i.c in
     let after = c.and_then.ensures in
-    record { on = λ s t. seen-after _ _ f (rw sign at after) ((c.before.before.test-value.ensures f i).on s t) }
+    record { on = λ s t. seen-after _ _ f (rw sign at after) ((c.before.before.test_value-passed.ensures f i).on s t) }
 
 pub tested_spec : {M : Type 1} → statement M
 tested_spec = tie.close (tie.spec (λ c κs. search rules) (λ c κs. search rules) (λ c κs. search rules) returns)

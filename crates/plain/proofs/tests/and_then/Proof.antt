@@ -15,10 +15,10 @@ returns c =
     let strict = l.before.before in
     let wants = strict.before.before.before in
     record {
-      l = rw (first.either.ensures, l.both.ensures, l.before.inside.ensures, wants.wanted.ensures);
-      above = rw (third.before.either2.ensures, third.before.before.both3.ensures, l.both.ensures, l.before.inside.ensures, wants.wanted.ensures, strict.strictly.ensures, strict.before.before.is-strict.ensures);
-      u = rw (third.either3.ensures, u.both2.ensures, u.before.inside2.ensures, u.before.before.mirror.ensures, wants.wanted.ensures);
-      below = rw (c.either4.ensures, c.before.both4.ensures, u.both2.ensures, u.before.inside2.ensures, u.before.before.mirror.ensures, wants.wanted.ensures, strict.strictly.ensures, strict.before.before.is-strict.ensures);
+      l = rw (first.either.ensures, l.both-l.ensures, l.before.inside.ensures, wants.wanted-wants.ensures);
+      above = rw (third.before.either-2.ensures, third.before.before.both.ensures, l.both-l.ensures, l.before.inside.ensures, wants.wanted-wants.ensures, strict.strictly-strict.ensures, strict.before.before.is_strict.ensures);
+      u = rw (third.either-3.ensures, u.both-u.ensures, u.before.inside-2.ensures, u.before.before.mirror.ensures, wants.wanted-wants.ensures);
+      below = rw (c.either-4.ensures, c.before.both-2.ensures, u.both-u.ensures, u.before.inside-2.ensures, u.before.before.mirror.ensures, wants.wanted-wants.ensures, strict.strictly-strict.ensures, strict.before.before.is_strict.ensures);
     }
 
 pub and_then_spec : {M : Type 1} → statement M

@@ -21,43 +21,43 @@ use Rattle.plain.proofs.tests.test_value.Tie as tie
 abbrev Tested : Value → Passed → List Row → List Row → Type 0
 Tested t x all left = (f : Fraction) → Is t f → Says f x all left
 
-abbrev invariant-loop : tie.invariant-loop
+abbrev invariant-loop : tie.invariant-loop-i
 invariant-loop coefficient monomial sign t p-to q-to passed₀ i₀ j₀ passed i j = Walked coefficient monomial sign i₀ p-to j₀ q-to (Tested t passed) i j
 
-abbrev decreases-loop : tie.decreases-loop
+abbrev decreases-loop : tie.decreases-loop-i
 decreases-loop coefficient monomial sign t p-to q-to passed₀ i₀ j₀ passed i j = p-to + q-to - (i + j)
 
-loop-holds : tie.Need-loop-init invariant-loop decreases-loop
-loop-holds c = let s = c.before.before in walk_from s.requires.0.first.ordered s.requires.0.second.ordered (λ all f h. (refl, (refl, refl)))
+loop-holds : tie.Need-loop-i-init invariant-loop decreases-loop
+loop-holds c = let s = c.before.before in walk_from s.requires.lent.first.ordered s.requires.lent.second.ordered (λ all f h. (refl, (refl, refl)))
 
-next-requires : tie.Need-next-requires invariant-loop decreases-loop
+next-requires : tie.Need-next-step-requires invariant-loop decreases-loop
 next-requires c κs = search rules
 
-sign-at-requires : tie.Need-sign-at-requires invariant-loop decreases-loop
+sign-at-requires : tie.Need-sign_at-requires invariant-loop decreases-loop
 sign-at-requires c κs =
-    let n = c.before.before.next in
-    let l = c.before.before.before.before.loop in
+    let n = c.before.before.next-step in
+    let l = c.before.before.before.before.loop-i in
     let s = c.before.before.before.before.before.before.before in
-    let told = c.struct-told2.given in (
-      s.requires.1,
+    let told = c.struct_told-in-loop-i-1.given in (
+      s.requires.held,
       rw (back {z = n.result.a} (record { sfits = told.0.1 }), back {z = n.result.b} (record { sfits = told.1.0.1 }))
-          (row_small l.invariant n.ensures s.requires.0.first_small s.requires.0.second_small),
+          (row_small l.invariant n.ensures s.requires.lent.first_small s.requires.lent.second_small),
     )
 
-loop-again : tie.Need-loop-preserved invariant-loop decreases-loop
+loop-again : tie.Need-loop-i-preserved invariant-loop decreases-loop
 loop-again c =
     let d = c.before.before in
-    let n = d.before.before.next in
-    let l = d.before.before.before.before.loop in
-    let told = d.struct-told2.given in
+    let n = d.before.before.next-step in
+    let l = d.before.before.before.before.loop-i in
+    let told = d.struct_told-in-loop-i-1.given in
     let a = back {z = n.result.a} (record { sfits = told.0.1 }) in
     let b = back {z = n.result.b} (record { sfits = told.1.0.1 }) in
-    walk-on l.invariant n.ensures (λ board s t left m h f i. says_row f _ _ left (rw (a, b) at (c.before.sign_at.ensures f i)) c.by.ensures (h f i))
+    walk-on l.invariant n.ensures (λ board s t left m h f i. says_row f _ _ left (rw (a, b) at (c.before.sign_at.ensures f i)) c.by-passed.ensures (h f i))
 
 returns : tie.Need-returns invariant-loop decreases-loop
 unfolding passes strict_at
 returns c f i =
-    let l = c.before.loop in
+    let l = c.before.loop-i in
     record {
       on = λ s t. let (x, (y, z)) = walk-done l.invariant (omega arith) (omega arith) s t f i in
           (sym (and-true l.passed.l) ∙ x, (sym (and-true l.passed.u) ∙ y, sym (or-false l.passed.strict) ∙ z));

@@ -15,53 +15,53 @@ use Rattle.plain.proofs.Numbers.{fits, back, term_in, listed-c, listed-d, sum-in
 use Rattle.plain.proofs.value.beside.Statement.{statement}
 use Rattle.plain.proofs.value.beside.Tie as tie
 
-near_fits : (c : tie.After-struct-told) → SFits w32 c.before.before.args.near.b
-near_fits c = record { sfits = c.struct_told.given.1.0.1 }
+near_fits : (c : tie.After-struct_told-1) → SFits w32 c.before.before.args.near.b
+near_fits c = record { sfits = c.struct_told-1.given.1.0.1 }
 
 -- the listed fraction f
-first : (c : tie.After-listed) → Is c.listed.result c.before.requires.0.0.fraction
-first c = let there = c.before.requires.0.0 in c.listed.ensures there.fraction there.is
+first : (c : tie.After-listed-x) → Is c.listed-x.result c.before.requires.there.0.fraction
+first c = let there = c.before.requires.there.0 in c.listed-x.ensures there.fraction there.is
 
-first_small : (c : tie.After-listed) → Small largest c.before.requires.0.0.fraction
-first_small c = let there = c.before.requires.0.0 in c.before.requires.0.1.small there.fraction there.is
+first_small : (c : tie.After-listed-x) → Small largest c.before.requires.there.0.fraction
+first_small c = let there = c.before.requires.there.0 in c.before.requires.there.1.small there.fraction there.is
 
 add-t7 : tie.Need-overflow-add-t7
 add-t7 c =
     let d = c.before.before.before.before in
-    let r = d.listed.result in
+    let r = d.listed-x.result in
     rw (back r.c (term_in (listed-c (first d) (first_small d))), back r.d (term_in (listed-d (first d) (first_small d))))
     (fits (sum-in r.c r.d (listed-c (first d) (first_small d)) (listed-d (first d) (first_small d))))
 
-returns : tie.Need-returns
+returns : tie.Need-returns-then-b-eq0
 returns c =
     let d = c.before.before.before.before.before in
-    let r = d.listed.result in
-    let none = none_there d.before.args.near.a d.before.args.near.b (is-zero (near_fits c.before.before.before.before) c.before.before.before.if1.true) in
+    let r = d.listed-x.result in
+    let none = none_there d.before.args.near.a d.before.args.near.b (is-zero (near_fits c.before.before.before.before) c.before.before.before.if-b-eq0.true) in
     rw (
       back r.c (term_in (listed-c (first d) (first_small d))),
       back r.d (term_in (listed-d (first d) (first_small d))),
       back (r.c +ℤ r.d) (sum-in r.c r.d (listed-c (first d) (first_small d)) (listed-d (first d) (first_small d))),
     ) (
-      record { t = one_more d.before.requires.0.0.fraction; is = more-is (first d).c (first d).d; small = one-more-small (first_small d) },
-      λ t e. none_beside t none (more-is (d.listed.ensures t e).c (d.listed.ensures t e).d),
+      record { t = one_more d.before.requires.there.0.fraction; is = more-is (first d).c (first d).d; small = one-more-small (first_small d) },
+      λ t e. none_beside t none (more-is (d.listed-x.ensures t e).c (d.listed-x.ensures t e).d),
     )
 
 -- the neighbour above it
-other : (c : tie.Else1) → There c.before.before.before.args.near
-other c = is-there c.before.before.before.args.near (not_zero (near_fits c.before) c.if1.false)
+other : (c : tie.Else-b-eq0) → There c.before.before.before.args.near
+other c = is-there c.before.before.before.args.near (not_zero (near_fits c.before) c.if-b-eq0.false)
 
-second : (c : tie.After-listed2) → Is c.listed2.result (other c.before).fraction
-second c = c.listed2.ensures (other c.before).fraction (other c.before).is
+second : (c : tie.After-listed-y) → Is c.listed-y.result (other c.before).fraction
+second c = c.listed-y.ensures (other c.before).fraction (other c.before).is
 
-second_small : (c : tie.After-listed2) → Small largest (other c.before).fraction
-second_small c = c.before.before.before.before.requires.1.small (other c.before).fraction (other c.before).is
+second_small : (c : tie.After-listed-y) → Small largest (other c.before).fraction
+second_small c = c.before.before.before.before.requires.small_end.small (other c.before).fraction (other c.before).is
 
 add-t8 : tie.Need-overflow-add-t8
 add-t8 c =
     let e = c.before.before.before.before in
     let d = e.before.before.before in
-    let x = d.listed.result in
-    let y = e.listed2.result in
+    let x = d.listed-x.result in
+    let y = e.listed-y.result in
     rw (back x.c (term_in (listed-c (first d) (first_small d))), back y.c (term_in (listed-c (second e) (second_small e))))
     (fits (sum-in x.c y.c (listed-c (first d) (first_small d)) (listed-c (second e) (second_small e))))
 
@@ -69,17 +69,17 @@ add-t9 : tie.Need-overflow-add-t9
 add-t9 c =
     let e = c.before.before.before.before.before.before.before.before in
     let d = e.before.before.before in
-    let x = d.listed.result in
-    let y = e.listed2.result in
+    let x = d.listed-x.result in
+    let y = e.listed-y.result in
     rw (back x.d (term_in (listed-d (first d) (first_small d))), back y.d (term_in (listed-d (second e) (second_small e))))
     (fits (sum-in x.d y.d (listed-d (first d) (first_small d)) (listed-d (second e) (second_small e))))
 
-returns-2 : tie.Need-returns-2
+returns-2 : tie.Need-returns
 returns-2 c =
     let e = c.before.before.before.before.before.before.before.before in
     let d = e.before.before.before in
-    let x = d.listed.result in
-    let y = e.listed2.result in
+    let x = d.listed-x.result in
+    let y = e.listed-y.result in
     let xc = listed-c (first d) (first_small d) in
     let xd = listed-d (first d) (first_small d) in
     let yc = listed-c (second e) (second_small e) in
@@ -93,11 +93,11 @@ returns-2 c =
       back (x.d +ℤ y.d) (sum-in x.d y.d xd yd),
     ) (
       record {
-        t = between d.before.requires.0.0.fraction (other e.before).fraction;
+        t = between d.before.requires.there.0.fraction (other e.before).fraction;
         is = between_is (first d).c (first d).d (second e).c (second e).d;
         small = between-small (first_small d) (second_small e);
       },
-      λ t k. one-beside t (other e.before).fraction (other e.before).is (between_is (d.listed.ensures t k).c (d.listed.ensures t k).d (second e).c (second e).d),
+      λ t k. one-beside t (other e.before).fraction (other e.before).is (between_is (d.listed-x.ensures t k).c (d.listed-x.ensures t k).d (second e).c (second e).d),
     )
 
 pub beside_spec : {M : Type 1} → statement M

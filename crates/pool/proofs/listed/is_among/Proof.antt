@@ -9,27 +9,27 @@ use Rattle.pool.proofs.Listings.{among_from, among-found, among_later, among_non
 use Rattle.pool.proofs.listed.is_among.Statement.{statement}
 use Rattle.pool.proofs.listed.is_among.Tie as tie
 
-abbrev invariant-loop : tie.invariant-loop
+abbrev invariant-loop : tie.invariant-loop-i
 invariant-loop order count slot i₀ i = among_from order count slot i ≡ among (numbers_from order 0 count) slot
 
-abbrev decreases-loop : tie.decreases-loop
+abbrev decreases-loop : tie.decreases-loop-i
 decreases-loop order count slot i₀ i = count - i
 
-returns : tie.Need-returns invariant-loop decreases-loop
+returns : tie.Need-returns-then-slot-order invariant-loop decreases-loop
 returns c =
-    let l = c.before.before.before.loop in
+    let l = c.before.before.before.loop-i in
     let a = c.before.before.before.before.args in
-    among-found a.order.now a.count a.slot l.i (omega arith) c.if1.true ∙ l.invariant
+    among-found a.order.now a.count a.slot l.i (omega arith) c.if-slot-order.true ∙ l.invariant
 
-loop-again : tie.Need-loop-preserved invariant-loop decreases-loop
+loop-again : tie.Need-loop-i-preserved invariant-loop decreases-loop
 loop-again c =
-    let l = c.before.before.before.loop in
+    let l = c.before.before.before.loop-i in
     let a = c.before.before.before.before.args in
-    among_later a.order.now a.count a.slot l.i (omega arith) c.if1.false ∙ l.invariant
+    among_later a.order.now a.count a.slot l.i (omega arith) c.if-slot-order.false ∙ l.invariant
 
-returns-2 : tie.Need-returns-2 invariant-loop decreases-loop
+returns-2 : tie.Need-returns invariant-loop decreases-loop
 returns-2 c =
-    let l = c.before.loop in
+    let l = c.before.loop-i in
     let a = c.before.before.args in
     among_none a.order.now a.count a.slot l.i (omega arith) ∙ l.invariant
 

@@ -6,17 +6,17 @@ use Rattle.pool.proofs.Listings.{many-terms, no_terms, one-term}
 use Rattle.pool.proofs.listed.is_constant.Statement.{statement}
 use Rattle.pool.proofs.listed.is_constant.Tie as tie
 
-returns : tie.Need-returns
+returns : tie.Need-returns-then-count-gt1
 unfolding constant_in
-returns c = many-terms _ _ c.if1.true
+returns c = many-terms _ _ c.if-count-gt1.true
 
-returns-2 : tie.Need-returns-2
+returns-2 : tie.Need-returns-then-count-eq0
 unfolding constant_in
-returns-2 c = no_terms _ _ c.if2.true
+returns-2 c = no_terms _ _ c.if-count-eq0.true
 
-returns-3 : tie.Need-returns-3
+returns-3 : tie.Need-returns
 unfolding constant_in
-returns-3 c = one-term _ _ (omega (arith, c.before.before.if1.false)) c.before.if2.false
+returns-3 c = one-term _ _ (omega (arith, c.before.before.if-count-gt1.false)) c.before.if-count-eq0.false
 
 pub is_constant_spec : {M : Type 1} → statement M
 is_constant_spec =

@@ -13,29 +13,29 @@ use Rattle.pool.proofs.Listings.{listing_from, listing-out, listing-in, listing-
 use Rattle.pool.proofs.listed.listed.Statement.{statement}
 use Rattle.pool.proofs.listed.listed.Tie as tie
 
-abbrev invariant-loop : tie.invariant-loop
+abbrev invariant-loop : tie.invariant-loop-i
 invariant-loop monomial terms number polynomials order₀ count₀ i₀ order count i =
     (i ≤ polynomials) × (count ≤ i) × (length order ≡ length order₀)
     × (listing_from (constant_in monomial terms) number polynomials (numbers_from order 0 count) i
     ≡ listing (constant_in monomial terms) [] (numbers_from number 0 polynomials))
     × ((j : ℕ) → j < count → get_or order j 0 < 64)
 
-abbrev decreases-loop : tie.decreases-loop
+abbrev decreases-loop : tie.decreases-loop-i
 decreases-loop monomial terms number polynomials order₀ count₀ i₀ order count i = polynomials - i
 
-loop-holds : tie.Need-loop-init invariant-loop decreases-loop
+loop-holds : tie.Need-loop-i-init invariant-loop decreases-loop
 unfolding numbers_from
 loop-holds c = (omega arith, omega arith, refl, simp sub-zero, λ j h. absurd (omega arith))
 
-is-out-requires : tie.Need-is-out-requires invariant-loop decreases-loop
+is-out-requires : tie.Need-is_out-requires invariant-loop decreases-loop
 is-out-requires c κs =
-    let l = c.before.before.before.loop in
+    let l = c.before.before.before.loop-i in
     let s = c.before.before.before.before.before.before.before.before in
     (s.requires.0, omega (arith, l.invariant.0, l.invariant.1, l.invariant.2, s.requires.1.most, s.requires.2), s.requires.1.below l.i (omega arith))
 
-loop-again : tie.Need-loop-preserved invariant-loop decreases-loop
+loop-again : tie.Need-loop-i-preserved-then-not-is_out invariant-loop decreases-loop
 loop-again c =
-    let l = c.before.before.before.before.before.loop in
+    let l = c.before.before.before.before.before.loop-i in
     let s = c.before.before.before.before.before.before.before.before.before.before in
     let a = s.args in
     let v = get_or a.number.now l.i 0 in
@@ -46,26 +46,26 @@ loop-again c =
       ap (λ (x : List ℕ). listing_from (constant_in a.monomial.now a.terms.now) a.number.now a.polynomials x (l.i + 1))
           (one-behind l.order l.count v room)
           ∙ listing-in (constant_in a.monomial.now a.terms.now) a.number.now a.polynomials (numbers_from l.order 0 l.count) l.i
-          (omega arith) (sym c.before.is-out.ensures ∙ not-true _ c.if1.true)
+          (omega arith) (sym c.before.is_out.ensures ∙ not-true _ c.if-not-is_out.true)
           ∙ l.invariant.3,
       stored-below l.order l.count v room (s.requires.1.below l.i (omega arith)) l.invariant.4,
     )
 
-loop-again-2 : tie.Need-loop-preserved-2 invariant-loop decreases-loop
+loop-again-2 : tie.Need-loop-i-preserved invariant-loop decreases-loop
 loop-again-2 c =
-    let l = c.before.before.before.before.before.loop in
+    let l = c.before.before.before.before.before.loop-i in
     let a = c.before.before.before.before.before.before.before.before.before.before.args in (
       omega arith,
       omega arith,
       l.invariant.2,
       listing-out (constant_in a.monomial.now a.terms.now) a.number.now a.polynomials (numbers_from l.order 0 l.count) l.i
-          (omega arith) (sym c.before.is-out.ensures ∙ not-false _ c.if1.false) ∙ l.invariant.3,
+          (omega arith) (sym c.before.is_out.ensures ∙ not-false _ c.if-not-is_out.false) ∙ l.invariant.3,
       l.invariant.4,
     )
 
 returns : tie.Need-returns invariant-loop decreases-loop
 returns c =
-    let l = c.before.loop in
+    let l = c.before.loop-i in
     let a = c.before.before.before.before.before.before.args in
     record {
       is = sym (listing-end (constant_in a.monomial.now a.terms.now) a.number.now a.polynomials (numbers_from l.order 0 l.count) l.i
@@ -80,5 +80,5 @@ listed_spec =
     (tie.spec invariant-loop decreases-loop loop-holds
     (λ c. omega (arith, c.before.before.before.before.before.before.before.requires.1.there)) (λ c. omega arith) is-out-requires
     (λ c. let s = c.before.before.before.before.before.before.before.before.before.before in
-    omega (arith, c.before.before.before.before.before.loop.invariant.2, s.requires.1.most, s.requires.2))
-    (λ c. omega arith) (λ c. omega arith) loop-again (λ c. omega arith) loop-again-2 (λ c. c.before.loop.invariant.2) returns)
+    omega (arith, c.before.before.before.before.before.loop-i.invariant.2, s.requires.1.most, s.requires.2))
+    (λ c. omega arith) (λ c. omega arith) loop-again (λ c. omega arith) loop-again-2 (λ c. c.before.loop-i.invariant.2) returns)

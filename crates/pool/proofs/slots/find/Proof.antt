@@ -12,36 +12,36 @@ use Rattle.pool.proofs.Walks.{first_from, first_step, first_found, first-none}
 use Rattle.pool.proofs.slots.find.Statement.{statement}
 use Rattle.pool.proofs.slots.find.Tie as tie
 
-abbrev invariant-loop : tie.invariant-loop
+abbrev invariant-loop : tie.invariant-loop-slot
 invariant-loop pool coefficient monomial from count slot₀ slot =
     (slot ≤ 128)
     × (first_from (stores (terms_from coefficient monomial from count)) pool slot ≡ first_place (stores (terms_from coefficient monomial from count)) (slots_of pool))
 
-abbrev decreases-loop : tie.decreases-loop
+abbrev decreases-loop : tie.decreases-loop-slot
 decreases-loop pool coefficient monomial from count slot₀ slot = 128 - slot
 
-loop-holds : tie.Need-loop-init invariant-loop decreases-loop
+loop-holds : tie.Need-loop-slot-init invariant-loop decreases-loop
 loop-holds c = (omega arith, zero-add _)
 
-returns : tie.Need-returns invariant-loop decreases-loop
+returns : tie.Need-returns-then-stores invariant-loop decreases-loop
 returns c =
-    let l = c.before.before.before.loop in
+    let l = c.before.before.before.loop-slot in
     let a = c.before.before.before.before.before.before.args in
     first_found (stores (terms_from a.coefficient.now a.monomial.now a.from a.count)) a.pool.now l.slot (omega arith)
-    (sym c.before.stores.ensures ∙ c.if1.true) ∙ l.invariant.1
+    (sym c.before.stores.ensures ∙ c.if-stores.true) ∙ l.invariant.1
 
-loop-again : tie.Need-loop-preserved invariant-loop decreases-loop
+loop-again : tie.Need-loop-slot-preserved invariant-loop decreases-loop
 loop-again c =
-    let l = c.before.before.before.loop in
+    let l = c.before.before.before.loop-slot in
     let a = c.before.before.before.before.before.before.args in (
       omega arith,
       first_step (stores (terms_from a.coefficient.now a.monomial.now a.from a.count)) a.pool.now l.slot (omega arith)
-          (sym c.before.stores.ensures ∙ c.if1.false) ∙ l.invariant.1,
+          (sym c.before.stores.ensures ∙ c.if-stores.false) ∙ l.invariant.1,
     )
 
-returns-2 : tie.Need-returns-2 invariant-loop decreases-loop
+returns-2 : tie.Need-returns invariant-loop decreases-loop
 returns-2 c =
-    let l = c.before.loop in
+    let l = c.before.loop-slot in
     let a = c.before.before.before.before.args in
     let test = stores (terms_from a.coefficient.now a.monomial.now a.from a.count) in
     let e : l.slot ≡ 128 = omega arith in

@@ -11,33 +11,33 @@ use Rattle.pool.proofs.Walks.{terms-length, listed-stored, listed-none}
 use Rattle.pool.proofs.slots.list_form.Statement.{statement}
 use Rattle.pool.proofs.slots.list_form.Tie as tie
 
-slice-write-pool-2 : tie.Need-slice-write-pool-2
+slice-write-pool-2 : tie.Need-bounds-pool-at-then-slot-lt128-2
 slice-write-pool-2 c = simp length-set (omega arith)
 
-put-terms-requires : tie.Need-put-terms-requires
+put-terms-requires : tie.Need-put_terms-requires
 put-terms-requires c κs =
     let s = c.before.before.before.before.before.before.before.before in
-    (simp length-set (omega (arith, s.requires.0, c.before.before.before.if1.true)), s.requires.2)
+    (simp length-set (omega (arith, s.requires.0, c.before.before.before.if-slot-lt128.true)), s.requires.2)
 
-same_length : tie.Need-same-length
-same_length c = ap length c.before.before.put-terms.ensures ∙ simp (put-length, length-set)
+same_length : tie.Need-shape_of-pool-then-slot-lt128
+same_length c = ap length c.before.before.put_terms.ensures ∙ simp (put-length, length-set)
 
-returns : tie.Need-returns
+returns : tie.Need-returns-then-slot-lt128
 returns c =
     let marking = c.before.before.before.before in
     let placing = marking.before.before.before in
     let a = placing.before.before.before.before.args in
-    c.before.before.put-terms.ensures
-    ∙ listed-stored a.number a.pool.now (terms_from a.coefficient.now a.monomial.now a.from a.count) placing.place-for.result
-    marking.with-mark.result a.count placing.place-for.ensures (omega (arith, marking.before.before.if1.true)) marking.with-mark.ensures
+    c.before.before.put_terms.ensures
+    ∙ listed-stored a.number a.pool.now (terms_from a.coefficient.now a.monomial.now a.from a.count) placing.place_for-slot.result
+    marking.with_mark.result a.count placing.place_for-slot.ensures (omega (arith, marking.before.before.if-slot-lt128.true)) marking.with_mark.ensures
     (sym (terms-length a.coefficient.now a.monomial.now a.from a.count))
 
-returns-2 : tie.Need-returns-2
+returns-2 : tie.Need-returns-else-slot-lt128
 returns-2 c =
     let placing = c.before in
     let a = placing.before.before.before.before.args in
-    listed-none a.number a.pool.now (terms_from a.coefficient.now a.monomial.now a.from a.count) placing.place-for.result
-    placing.place-for.ensures (omega (arith, c.if1.false))
+    listed-none a.number a.pool.now (terms_from a.coefficient.now a.monomial.now a.from a.count) placing.place_for-slot.result
+    placing.place_for-slot.ensures (omega (arith, c.if-slot-lt128.false))
 
 pub list_form_spec : {M : Type 1} → statement M
 list_form_spec =

@@ -8,18 +8,18 @@ use Rattle.pool.proofs.Walks.{placed-stored, placed-free}
 use Rattle.pool.proofs.slots.place_for.Statement.{statement}
 use Rattle.pool.proofs.slots.place_for.Tie as tie
 
-returns : tie.Need-returns
+returns : tie.Need-returns-then-slot-lt128
 returns c =
     let a = c.before.before.before.before.args in
-    let found = c.before.find.ensures in
-    found ∙ placed-stored (terms_from a.coefficient.now a.monomial.now a.from a.count) a.pool.now (omega (arith, found, c.if1.true))
+    let found = c.before.find-slot.ensures in
+    found ∙ placed-stored (terms_from a.coefficient.now a.monomial.now a.from a.count) a.pool.now (omega (arith, found, c.if-slot-lt128.true))
 
-returns-2 : tie.Need-returns-2
+returns-2 : tie.Need-returns
 returns-2 c =
     let a = c.before.before.before.before.before.args in
-    let found = c.before.before.find.ensures in
-    c.first-free.ensures
-    ∙ placed-free (terms_from a.coefficient.now a.monomial.now a.from a.count) a.pool.now (omega (arith, found, c.before.if1.false))
+    let found = c.before.before.find-slot.ensures in
+    c.first_free.ensures
+    ∙ placed-free (terms_from a.coefficient.now a.monomial.now a.from a.count) a.pool.now (omega (arith, found, c.before.if-slot-lt128.false))
 
 pub place_for_spec : {M : Type 1} → statement M
 place_for_spec = tie.close (tie.spec (λ c κs. search rules) returns (λ c κs. search rules) returns-2)

@@ -14,42 +14,42 @@ use Rattle.pool.proofs.Walks.{put_from, put_step, zero-step, put-end}
 use Rattle.pool.proofs.slots.put_terms.Statement.{statement}
 use Rattle.pool.proofs.slots.put_terms.Tie as tie
 
-abbrev invariant-loop : tie.invariant-loop
+abbrev invariant-loop : tie.invariant-loop-i
 invariant-loop pool₀ k coefficient monomial from count i₀ pool i =
     (i ≤ count) × (length pool ≡ length pool₀)
     × (put_from pool k coefficient monomial from count i ≡ put_terms pool₀ k (terms_from coefficient monomial from count) 16)
 
-abbrev decreases-loop : tie.decreases-loop
+abbrev decreases-loop : tie.decreases-loop-i
 decreases-loop pool₀ k coefficient monomial from count i₀ pool i = count - i
 
-abbrev invariant-loop2 : tie.invariant-loop2
+abbrev invariant-loop2 : tie.invariant-loop-i-2
 invariant-loop2 pool₀ k coefficient monomial from count i₀ pool i =
     (count ≤ i) × (i ≤ 16) × (length pool ≡ length pool₀)
     × (put_from pool k coefficient monomial from count i ≡ put_from pool₀ k coefficient monomial from count i₀)
 
-abbrev decreases-loop2 : tie.decreases-loop2
+abbrev decreases-loop2 : tie.decreases-loop-i-2
 decreases-loop2 pool₀ k coefficient monomial from count i₀ pool i = 16 - i
 
 put-long : (words : List ℕ) (k v m : ℕ) → length (put_term words k v m) ≡ length words
 put-long words k v m = length-set (set words k v) (k + 16) m ∙ length-set words k v
 
-loop-holds : tie.Need-loop-init invariant-loop decreases-loop invariant-loop2 decreases-loop2
+loop-holds : tie.Need-loop-i-init invariant-loop decreases-loop invariant-loop2 decreases-loop2
 loop-holds c = (omega arith, refl, simp (add-zero, sub-zero))
 
-loop-again : tie.Need-loop-preserved invariant-loop decreases-loop invariant-loop2 decreases-loop2
+loop-again : tie.Need-loop-i-preserved invariant-loop decreases-loop invariant-loop2 decreases-loop2
 loop-again c =
     let put = c.before.before in
     let word = put.before.before in
     let element = word.before.before in
-    let l = element.before.before.loop in
+    let l = element.before.before.loop-i in
     let s = element.before.before.before.before.before in
     let a = s.args in
     let m = get_or a.monomial.now (a.from + l.i) 0 in
     let z = get_or a.coefficient.now (a.from + l.i) (pos 0) in
-    let is : put.put-term.new.0 ≡ put_term l.pool (a.k + l.i) (coefficient_word z) m =
-    put.put-term.ensures
+    let is : put.put_term.new.0 ≡ put_term l.pool (a.k + l.i) (coefficient_word z) m =
+    put.put_term.ensures
     ∙ ap (λ (v : ℕ). put_term l.pool (a.k + l.i) v m)
-    (word.coefficient-word.ensures ∙ ap coefficient_word (read_back z (record { sfits = element.c.given }))) in (
+    (word.coefficient_word.ensures ∙ ap coefficient_word (read_back z (record { sfits = element.c-1.given }))) in (
       omega arith,
       ap length is ∙ put-long l.pool (a.k + l.i) (coefficient_word z) m ∙ l.invariant.1,
       ap (λ (w : List ℕ). put_from w a.k a.coefficient.now a.monomial.now a.from a.count (l.i + 1)) is
@@ -57,13 +57,13 @@ loop-again c =
           ∙ l.invariant.2,
     )
 
-loop2-again : tie.Need-loop2-preserved invariant-loop decreases-loop invariant-loop2 decreases-loop2
+loop2-again : tie.Need-loop-i-2-preserved invariant-loop decreases-loop invariant-loop2 decreases-loop2
 loop2-again c =
     let put = c.before.before in
-    let l = put.before.before.before.loop2 in
+    let l = put.before.before.before.loop-i-2 in
     let s = put.before.before.before.before.before.before.before.before in
     let a = s.args in
-    let is = put.put-term2.ensures in (
+    let is = put.put_term-in-loop-i-2.ensures in (
       omega arith,
       omega arith,
       ap length is ∙ put-long l.pool (a.k + l.i) 0 0 ∙ l.invariant.2,
@@ -71,15 +71,15 @@ loop2-again c =
           ∙ zero-step l.pool a.k a.coefficient.now a.monomial.now a.from a.count l.i (omega arith) (omega arith) ∙ l.invariant.3,
     )
 
-same_length : tie.Need-same-length invariant-loop decreases-loop invariant-loop2 decreases-loop2
-same_length c = c.before.loop2.invariant.2 ∙ c.before.before.before.loop.invariant.1
+same_length : tie.Need-shape_of-pool invariant-loop decreases-loop invariant-loop2 decreases-loop2
+same_length c = c.before.loop-i-2.invariant.2 ∙ c.before.before.before.loop-i.invariant.1
 
 returns : tie.Need-returns invariant-loop decreases-loop invariant-loop2 decreases-loop2
 returns c =
-    let l = c.before.loop2 in
+    let l = c.before.loop-i-2 in
     let a = c.before.before.before.before.before.before.args in
     sym (put-end l.pool a.k a.coefficient.now a.monomial.now a.from a.count l.i (omega arith)) ∙ l.invariant.3
-    ∙ c.before.before.before.loop.invariant.2
+    ∙ c.before.before.before.loop-i.invariant.2
 
 pub put_terms_spec : {M : Type 1} → statement M
 put_terms_spec =

@@ -15,34 +15,34 @@ use Rattle.pool.proofs.Walks.{same_left, same_term, same-goes-on, same-stops, sa
 use Rattle.pool.proofs.slots.same_terms.Statement.{statement}
 use Rattle.pool.proofs.slots.same_terms.Tie as tie
 
-abbrev invariant-loop : tie.invariant-loop
+abbrev invariant-loop : tie.invariant-loop-i
 invariant-loop pool k coefficient monomial from count i₀ i =
     same_left pool k coefficient monomial from i count ≡ same (terms_from coefficient monomial from count) (terms_in pool k count)
 
-abbrev decreases-loop : tie.decreases-loop
+abbrev decreases-loop : tie.decreases-loop-i
 decreases-loop pool k coefficient monomial from count i₀ i = count - i
 
-returns : tie.Need-returns invariant-loop decreases-loop
+returns : tie.Need-returns-then-not-same_term invariant-loop decreases-loop
 returns c =
-    let l = c.before.before.before.before.before.loop in
+    let l = c.before.before.before.before.before.loop-i in
     let a = c.before.before.before.before.before.before.before.before.args in
     same-stops a.pool.now a.k a.coefficient.now a.monomial.now a.from l.i a.count (omega arith)
     (ap (λ (z : ℤ). same_term a.pool.now (a.k + l.i) z (get_or a.monomial.now (a.from + l.i) 0))
-    (sym (read_back (get_or a.coefficient.now (a.from + l.i) (pos 0)) (record { sfits = c.before.before.before.c.given })))
-    ∙ sym c.before.same-term.ensures ∙ not-true _ c.if1.true) ∙ l.invariant
+    (sym (read_back (get_or a.coefficient.now (a.from + l.i) (pos 0)) (record { sfits = c.before.before.before.c-1.given })))
+    ∙ sym c.before.same_term.ensures ∙ not-true _ c.if-not-same_term.true) ∙ l.invariant
 
-loop-again : tie.Need-loop-preserved invariant-loop decreases-loop
+loop-again : tie.Need-loop-i-preserved invariant-loop decreases-loop
 loop-again c =
-    let l = c.before.before.before.before.before.loop in
+    let l = c.before.before.before.before.before.loop-i in
     let a = c.before.before.before.before.before.before.before.before.args in
     same-goes-on a.pool.now a.k a.coefficient.now a.monomial.now a.from l.i a.count (omega arith)
     (ap (λ (z : ℤ). same_term a.pool.now (a.k + l.i) z (get_or a.monomial.now (a.from + l.i) 0))
-    (sym (read_back (get_or a.coefficient.now (a.from + l.i) (pos 0)) (record { sfits = c.before.before.before.c.given })))
-    ∙ sym c.before.same-term.ensures ∙ not-false _ c.if1.false) ∙ l.invariant
+    (sym (read_back (get_or a.coefficient.now (a.from + l.i) (pos 0)) (record { sfits = c.before.before.before.c-1.given })))
+    ∙ sym c.before.same_term.ensures ∙ not-false _ c.if-not-same_term.false) ∙ l.invariant
 
-returns-2 : tie.Need-returns-2 invariant-loop decreases-loop
+returns-2 : tie.Need-returns invariant-loop decreases-loop
 returns-2 c =
-    let l = c.before.loop in
+    let l = c.before.loop-i in
     let a = c.before.before.before.before.args in
     same_end a.pool.now a.k a.coefficient.now a.monomial.now a.from l.i a.count (omega arith) ∙ l.invariant
 

@@ -7,16 +7,16 @@ use lib.ListN.{get_or}
 use Rattle.pool.proofs.slots.terms_of.Statement.{statement}
 use Rattle.pool.proofs.slots.terms_of.Tie as tie
 
-abbrev place : (c : tie.After-word) → c.word.result ≡ get_or c.before.before.args.pool.now (2 + 34 * c.before.before.args.slot + 1) 0
+abbrev place : (c : tie.After-word-count) → c.word-count.result ≡ get_or c.before.before.args.pool.now (2 + 34 * c.before.before.args.slot + 1) 0
 place c =
     let a = c.before.before.args in
     let e : 3 + 34 * a.slot ≡ 2 + 34 * a.slot + 1 = omega arith in
-    rw e at c.word.ensures
+    rw e at c.word-count.ensures
 
-returns : tie.Need-returns
+returns : tie.Need-returns-then-count-lt16
 returns c = omega (arith, place c.before)
 
-returns-2 : tie.Need-returns-2
+returns-2 : tie.Need-returns
 returns-2 c = omega (arith, place c.before)
 
 pub terms_of_spec : {M : Type 1} → statement M

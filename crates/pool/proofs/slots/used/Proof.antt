@@ -10,29 +10,29 @@ use Rattle.pool.proofs.Walks.{used_from, used_step, free_step, used-none}
 use Rattle.pool.proofs.slots.used.Statement.{statement}
 use Rattle.pool.proofs.slots.used.Tie as tie
 
-abbrev invariant-loop : tie.invariant-loop
+abbrev invariant-loop : tie.invariant-loop-slot
 invariant-loop pool total₀ slot₀ total slot = (slot ≤ 128) × (total ≤ slot) × (total + used_from pool slot ≡ used_slots (slots_of pool))
 
-abbrev decreases-loop : tie.decreases-loop
+abbrev decreases-loop : tie.decreases-loop-slot
 decreases-loop pool total₀ slot₀ total slot = 128 - slot
 
-loop-again : tie.Need-loop-preserved invariant-loop decreases-loop
+loop-again : tie.Need-loop-slot-preserved-then-not-is_free invariant-loop decreases-loop
 loop-again c =
-    let l = c.before.before.before.loop in
+    let l = c.before.before.before.loop-slot in
     let a = c.before.before.before.before.before.args in
-    let e = used_step a.pool.now l.slot (omega arith) (sym c.before.is_free.ensures ∙ not-true _ c.if1.true) in
+    let e = used_step a.pool.now l.slot (omega arith) (sym c.before.is_free.ensures ∙ not-true _ c.if-not-is_free.true) in
     (omega arith, omega arith, omega (arith, l.invariant.2, e))
 
-loop-again-2 : tie.Need-loop-preserved-2 invariant-loop decreases-loop
+loop-again-2 : tie.Need-loop-slot-preserved invariant-loop decreases-loop
 loop-again-2 c =
-    let l = c.before.before.before.loop in
+    let l = c.before.before.before.loop-slot in
     let a = c.before.before.before.before.before.args in
-    let e = free_step a.pool.now l.slot (omega arith) (sym c.before.is_free.ensures ∙ not-false _ c.if1.false) in
+    let e = free_step a.pool.now l.slot (omega arith) (sym c.before.is_free.ensures ∙ not-false _ c.if-not-is_free.false) in
     (omega arith, omega arith, omega (arith, l.invariant.2, e))
 
 returns : tie.Need-returns invariant-loop decreases-loop
 returns c =
-    let l = c.before.loop in
+    let l = c.before.loop-slot in
     let a = c.before.before.before.args in
     let e : l.slot ≡ 128 = omega arith in
     (omega (arith, l.invariant.2, ap (used_from a.pool.now) e ∙ used-none a.pool.now), omega arith)

@@ -10,11 +10,11 @@ use Rattle.pool.proofs.Numbers.{whole-magnitude, whole_word}
 use Rattle.pool.proofs.words.coefficient_word.Statement.{statement}
 use Rattle.pool.proofs.words.coefficient_word.Tie as tie
 
-abbrev below : (c : tie.Then1) → lt_z c.before.args.c (pos 0) ≡ true
-below c = rw (wide_back c.before.args.c c.before.ranges.c) at c.if1.true
+abbrev below : (c : tie.Then-wide-lt0) → lt_z c.before.args.c (pos 0) ≡ true
+below c = rw (wide_back c.before.args.c c.before.ranges.c) at c.if-wide-lt0.true
 
-abbrev not-below : (c : tie.Else1) → lt_z c.before.args.c (pos 0) ≡ false
-not-below c = rw (wide_back c.before.args.c c.before.ranges.c) at c.if1.false
+abbrev not-below : (c : tie.Else-wide-lt0) → lt_z c.before.args.c (pos 0) ≡ false
+not-below c = rw (wide_back c.before.args.c c.before.ranges.c) at c.if-wide-lt0.false
 
 cast-result : tie.Need-overflow-cast-result
 cast-result c =
@@ -34,7 +34,7 @@ sub-result-2 c =
     let m = negative-magnitude z (below c) c.before.ranges.c.sfits in
     rw (minus-back z c.before.ranges.c) (omega (arith, m.0))
 
-returns : tie.Need-returns
+returns : tie.Need-returns-then-wide-lt0
 returns c = let z = c.before.args.c in rw (minus-back z c.before.ranges.c) (negative-word z (below c))
 
 cast-result-2 : tie.Need-overflow-cast-result-2
@@ -49,7 +49,7 @@ mul-result-2 c =
     let m = whole-magnitude z (not-below c) c.before.ranges.c.sfits in
     rw (wide_back z c.before.ranges.c) (record { fits = omega (arith, m) })
 
-returns-2 : tie.Need-returns-2
+returns-2 : tie.Need-returns
 returns-2 c = let z = c.before.args.c in rw (wide_back z c.before.ranges.c) (whole_word z (not-below c))
 
 pub coefficient_word_spec : {M : Type 1} → statement M

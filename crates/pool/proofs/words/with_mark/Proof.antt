@@ -6,35 +6,35 @@ use Rattle.pool.specs.Marks.{mark-small, mark-shifted, mark-kept, mark-given, ma
 use Rattle.pool.proofs.words.with_mark.Statement.{statement}
 use Rattle.pool.proofs.words.with_mark.Tie as tie
 
-returns : tie.Need-returns
+returns : tie.Need-returns-then-on
 returns c =
     let s = c.before.before.before in
-    rw c.if2.true (mark-kept s.args.word s.args.number s.requires _ (sym c.before.before.mark.ensures ∙ c.before.if1.true))
+    rw c.if-on.true (mark-kept s.args.word s.args.number s.requires _ (sym c.before.before.mark.ensures ∙ c.before.if-mark.true))
 
 sub-result : tie.Need-overflow-sub-result
 sub-result c =
     let s = c.before.before.before in
-    mark-there s.args.word s.args.number s.requires (sym c.before.before.mark.ensures ∙ c.before.if1.true)
+    mark-there s.args.word s.args.number s.requires (sym c.before.before.mark.ensures ∙ c.before.if-mark.true)
 
-returns-2 : tie.Need-returns-2
+returns-2 : tie.Need-returns-then-mark
 returns-2 c =
     let s = c.before.before.before in
-    rw c.if2.false (mark-taken s.args.word s.args.number s.requires (sym c.before.before.mark.ensures ∙ c.before.if1.true))
+    rw c.if-on.false (mark-taken s.args.word s.args.number s.requires (sym c.before.before.mark.ensures ∙ c.before.if-mark.true))
 
 add-result : tie.Need-overflow-add-result
 add-result c =
     let s = c.before.before.before in
     rw (mark-shifted s.args.word s.args.number s.requires) (record { fits = omega (arith, mark-small s.args.word s.args.number s.requires) })
 
-returns-3 : tie.Need-returns-3
+returns-3 : tie.Need-returns-then-on-2
 returns-3 c =
     let s = c.before.before.before in
-    rw c.if3.true (mark-given s.args.word s.args.number s.requires (sym c.before.before.mark.ensures ∙ c.before.if1.false))
+    rw c.if-on-2.true (mark-given s.args.word s.args.number s.requires (sym c.before.before.mark.ensures ∙ c.before.if-mark.false))
 
-returns-4 : tie.Need-returns-4
+returns-4 : tie.Need-returns
 returns-4 c =
     let s = c.before.before.before in
-    rw c.if3.false (mark-kept s.args.word s.args.number s.requires _ (sym c.before.before.mark.ensures ∙ c.before.if1.false))
+    rw c.if-on-2.false (mark-kept s.args.word s.args.number s.requires _ (sym c.before.before.mark.ensures ∙ c.before.if-mark.false))
 
 pub with_mark_spec : {M : Type 1} → statement M
 with_mark_spec =

@@ -12,22 +12,22 @@ use Rattle.round.specs.Walks.{rest-cons, rest-nil}
 use Rattle.round.proofs.list.joined.Statement.{statement}
 use Rattle.round.proofs.list.joined.Tie as tie
 
-abbrev invariant-loop : tie.invariant-loop
+abbrev invariant-loop : tie.invariant-loop-i
 invariant-loop from list end atoms₀ i₀ atoms i =
     (end ≡ many list.count)
     × ((atoms.count + (end - i) ≤ 64)
     × ((t : Table) → atoms_of t atoms ++ rest t list i ≡ atoms_of t atoms₀ ++ rest t list from))
 
-abbrev decreases-loop : tie.decreases-loop
+abbrev decreases-loop : tie.decreases-loop-i
 decreases-loop from list end atoms₀ i₀ atoms i = end - i
 
-loop-again : tie.Need-loop-preserved invariant-loop decreases-loop
+loop-again : tie.Need-loop-i-preserved invariant-loop decreases-loop
 unfolding unless_variable
 loop-again c =
-    let l = c.before.before.before.before.loop in
+    let l = c.before.before.before.before.loop-i in
     let list = c.before.before.before.before.before.before.args.t2 in
     let (all, (fit, so_far)) = l.invariant in
-    let pushed = c.push.ensures in (
+    let pushed = c.push-atoms.ensures in (
       all,
       (
         omega (arith, pushed.count),
@@ -37,12 +37,12 @@ loop-again c =
 
 returns : tie.Need-returns invariant-loop decreases-loop
 returns c t =
-    let l = c.before.loop in
+    let l = c.before.loop-i in
     let list = c.before.before.before.args.t2 in
     sym (append-nil (atoms_of t l.atoms)) ∙ ap (λ (r : List Atom). atoms_of t l.atoms ++ r) (sym (rest-nil t list l.i (omega arith))) ∙ l.invariant.1.1 t
 
 pub joined_spec : {M : Type 1} → statement M
 joined_spec =
     tie.close
-    (tie.spec invariant-loop decreases-loop (λ c κs. search rules) (λ c. (c.many.ensures, (omega (arith, c.many.ensures, c.before.requires), λ t. refl))) (λ c. omega arith)
+    (tie.spec invariant-loop decreases-loop (λ c κs. search rules) (λ c. (c.many-end.ensures, (omega (arith, c.many-end.ensures, c.before.requires), λ t. refl))) (λ c. omega arith)
     (λ c. omega arith) (λ c. omega arith) (λ c κs. omega arith) (λ c. omega arith) loop-again returns)

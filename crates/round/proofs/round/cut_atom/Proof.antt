@@ -19,44 +19,44 @@ abbrev table : tie.Start → Table
 table s = lent_table s.args.coefficient s.args.monomial s.args.terms s.args.board.variables
 
 -- the places of the atom's slot, with the board's signs
-held_at : (c : tie.After-places) →
+held_at : (c : tie.After-places-run) →
     let a = c.before.before.before.before.before.before.before.args in
-    let run = c.places.result in
+    let run = c.places-run.result in
     Held (sets_of a.board) a.coefficient.now a.monomial.now a.sign.now run.from run.to
 held_at c =
     let s = c.before.before.before.before.before.before.before in
     let (ready, low) = s.requires in
-    let p = c.places.ensures in
+    let p = c.places-run.ensures in
     run-held {t = table s} (atom_slot s.args.t6.number s.args.i) ready.forms ready.places (omega arith) p.0 p.1 (ready.atoms s.args.i low)
 
 -- the sign by terms of the atom's polynomial
-by-is : (c : tie.After-by-terms) →
+by-is : (c : tie.After-by_terms-by) →
     let s = c.before.before.before.before.before.before.before.before in
-    c.by-terms.result.0 ≡ by_terms (sets_of s.args.board) (form_at (table s) (atom_slot s.args.t6.number s.args.i))
+    c.by_terms-by.result.0 ≡ by_terms (sets_of s.args.board) (form_at (table s) (atom_slot s.args.t6.number s.args.i))
 by-is c =
     let s = c.before.before.before.before.before.before.before.before in
-    let p = c.before.places.ensures in
-    by-terms-at (table s) (atom_slot s.args.t6.number s.args.i) c.by-terms.ensures p.0 p.1 (held_at c.before)
+    let p = c.before.places-run.ensures in
+    by-terms-at (table s) (atom_slot s.args.t6.number s.args.i) c.by_terms-by.ensures p.0 p.1 (held_at c.before)
 
-cut-by-requires : tie.Need-cut-by-requires
+cut-by-requires : tie.Need-cut_by-before-requires
 cut-by-requires c κs =
     let s = c.before.before.before.before.before.before.before.before.before in
     (s.requires.0, (omega (arith, s.requires.1), (omega arith, s.requires.0.atoms s.args.i s.requires.1)))
 
-cut-by-requires-2 : tie.Need-cut-by-requires-2
+cut-by-requires-2 : tie.Need-cut_by-requires
 cut-by-requires-2 c κs =
     let s = c.before.before.before.before.before.before.before.before.before.before in
-    (s.requires.0, (omega (arith, c.before.before.before.before.before.before.many.ensures), (omega arith, s.requires.0.atoms s.args.i s.requires.1)))
+    (s.requires.0, (omega (arith, c.before.before.before.before.before.before.many-n.ensures), (omega arith, s.requires.0.atoms s.args.i s.requires.1)))
 
 returns : tie.Need-returns
 unfolding cut_atom
 returns c =
     rw (
-      c.cut-by2.ensures,
-      c.before.cut_by.ensures,
+      c.cut_by.ensures,
+      c.before.cut_by-before.ensures,
       c.before.before.intersect.ensures,
       by-is c.before.before.before,
-      c.before.before.before.before.before.before.before.many.ensures,
+      c.before.before.before.before.before.before.before.many-n.ensures,
       sub-zero,
     ) (sym (cut-append _ _ _ _ _))
 

@@ -23,25 +23,25 @@ record Cutting (atoms : Atoms) (cut-set : ℕ → SignSet) (n i : ℕ) (cut : At
   pub places : length cut.set ≡ 64
   pub sets : (k : ℕ) → k < i → get_or cut.set k 0 ≡ cut-set k
 
-abbrev invariant-loop : tie.invariant-loop
+abbrev invariant-loop : tie.invariant-loop-i
 invariant-loop coefficient monomial terms sign board atoms n cut₀ i₀ cut i =
     let t = table_of coefficient monomial terms board.variables in
     Cutting atoms (cut_set t atoms.number atoms.set (sets_of board) (many atoms.count)) n i cut
 
-abbrev decreases-loop : tie.decreases-loop
+abbrev decreases-loop : tie.decreases-loop-i
 decreases-loop coefficient monomial terms sign board atoms n cut₀ i₀ cut i = n - i
 
 abbrev table : tie.Start invariant-loop decreases-loop → Table
 table s = lent_table s.args.coefficient s.args.monomial s.args.terms s.args.board.variables
 
-loop-holds : tie.Need-loop-init invariant-loop decreases-loop
+loop-holds : tie.Need-loop-i-init invariant-loop decreases-loop
 loop-holds c =
     let places : length c.before.before.before.before.args.atoms.set ≡ 64 = search rules in
-    record { most = omega arith; all = c.many.ensures; count = refl; number = refl; places = places; sets = λ k h. absurd (omega arith) }
+    record { most = omega arith; all = c.many-n.ensures; count = refl; number = refl; places = places; sets = λ k h. absurd (omega arith) }
 
-loop-again : tie.Need-loop-preserved invariant-loop decreases-loop
+loop-again : tie.Need-loop-i-preserved invariant-loop decreases-loop
 loop-again c =
-    let l = c.before.before.loop in
+    let l = c.before.before.loop-i in
     let cutting = l.invariant in
     let h : l.i < length l.cut.set = omega arith in
     record {
@@ -49,8 +49,8 @@ loop-again c =
       all = cutting.all;
       count = cutting.count;
       number = cutting.number;
-      places = length-set {A = ℕ} l.cut.set l.i c.cut-atom.result.0 ∙ cutting.places;
-      sets = stored_more _ l.cut.set l.i _ h c.cut-atom.ensures cutting.sets;
+      places = length-set {A = ℕ} l.cut.set l.i c.cut_atom-set.result.0 ∙ cutting.places;
+      sets = stored_more _ l.cut.set l.i _ h c.cut_atom-set.ensures cutting.sets;
     }
 
 returns : tie.Need-returns invariant-loop decreases-loop
@@ -58,7 +58,7 @@ unfolding atoms_from
 returns c =
     let s = c.before.before.before.before.before.before in
     let a = s.args.atoms in
-    let l = c.before.loop in
+    let l = c.before.loop-i in
     let cutting = l.invariant in
     let all = cut-from (table s) a.number a.set l.cut.set (sets_of s.args.board) (many a.count) 0 (many a.count) (zero-add _)
     (λ (k : ℕ) (h : k < many a.count). cutting.sets k (omega arith)) in
@@ -68,5 +68,5 @@ pub cut_atoms_spec : {M : Type 1} → statement M
 cut_atoms_spec =
     tie.close
     (tie.spec invariant-loop decreases-loop (λ c κs. search rules) loop-holds
-    (λ c κs. (c.before.before.before.before.before.before.requires, omega (arith, c.before.loop.invariant.all)))
-    (λ c. omega (arith, c.before.before.loop.invariant.all)) (λ c. omega (arith, c.before.before.loop.invariant.all)) (λ c. omega arith) loop-again returns)
+    (λ c κs. (c.before.before.before.before.before.before.requires, omega (arith, c.before.loop-i.invariant.all)))
+    (λ c. omega (arith, c.before.before.loop-i.invariant.all)) (λ c. omega (arith, c.before.before.loop-i.invariant.all)) (λ c. omega arith) loop-again returns)

@@ -12,22 +12,22 @@ use Rattle.round.specs.Over.{ready-over, cut-over}
 use Rattle.round.proofs.round.round.Statement.{statement}
 use Rattle.round.proofs.round.round.Tie as tie
 
-after-turns-requires : tie.Need-after-turns-requires
+after-turns-requires : tie.Need-after_turns-turned-requires
 after-turns-requires c κs =
     let s = c.before.before.before.before.before.before.before.before in (
-      rw c.before.before.sign-list.ensures
+      rw c.before.before.sign_list.ensures
           (list-ready s.args.state.board s.args.state.atoms _ s.requires refl (length-replicate {A = ℕ} 1280 0)),
       (refl, nothing-below s.args.state.board.variables s.requires.variables _ _),
     )
 
-cut-atoms-requires : tie.Need-cut-atoms-requires
-cut-atoms-requires c κs = let turned = c.before.before.after-turns.ensures in ready-over _ _ _ (sym turned.variables) turned.ready
+cut-atoms-requires : tie.Need-cut_atoms-cut-requires
+cut-atoms-requires c κs = let turned = c.before.before.after_turns-turned.ensures in ready-over _ _ _ (sym turned.variables) turned.ready
 
 returns : tie.Need-returns
 unfolding round_of
 returns c =
-    let turns = c.before.before.before.after-turns in
-    let cut = cut-over _ _ _ turns.ensures.variables (sets_of turns.result) c.cut-atoms.ensures in
+    let turns = c.before.before.before.after_turns-turned in
+    let cut = cut-over _ _ _ turns.ensures.variables (sets_of turns.result) c.cut_atoms-cut.ensures in
     record { variables = turns.ensures.variables; count = cut.count; number = cut.number; state = rw (cut.atoms, turns.ensures.sets) }
 
 pub round_spec : {M : Type 1} → statement M

@@ -20,50 +20,50 @@ use Rattle.round.proofs.round.turned.Tie as tie
 abbrev table : tie.Start → Table
 table s = lent_table s.args.coefficient s.args.monomial s.args.terms s.args.t5.variables
 
-returns : tie.Need-returns
+returns : tie.Need-returns-then-old-low
 returns c =
     let s = c.before.before.before.before.before.before in
     let b = s.args.t5 in
     let low : s.args.i < few b.variables = omega (arith, s.requires.0.0.forms.variables, s.requires.0.1) in
     record {
       variables = refl;
-      sets = floor-keeps (table s) s.args.atoms b s.args.t8 s.args.i s.requires.1 low c.if1.true;
+      sets = floor-keeps (table s) s.args.atoms b s.args.t8 s.args.i s.requires.1 low c.if-old-low.true;
       ready = s.requires.0.0;
     }
 
-cut-down-requires : tie.Need-cut-down-requires
+cut-down-requires : tie.Need-cut_down-new-requires
 cut-down-requires c κs =
     let s = c.before.before.before.before.before.before.before.before in
     let ((ready, low), (small, part)) = s.requires in (
       ready,
       (
-        (omega (arith, c.before.many.ensures), (omega (arith, ready.forms.variables), ready.variables s.args.i low)),
-        (small, rw (ready.forms.each_variable _ low, c.before.many.ensures, sub-zero) part),
+        (omega (arith, c.before.many-n.ensures), (omega (arith, ready.forms.variables), ready.variables s.args.i low)),
+        (small, rw (ready.forms.each_variable _ low, c.before.many-n.ensures, sub-zero) part),
       ),
     )
 
 -- the set that the deductions leave is the book's
-cut-is : (c : tie.After-cut-down) →
+cut-is : (c : tie.After-cut_down-new) →
     let s = c.before.before.before.before.before.before.before.before.before in
     let b = s.args.t5 in
-    c.cut_down.result.0
+    c.cut_down-new.result.0
     ≡ cut_by (sets_of b) (variable b.variables s.args.i) (atoms_of (table s) s.args.atoms) (get_or b.sets s.args.i 0)
 cut-is c =
     let ((ready, low), floor) = c.before.before.before.before.before.before.before.before.before.requires in
-    c.cut_down.ensures ∙ rw (ready.forms.each_variable _ low, c.before.before.many.ensures, sub-zero)
+    c.cut_down-new.ensures ∙ rw (ready.forms.each_variable _ low, c.before.before.many-n.ensures, sub-zero)
 
-returns-2 : tie.Need-returns-2
+returns-2 : tie.Need-returns-then-new-old
 returns-2 c =
     let s = c.before.before.before.before.before.before.before.before.before.before.before in
     let b = s.args.t5 in
     let low : s.args.i < few b.variables = omega (arith, s.requires.0.0.forms.variables, s.requires.0.1) in
     record {
       variables = refl;
-      sets = turn-keeps b.variables b.sets s.args.i _ low _ (cut-is c.before.before) c.if2.true;
+      sets = turn-keeps b.variables b.sets s.args.i _ low _ (cut-is c.before.before) c.if-new-old.true;
       ready = s.requires.0.0;
     }
 
-returns-3 : tie.Need-returns-3
+returns-3 : tie.Need-returns
 returns-3 c =
     let s = c.before.before.before.before.before.before.before.before.before.before.before.before.before.before.before in
     let b = s.args.t5 in
@@ -74,7 +74,7 @@ returns-3 c =
     record {
       variables = refl;
       sets = turn-changes b.variables b.sets s.args.i _ low _ (cut-is c.before.before.before.before.before.before) within;
-      ready = rw c.before.before.sign-list.ensures (list-ready _ s.args.atoms _ ready.forms refl ready.places);
+      ready = rw c.before.before.sign_list.ensures (list-ready _ s.args.atoms _ ready.forms refl ready.places);
     }
 
 pub turned_spec : {M : Type 1} → statement M

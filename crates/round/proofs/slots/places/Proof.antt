@@ -8,5 +8,5 @@ pub places_spec : {M : Type 1} → statement M
 places_spec =
     tie.close
     (tie.spec (λ c. search rules) (λ c. search rules) (λ c. search rules)
-    (λ c. omega (arith, c.shared-slice-known.given c.before.args.k))
-    (λ c. omega (arith, c.shared-slice-known.given c.before.args.k)) (λ c. search rules))
+    (λ c. omega (arith, c.shared_slice_known-1.given c.before.args.k))
+    (λ c. omega (arith, c.shared_slice_known-1.given c.before.args.k)) (λ c. search rules))

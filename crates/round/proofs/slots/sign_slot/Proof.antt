@@ -7,4 +7,4 @@ pub sign_slot_spec : {M : Type 1} → statement M
 sign_slot_spec =
     tie.close
     (tie.spec (λ c κs. search rules) (λ c κs. search rules) (λ c. search rules)
-    (λ c. c.before.before.slot-by.ensures _ c.before.before.before.before.masks-of.ensures))
+    (λ c. c.before.before.slot_by.ensures _ c.before.before.before.before.masks_of.ensures))

@@ -12,30 +12,30 @@ use Rattle.round.specs.Walks.{signing_step, signing_end}
 use Rattle.round.proofs.slots.sign_table.Statement.{statement}
 use Rattle.round.proofs.slots.sign_table.Tie as tie
 
-abbrev invariant-loop : tie.invariant-loop
+abbrev invariant-loop : tie.invariant-loop-k
 invariant-loop monomial terms sign₀ masks k₀ sign k =
     (length sign ≡ length sign₀)
     × ((board : Board) → MasksOf board masks → signed_slots board monomial terms (λ j. j) sign k (80 - k) ≡ signed_table board monomial terms sign₀)
 
-abbrev decreases-loop : tie.decreases-loop
+abbrev decreases-loop : tie.decreases-loop-k
 decreases-loop monomial terms sign₀ masks k₀ sign k = 80 - k
 
-slot-by-requires : tie.Need-slot-by-requires invariant-loop decreases-loop
-slot-by-requires c κs = (same-slots c.before.before.before.before.before.before.before.requires c.before.before.loop.invariant.0, omega arith)
+slot-by-requires : tie.Need-slot_by-requires invariant-loop decreases-loop
+slot-by-requires c κs = (same-slots c.before.before.before.before.before.before.before.requires c.before.before.loop-k.invariant.0, omega arith)
 
-loop-again : tie.Need-loop-preserved invariant-loop decreases-loop
+loop-again : tie.Need-loop-k-preserved invariant-loop decreases-loop
 loop-again c =
-    let l = c.before.before.before.before.before.loop in
+    let l = c.before.before.before.before.before.loop-k in
     let h : l.k < 80 = omega arith in
-    let signed = c.before.before.slot-by in
+    let signed = c.before.before.slot_by in
     (signed.auto.1.1.1.0 ∙ l.invariant.0, λ board of. rw (signed.ensures board of) (sym (signing_step _ _ _ _ _ _ _ h) ∙ l.invariant.1 board of))
 
 returns : tie.Need-returns invariant-loop decreases-loop
 returns c =
-    sym (signing_end _ _ _ _ _ _ _ c.loop-test.false) ∙ c.before.loop.invariant.1 _ c.before.before.masks-of.ensures
+    sym (signing_end _ _ _ _ _ _ _ c.loop-k-test.false) ∙ c.before.loop-k.invariant.1 _ c.before.before.masks_of-masks.ensures
 
 pub sign_table_spec : {M : Type 1} → statement M
 sign_table_spec =
     tie.close
     (tie.spec invariant-loop decreases-loop (λ c κs. search rules) (λ c. (refl, λ board of. refl)) slot-by-requires (λ c. omega arith) (λ c. omega arith) loop-again
-    (λ c. c.before.loop.invariant.0) returns)
+    (λ c. c.before.loop-k.invariant.0) returns)

@@ -12,32 +12,32 @@ use Rattle.round.specs.Walks.{signing_step, signing_end}
 use Rattle.round.proofs.slots.sign_variables.Statement.{statement}
 use Rattle.round.proofs.slots.sign_variables.Tie as tie
 
-abbrev invariant-loop : tie.invariant-loop
+abbrev invariant-loop : tie.invariant-loop-i
 invariant-loop masks variables monomial terms sign₀ i₀ sign i =
     (length sign ≡ length sign₀)
     × ((board : Board) → MasksOf board masks →
     signed_slots board monomial terms variable_slot sign i (variables - i) ≡ signed_slots board monomial terms variable_slot sign₀ 0 variables)
 
-abbrev decreases-loop : tie.decreases-loop
+abbrev decreases-loop : tie.decreases-loop-i
 decreases-loop masks variables monomial terms sign₀ i₀ sign i = variables - i
 
-slot-by-requires : tie.Need-slot-by-requires invariant-loop decreases-loop
+slot-by-requires : tie.Need-slot_by-requires invariant-loop decreases-loop
 slot-by-requires c κs =
     let p = c.before.before.before.before.before.before.requires in
-    (same-slots p.0 c.before.before.loop.invariant.0, omega (arith, p.1))
+    (same-slots p.0 c.before.before.loop-i.invariant.0, omega (arith, p.1))
 
-loop-again : tie.Need-loop-preserved invariant-loop decreases-loop
+loop-again : tie.Need-loop-i-preserved invariant-loop decreases-loop
 loop-again c =
-    let l = c.before.before.before.before.before.loop in
+    let l = c.before.before.before.before.before.loop-i in
     let h : l.i < c.before.before.before.before.before.before.before.before.before.args.variables = omega arith in
-    let signed = c.before.before.slot-by in
+    let signed = c.before.before.slot_by in
     (signed.auto.1.1.1.0 ∙ l.invariant.0, λ board of. rw (signed.ensures board of) (sym (signing_step _ _ _ _ _ _ _ h) ∙ l.invariant.1 board of))
 
 returns : tie.Need-returns invariant-loop decreases-loop
-returns c = λ board of. sym (signing_end _ _ _ _ _ _ _ c.loop-test.false) ∙ c.before.loop.invariant.1 board of
+returns c = λ board of. sym (signing_end _ _ _ _ _ _ _ c.loop-i-test.false) ∙ c.before.loop-i.invariant.1 board of
 
 pub sign_variables_spec : {M : Type 1} → statement M
 sign_variables_spec =
     tie.close
     (tie.spec invariant-loop decreases-loop (λ c. (refl, λ board of. rw sub-zero)) (λ c. omega arith) slot-by-requires (λ c. omega arith) (λ c. omega arith) loop-again
-    (λ c. c.before.loop.invariant.0) returns)
+    (λ c. c.before.loop-i.invariant.0) returns)

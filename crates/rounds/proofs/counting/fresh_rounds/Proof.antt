@@ -10,22 +10,22 @@ use Rattle.rounds.proofs.Larger.{none-larger, from-none}
 use Rattle.rounds.proofs.counting.fresh_rounds.Statement.{statement}
 use Rattle.rounds.proofs.counting.fresh_rounds.Tie as tie
 
-returns : tie.Need-returns
-returns c = none-larger (table_of _ _ _ _) _ (omega (arith, c.if1.true, c.before.many.ensures))
+returns : tie.Need-returns-then-variables-many
+returns c = none-larger (table_of _ _ _ _) _ (omega (arith, c.if-variables-many.true, c.before.many.ensures))
 
-turned-largest-requires : tie.Need-turned-largest-requires
+turned-largest-requires : tie.Need-turned_largest-requires
 turned-largest-requires c κs =
     let s = c.before.before.before.before.before.before in
-    let start = c.before.start in (
+    let start = c.before.start-first in (
       forms-over _ _ _ (sym start.ensures.0) s.requires.0,
       (begins-bounded _ _ _ start.ensures.0 s.args.settled start.result s.args.others s.requires.1 start.ensures.1, omega arith),
     )
 
-returns-2 : tie.Need-returns-2
+returns-2 : tie.Need-returns
 returns-2 c =
     let s = c.before.before.before.before.before.before.before in
-    let start = c.before.before.start in
-    from-none s.args.largest c.turned-largest.ensures (turned-is _ _ _ start.ensures.0 s.args.others s.requires.1 start.result start.ensures.1 refl)
+    let start = c.before.before.start-first in
+    from-none s.args.largest c.turned_largest.ensures (turned-is _ _ _ start.ensures.0 s.args.others s.requires.1 start.result start.ensures.1 refl)
 
 pub fresh_rounds_spec : {M : Type 1} → statement M
 fresh_rounds_spec =

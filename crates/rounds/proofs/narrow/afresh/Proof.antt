@@ -7,18 +7,18 @@ use Rattle.rounds.proofs.Beginnings.{narrowed_low, run-narrowed, run-still}
 use Rattle.rounds.proofs.narrow.afresh.Statement.{statement}
 use Rattle.rounds.proofs.narrow.afresh.Tie as tie
 
-returns : tie.Need-returns
-returns c = run-still c.before.before.before.before.before.before.requires.1 c.before.before.before.settled-start.ensures c.if1.true
+returns : tie.Need-returns-then-begin
+returns c = run-still c.before.before.before.before.before.before.requires.1 c.before.before.before.settled_start-begin.ensures c.if-begin.true
 
-rounds-requires : tie.Need-rounds-requires
+rounds-requires : tie.Need-rounds-end-requires
 rounds-requires c κs =
-    let begin = c.before.before.before.settled-start.ensures.narrowed in
+    let begin = c.before.before.before.settled_start-begin.ensures.narrowed in
     (forms-over _ _ _ (sym begin.variables) c.before.before.before.before.before.before.requires.0, narrowed_low begin)
 
-returns-2 : tie.Need-returns-2
+returns-2 : tie.Need-returns
 returns-2 c =
-    let begin = c.before.before.before.before.before.settled-start.ensures.narrowed in
-    run-narrowed begin (ended-over _ _ _ begin.variables c.before.rounds.ensures)
+    let begin = c.before.before.before.before.before.settled_start-begin.ensures.narrowed in
+    run-narrowed begin (ended-over _ _ _ begin.variables c.before.rounds-end.ensures)
 
 pub afresh_spec : {M : Type 1} → statement M
 afresh_spec = tie.close (tie.spec (λ c κs. search rules) returns rounds-requires returns-2)

@@ -9,12 +9,12 @@ use Rattle.rounds.proofs.Beginnings.{floor-begins, narrowed-start}
 use Rattle.rounds.proofs.narrow.narrowed.Statement.{statement}
 use Rattle.rounds.proofs.narrow.narrowed.Tie as tie
 
-ahead-requires : tie.Need-ahead-requires
+ahead-requires : tie.Need-ahead-passed-requires
 ahead-requires c κs =
     let s = c.before.before.before.before.before.before in
     let (forms, (few, below)) = s.requires in
-    let first = c.before.before.before.start.result in
-    let (same, is_start) = c.before.before.before.start.ensures in (
+    let first = c.before.before.before.start-first.result in
+    let (same, is_start) = c.before.before.before.start-first.ensures in (
       forms-over _ _ _ (sym same) forms,
       (
         length-replicate {A = ℕ} 1280 0,
@@ -25,8 +25,8 @@ ahead-requires c κs =
 returns : tie.Need-returns
 returns c =
     let s = c.before.before.before.before.before.before.before.before.before.before in
-    let (same, is_start) = c.before.before.before.before.before.before.before.start.ensures in
-    narrowed-start _ _ _ same {first = c.before.before.before.before.before.before.before.start.result} s.args.list is_start c.before.before.before.ahead.ensures
+    let (same, is_start) = c.before.before.before.before.before.before.before.start-first.ensures in
+    narrowed-start _ _ _ same {first = c.before.before.before.before.before.before.before.start-first.result} s.args.list is_start c.before.before.before.ahead-passed.ensures
 
 pub narrowed_spec : {M : Type 1} → statement M
 narrowed_spec =

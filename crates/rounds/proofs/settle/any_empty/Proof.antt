@@ -9,16 +9,16 @@ use Rattle.rounds.proofs.Ends.{empty-here, empty-later, none-empty}
 use Rattle.rounds.proofs.settle.any_empty.Statement.{statement}
 use Rattle.rounds.proofs.settle.any_empty.Tie as tie
 
-abbrev invariant-loop : tie.invariant-loop
+abbrev invariant-loop : tie.invariant-loop-i
 invariant-loop sets n i₀ i = any_empty (numbers_from sets i (n - i)) ≡ any_empty (numbers_from sets 0 n)
 
-abbrev decreases-loop : tie.decreases-loop
+abbrev decreases-loop : tie.decreases-loop-i
 decreases-loop sets n i₀ i = n - i
 
 pub any_empty_spec : {M : Type 1} → statement M
 any_empty_spec =
     tie.close
     (tie.spec invariant-loop decreases-loop (λ c. rw sub-zero) (λ c. omega arith) (λ c. omega arith)
-    (λ c. sym (empty-here _ _ _ c.before.before.before.loop-test.true c.if1.true) ∙ c.before.before.before.before.loop.invariant) (λ c. omega arith)
-    (λ c. sym (empty-later _ _ _ c.before.before.before.loop-test.true c.if1.false) ∙ c.before.before.before.before.loop.invariant)
-    (λ c. sym (none-empty _ _ _ c.loop-test.false) ∙ c.before.loop.invariant))
+    (λ c. sym (empty-here _ _ _ c.before.before.before.loop-i-test.true c.if-set.true) ∙ c.before.before.before.before.loop-i.invariant) (λ c. omega arith)
+    (λ c. sym (empty-later _ _ _ c.before.before.before.loop-i-test.true c.if-set.false) ∙ c.before.before.before.before.loop-i.invariant)
+    (λ c. sym (none-empty _ _ _ c.loop-i-test.false) ∙ c.before.loop-i.invariant))

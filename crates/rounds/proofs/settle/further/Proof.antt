@@ -10,15 +10,15 @@ use Rattle.rounds.proofs.settle.further.Tie as tie
 abbrev table : tie.Start → Table
 table s = lent_table s.args.coefficient s.args.monomial s.args.terms s.args.after.board.variables
 
-returns : tie.Need-returns
+returns : tie.Need-returns-then-unchanged
 returns c =
     let s = c.before.before.before.before.before in
-    further-searched {t = table s} s.args.before s.args.after (sym (c.before.before.unchanged.ensures (table s)) ∙ c.before.if1.true) c.search.ensures
+    further-searched {t = table s} s.args.before s.args.after (sym (c.before.before.unchanged.ensures (table s)) ∙ c.before.if-unchanged.true) c.search.ensures
 
-returns-2 : tie.Need-returns-2
+returns-2 : tie.Need-returns-else-unchanged
 returns-2 c =
     let s = c.before.before.before.before in
-    further-changed {t = table s} s.args.before s.args.after refl (sym (c.before.unchanged.ensures (table s)) ∙ c.if1.false)
+    further-changed {t = table s} s.args.before s.args.after refl (sym (c.before.unchanged.ensures (table s)) ∙ c.if-unchanged.false)
 
 pub further_spec : {M : Type 1} → statement M
 further_spec = tie.close (tie.spec (λ c κs. search rules) (λ c κs. search rules) returns returns-2)

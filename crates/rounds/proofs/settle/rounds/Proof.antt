@@ -14,65 +14,65 @@ use Rattle.rounds.proofs.Ends.{enough-is, Going, at_first, filled-left, to-contr
 use Rattle.rounds.proofs.settle.rounds.Statement.{statement}
 use Rattle.rounds.proofs.settle.rounds.Tie as tie
 
-abbrev invariant-loop : tie.invariant-loop
+abbrev invariant-loop : tie.invariant-loop-left
 invariant-loop coefficient monomial terms enough left₀ current₀ left current =
     Going (table_of coefficient monomial terms current₀.board.variables) enough current₀ left current
 
-abbrev decreases-loop : tie.decreases-loop
+abbrev decreases-loop : tie.decreases-loop-left
 decreases-loop coefficient monomial terms enough left₀ current₀ left current = left
 
 abbrev table : tie.Start invariant-loop decreases-loop → Table
 table s = lent_table s.args.coefficient s.args.monomial s.args.terms s.args.start.board.variables
 
-loop-holds : tie.Need-loop-init invariant-loop decreases-loop
+loop-holds : tie.Need-loop-left-init invariant-loop decreases-loop
 loop-holds c =
     let s = c.before.before.before.before.before.before in
     at_first (table s) _ s.args.start (enough-is (table s) s.args.start _ s.requires.0.variables c.before.many.ensures) refl s.requires.1
 
-round-requires : tie.Need-round-requires invariant-loop decreases-loop
-round-requires c κs = forms-over _ _ _ (sym c.before.loop.invariant.variables) c.before.before.before.before.before.before.before.before.requires.0
+round-requires : tie.Need-round-next-requires invariant-loop decreases-loop
+round-requires c κs = forms-over _ _ _ (sym c.before.loop-left.invariant.variables) c.before.before.before.before.before.before.before.before.requires.0
 
 -- the state after the round
-rounded : (c : tie.After-round invariant-loop decreases-loop) → Rounded (table c.before.before.before.before.before.before.before.before.before) c.before.before.loop.current c.round.result
-rounded c = rounded-over _ _ _ c.before.before.loop.invariant.variables c.round.ensures
+rounded : (c : tie.After-round-next invariant-loop decreases-loop) → Rounded (table c.before.before.before.before.before.before.before.before.before) c.before.before.loop-left.current c.round-next.result
+rounded c = rounded-over _ _ _ c.before.before.loop-left.invariant.variables c.round-next.ensures
 
-returns : tie.Need-returns invariant-loop decreases-loop
+returns : tie.Need-returns-then-has_empty invariant-loop decreases-loop
 returns c =
-    to-contradiction c.before.before.before.before.loop.invariant c.before.before.before.loop-test.true (rounded c.before.before) (sym (c.before.has-empty.ensures (table c.before.before.before.before.before.before.before.before.before.before.before)) ∙ c.if1.true)
+    to-contradiction c.before.before.before.before.loop-left.invariant c.before.before.before.loop-left-test.true (rounded c.before.before) (sym (c.before.has_empty.ensures (table c.before.before.before.before.before.before.before.before.before.before.before)) ∙ c.if-has_empty.true)
 
 -- it has no empty set
-filled : (c : tie.Else1 invariant-loop decreases-loop) → has_empty (state_of (table c.before.before.before.before.before.before.before.before.before.before.before) c.before.before.round.result) ≡ false
-filled c = sym (c.before.has-empty.ensures (table c.before.before.before.before.before.before.before.before.before.before.before)) ∙ c.if1.false
+filled : (c : tie.Else-has_empty invariant-loop decreases-loop) → has_empty (state_of (table c.before.before.before.before.before.before.before.before.before.before.before) c.before.before.round-next.result) ≡ false
+filled c = sym (c.before.has_empty.ensures (table c.before.before.before.before.before.before.before.before.before.before.before)) ∙ c.if-has_empty.false
 
-further-requires : tie.Need-further-requires invariant-loop decreases-loop
+further-requires : tie.Need-further-onward-requires invariant-loop decreases-loop
 further-requires c κs =
     let r = rounded c.before.before in
-    let loop = c.before.before.before.before.loop in (
-      (forms-over _ _ _ (sym r.variables) c.before.before.before.before.before.before.before.before.before.before.before.requires.0, filled-left loop.invariant c.before.before.before.loop-test.true r (filled c)),
+    let loop = c.before.before.before.before.loop-left in (
+      (forms-over _ _ _ (sym r.variables) c.before.before.before.before.before.before.before.before.before.before.before.requires.0, filled-left loop.invariant c.before.before.before.loop-left-test.true r (filled c)),
       (r.variables ∙ sym loop.invariant.variables, r.count),
     )
 
 -- where the next round begins
-furthered : (c : tie.After-further invariant-loop decreases-loop) → Furthered (table c.before.before.before.before.before.before.before.before.before.before.before.before) c.before.before.before.before.before.loop.current c.before.before.before.round.result c.further.result
-furthered c = furthered-over _ _ _ (rounded c.before.before.before).variables c.further.ensures
+furthered : (c : tie.After-further-onward invariant-loop decreases-loop) → Furthered (table c.before.before.before.before.before.before.before.before.before.before.before.before) c.before.before.before.before.before.loop-left.current c.before.before.before.round-next.result c.further-onward.result
+furthered c = furthered-over _ _ _ (rounded c.before.before.before).variables c.further-onward.ensures
 
-returns-2 : tie.Need-returns-2 invariant-loop decreases-loop
+returns-2 : tie.Need-returns-then-not-onward invariant-loop decreases-loop
 returns-2 c =
-    to-rest c.before.before.before.before.before.before.before.before.loop.invariant c.before.before.before.before.before.before.before.loop-test.true (rounded c.before.before.before.before.before.before) (furthered c.before.before.before) (filled c.before.before.before.before) (not-true _ c.if2.true)
+    to-rest c.before.before.before.before.before.before.before.before.loop-left.invariant c.before.before.before.before.before.before.before.loop-left-test.true (rounded c.before.before.before.before.before.before) (furthered c.before.before.before) (filled c.before.before.before.before) (not-true _ c.if-not-onward.true)
 
-returns-3 : tie.Need-returns-3 invariant-loop decreases-loop
+returns-3 : tie.Need-returns-then-has_empty-2 invariant-loop decreases-loop
 returns-3 c =
-    to-emptied c.before.before.before.before.before.before.before.before.before.before.loop.invariant c.before.before.before.before.before.before.before.before.before.loop-test.true (rounded c.before.before.before.before.before.before.before.before) (furthered c.before.before.before.before.before) (filled c.before.before.before.before.before.before) (not-false _ c.before.before.if2.false)
-    (sym (c.before.has-empty2.ensures (table c.before.before.before.before.before.before.before.before.before.before.before.before.before.before.before.before.before)) ∙ c.if3.true)
+    to-emptied c.before.before.before.before.before.before.before.before.before.before.loop-left.invariant c.before.before.before.before.before.before.before.before.before.loop-left-test.true (rounded c.before.before.before.before.before.before.before.before) (furthered c.before.before.before.before.before) (filled c.before.before.before.before.before.before) (not-false _ c.before.before.if-not-onward.false)
+    (sym (c.before.has_empty-in-loop-left.ensures (table c.before.before.before.before.before.before.before.before.before.before.before.before.before.before.before.before.before)) ∙ c.if-has_empty-2.true)
 
-loop-again : tie.Need-loop-preserved invariant-loop decreases-loop
+loop-again : tie.Need-loop-left-preserved invariant-loop decreases-loop
 loop-again c =
-    onward c.before.before.before.before.before.before.before.before.before.before.loop.invariant c.before.before.before.before.before.before.before.before.before.loop-test.true (rounded c.before.before.before.before.before.before.before.before) (furthered c.before.before.before.before.before) (filled c.before.before.before.before.before.before) (not-false _ c.before.before.if2.false)
-    (sym (c.before.has-empty2.ensures (table c.before.before.before.before.before.before.before.before.before.before.before.before.before.before.before.before.before)) ∙ c.if3.false)
+    onward c.before.before.before.before.before.before.before.before.before.before.loop-left.invariant c.before.before.before.before.before.before.before.before.before.loop-left-test.true (rounded c.before.before.before.before.before.before.before.before) (furthered c.before.before.before.before.before) (filled c.before.before.before.before.before.before) (not-false _ c.before.before.if-not-onward.false)
+    (sym (c.before.has_empty-in-loop-left.ensures (table c.before.before.before.before.before.before.before.before.before.before.before.before.before.before.before.before.before)) ∙ c.if-has_empty-2.false)
 
 pub rounds_spec : {M : Type 1} → statement M
 rounds_spec =
     tie.close
     (tie.spec invariant-loop decreases-loop (λ c κs. search rules) (λ c. omega arith) (λ c. omega arith) (λ c. omega arith) loop-holds (λ c. omega arith) round-requires
     (λ c κs. search rules) (λ c. omega arith) returns further-requires (λ c. omega arith) returns-2 (λ c κs. search rules) (λ c. omega arith) returns-3 (λ c. omega arith) loop-again
-    (λ c. to_last c.before.loop.invariant (omega arith)))
+    (λ c. to_last c.before.loop-left.invariant (omega arith)))

@@ -6,7 +6,7 @@ use lib.ListN.{length}
 use Rattle.rounds.proofs.settle.same_atoms.Statement.{statement}
 use Rattle.rounds.proofs.settle.same_atoms.Tie as tie
 
-same-sets-requires : tie.Need-same-sets-requires
+same-sets-requires : tie.Need-same_sets-requires
 same-sets-requires c κs =
     let s = c.before.before.before.before.before.before.before in
     let old : length s.args.first.atoms.set ≡ 64 = search rules in
@@ -16,4 +16,4 @@ same-sets-requires c κs =
 pub same_atoms_spec : {M : Type 1} → statement M
 same_atoms_spec =
     tie.close
-    (tie.spec (λ c. search rules) (λ c. search rules) (λ c κs. search rules) same-sets-requires (λ c. c.same-sets.ensures ∙ rw c.before.many.ensures))
+    (tie.spec (λ c. search rules) (λ c. search rules) (λ c κs. search rules) same-sets-requires (λ c. c.same_sets.ensures ∙ rw c.before.many.ensures))

@@ -9,16 +9,16 @@ use Rattle.rounds.proofs.Ends.{differ-here, same_here, none_differ}
 use Rattle.rounds.proofs.settle.same_sets.Statement.{statement}
 use Rattle.rounds.proofs.settle.same_sets.Tie as tie
 
-abbrev invariant-loop : tie.invariant-loop
+abbrev invariant-loop : tie.invariant-loop-i
 invariant-loop before after n i₀ i = same_sets (numbers_from before i (n - i)) (numbers_from after i (n - i)) ≡ same_sets (numbers_from before 0 n) (numbers_from after 0 n)
 
-abbrev decreases-loop : tie.decreases-loop
+abbrev decreases-loop : tie.decreases-loop-i
 decreases-loop before after n i₀ i = n - i
 
 pub same_sets_spec : {M : Type 1} → statement M
 same_sets_spec =
     tie.close
     (tie.spec invariant-loop decreases-loop (λ c. rw sub-zero) (λ c. omega arith) (λ c. omega arith) (λ c. omega arith)
-    (λ c. sym (differ-here _ _ _ _ c.before.before.before.loop-test.true c.if1.true) ∙ c.before.before.before.before.loop.invariant) (λ c. omega arith)
-    (λ c. sym (same_here _ _ _ _ c.before.before.before.loop-test.true c.if1.false) ∙ c.before.before.before.before.loop.invariant)
-    (λ c. sym (none_differ _ _ _ _ c.loop-test.false) ∙ c.before.loop.invariant))
+    (λ c. sym (differ-here _ _ _ _ c.before.before.before.loop-i-test.true c.if-old-new.true) ∙ c.before.before.before.before.loop-i.invariant) (λ c. omega arith)
+    (λ c. sym (same_here _ _ _ _ c.before.before.before.loop-i-test.true c.if-old-new.false) ∙ c.before.before.before.before.loop-i.invariant)
+    (λ c. sym (none_differ _ _ _ _ c.loop-i-test.false) ∙ c.before.loop-i.invariant))

@@ -19,52 +19,52 @@ use Rattle.rounds.proofs.turned.turned_round.Tie as tie
 abbrev table : tie.Start → Table
 table s = lent_table s.args.coefficient s.args.monomial s.args.terms s.args.board.variables
 
-after-turns-requires : tie.Need-after-turns-requires
+after-turns-requires : tie.Need-after_turns-next-requires
 after-turns-requires c κs =
     let s = c.before.before.before.before in
     (s.requires.0, (s.requires.1.above.variables, s.requires.1.turns _ s.requires.1.above.afresh.boards))
 
-new-long : (c : tie.After-after-turns) → length c.after-turns.result.sets ≡ 16
+new-long : (c : tie.After-after_turns-next) → length c.after_turns-next.result.sets ≡ 16
 new-long c = search rules
 
-same-sets-requires : tie.Need-same-sets-requires
+same-sets-requires : tie.Need-same_sets-requires
 same-sets-requires c κs =
     let s = c.before.before.before.before.before.before.before.before.before.before.before.before in
     let old : length s.args.board.sets ≡ 16 = search rules in
     (omega (arith, c.few.ensures, old), omega (arith, c.few.ensures, new-long c.before.before.before.before.before.before.before))
 
 -- whether the turns left every set
-same : (c : tie.After-same-sets) → c.same-sets.result ≡ same_sets (sets_of c.before.before.before.before.before.before.before.before.before.before.before.before.before.args.board) (sets_of c.before.before.before.before.before.before.before.before.after-turns.result)
+same : (c : tie.After-same_sets) → c.same_sets.result ≡ same_sets (sets_of c.before.before.before.before.before.before.before.before.before.before.before.before.before.args.board) (sets_of c.before.before.before.before.before.before.before.before.after_turns-next.result)
 same c =
-    let after = c.before.before.before.before.before.before.before.before.after-turns in
-    same-is c.before.before.before.before.before.before.before.before.before.before.before.before.before.args.board after.result after.ensures.variables c.before.few.ensures c.same-sets.ensures
+    let after = c.before.before.before.before.before.before.before.before.after_turns-next in
+    same-is c.before.before.before.before.before.before.before.before.before.before.before.before.before.args.board after.result after.ensures.variables c.before.few.ensures c.same_sets.ensures
 
-returns : tie.Need-returns
-returns c = turned-changed c.before.before.before.before.before.before.before.before.before.before.before.before.before.before.requires.1 c.before.before.before.before.before.before.before.before.before.after-turns.ensures (sym (same c.before) ∙ not-true _ c.if1.true)
+returns : tie.Need-returns-then-not-same_sets
+returns c = turned-changed c.before.before.before.before.before.before.before.before.before.before.before.before.before.before.requires.1 c.before.before.before.before.before.before.before.before.before.after_turns-next.ensures (sym (same c.before) ∙ not-true _ c.if-not-same_sets.true)
 
-search-board-requires : tie.Need-search-board-requires
+search-board-requires : tie.Need-search_board-searched-requires
 search-board-requires c κs =
     let s = c.before.before.before.before.before.before.before.before.before.before.before.before.before.before.before in
-    let after = c.before.before.before.before.before.before.before.before.before.before.after-turns in
+    let after = c.before.before.before.before.before.before.before.before.before.before.after_turns-next in
     let own = sym after.ensures.variables in
     let above = (bounded-over _ _ _ own (turned-bounded s.requires.1 after.ensures)).above in (
       (ready-over _ _ _ own after.ensures.ready, afresh-filled above.afresh),
       (above.pairs _ above.afresh.boards, above.variables),
     )
 
-returns-2 : tie.Need-returns-2
+returns-2 : tie.Need-returns
 returns-2 c =
     let s = c.before.before.before.before.before.before.before.before.before.before.before.before.before.before.before.before.before.before.before.before.before in
-    let after = c.before.before.before.before.before.before.before.before.before.before.before.before.before.before.before.before.after-turns in
-    let searched = searched-over _ _ _ after.ensures.variables c.before.before.before.before.before.search-board.ensures in
-    turned-searched s.requires.1 after.ensures (sym (same c.before.before.before.before.before.before.before.before) ∙ not-false _ c.before.before.before.before.before.before.before.if1.false) searched
-    (rw c.before.before.sign-list.ensures (list-ready {t = table s} c.before.before.before.before.before.search-board.result.board s.args.atoms _ s.requires.0.forms (searched.variables ∙ after.ensures.variables) after.ensures.ready.places))
+    let after = c.before.before.before.before.before.before.before.before.before.before.before.before.before.before.before.before.after_turns-next in
+    let searched = searched-over _ _ _ after.ensures.variables c.before.before.before.before.before.search_board-searched.ensures in
+    turned-searched s.requires.1 after.ensures (sym (same c.before.before.before.before.before.before.before.before) ∙ not-false _ c.before.before.before.before.before.before.before.if-not-same_sets.false) searched
+    (rw c.before.before.sign_list.ensures (list-ready {t = table s} c.before.before.before.before.before.search_board-searched.result.board s.args.atoms _ s.requires.0.forms (searched.variables ∙ after.ensures.variables) after.ensures.ready.places))
 
-sign-list-requires : tie.Need-sign-list-requires
+sign-list-requires : tie.Need-sign_list-requires
 sign-list-requires c κs =
     let s = c.before.before.before.before.before.before.before.before.before.before.before.before.before.before.before.before.before.before in
-    let after = c.before.before.before.before.before.before.before.before.before.before.before.before.before.after-turns in
-    (form-slots {t = table s} s.requires.0.forms after.ensures.ready.places, rw (c.before.before.search-board.ensures.variables ∙ after.ensures.variables) s.requires.0.forms.variables)
+    let after = c.before.before.before.before.before.before.before.before.before.before.before.before.before.after_turns-next in
+    (form-slots {t = table s} s.requires.0.forms after.ensures.ready.places, rw (c.before.before.search_board-searched.ensures.variables ∙ after.ensures.variables) s.requires.0.forms.variables)
 
 pub turned_round_spec : {M : Type 1} → statement M
 turned_round_spec =

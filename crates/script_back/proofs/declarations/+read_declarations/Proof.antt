@@ -31,11 +31,11 @@ pub +read-declarations-spec : {M : Type 1} → statement M
     (all-declared-reads.Asked, all-declared-reads.Learnt, asserted-reads.Asked, asserted-reads.Learnt, declared-one-reads.Asked, declared-one-reads.Learnt, declarations-below t, declarations.Post)
     (declarations-at t) declarations.Post
     (λ c κs. c.before.requires.1.0)
-    (λ c κs. let s = c.before.before.before in (s.requires.1.0, s.requires.1.1, sym c.before.all-declared.ensures ∙ c.if1.true))
+    (λ c κs. let s = c.before.before.before in (s.requires.1.0, s.requires.1.1, sym c.before.all_declared.ensures ∙ c.if-all_declared.true))
     (λ c. c.asserted.ensures)
     (λ c κs.
     let s = c.before.before.before in
-    (s.requires.1.0, (one-more s.args.text.now s.args.at s.args.i s.requires.1.1 (sym c.before.all-declared.ensures ∙ c.if1.false)).below))
+    (s.requires.1.0, (one-more s.args.text.now s.args.at s.args.i s.requires.1.1 (sym c.before.all_declared.ensures ∙ c.if-all_declared.false)).below))
     (λ c. search rules)
     (λ c. search rules)
     (λ c. let s = c.before.before.before.before.before.before.before in omega (arith, s.requires.1.1))
@@ -43,17 +43,17 @@ pub +read-declarations-spec : {M : Type 1} → statement M
     let one = c.before.before.before in
     let test = one.before in
     let s = test.before.before.before in
-    let more = one-more s.args.text.now s.args.at s.args.i s.requires.1.1 (sym test.before.all-declared.ensures ∙ test.if1.false) in
-    (omega (arith, s.requires.0, more.below), (said-inside one.declared-one.ensures c.before.step2.given.1, omega (arith, more.below))))
+    let more = one-more s.args.text.now s.args.at s.args.i s.requires.1.1 (sym test.before.all_declared.ensures ∙ test.if-all_declared.false) in
+    (omega (arith, s.requires.0, more.below), (said-inside one.declared_one-step.ensures c.before.step-in-Read-1.given.1, omega (arith, more.below))))
     (λ c.
     let one = c.before.before.before in
     let test = one.before in
     let s = test.before.before.before in
-    let more = one-more s.args.text.now s.args.at s.args.i s.requires.1.1 (sym test.before.all-declared.ensures ∙ test.if1.false) in
-    declaration-stops one.declared-one.ensures more c.before.step.given.1)
+    let more = one-more s.args.text.now s.args.at s.args.i s.requires.1.1 (sym test.before.all_declared.ensures ∙ test.if-all_declared.false) in
+    declaration-stops one.declared_one-step.ensures more c.before.step-1.given.1)
     (λ c.
     let one = c.before.before.before.before in
     let test = one.before in
     let s = test.before.before.before in
-    let more = one-more s.args.text.now s.args.at s.args.i s.requires.1.1 (sym test.before.all-declared.ensures ∙ test.if1.false) in
-    declaration-reads one.declared-one.ensures more c.before.before.step2.given.1 c.read-declarations.ensures)
+    let more = one-more s.args.text.now s.args.at s.args.i s.requires.1.1 (sym test.before.all_declared.ensures ∙ test.if-all_declared.false) in
+    declaration-reads one.declared_one-step.ensures more c.before.before.step-in-Read-1.given.1 c.read_declarations.ensures)

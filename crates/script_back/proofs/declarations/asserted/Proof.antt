@@ -4,7 +4,7 @@ use Rattle.script_back.proofs.Forks.{no_more, assert-stops, assert-reads}
 use Rattle.script_back.proofs.declarations.asserted.Statement.{statement}
 use Rattle.script_back.proofs.declarations.asserted.Tie as tie
 
-abbrev start : tie.After-said → tie.Start
+abbrev start : tie.After-said-step → tie.Start
 start c = c.before.before.before
 
 pub asserted_spec : {M : Type 1} → statement M
@@ -14,8 +14,8 @@ asserted_spec =
     (λ c.
     let said = c.before.before.before in
     let s = start said in
-    assert-stops said.said.ensures (no_more s.args.text.now s.args.at s.args.i s.pre.1 s.pre.2) c.before.step.given.1)
+    assert-stops said.said-step.ensures (no_more s.args.text.now s.args.at s.args.i s.pre.1 s.pre.2) c.before.step-1.given.1)
     (λ c.
     let said = c.before.before.before in
     let s = start said in
-    assert-reads said.said.ensures (no_more s.args.text.now s.args.at s.args.i s.pre.1 s.pre.2) s.pre.1 c.before.step2.given.1))
+    assert-reads said.said-step.ensures (no_more s.args.text.now s.args.at s.args.i s.pre.1 s.pre.2) s.pre.1 c.before.step-in-Read-1.given.1))

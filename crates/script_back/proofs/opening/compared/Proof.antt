@@ -11,8 +11,8 @@ compared_spec =
     (tie.spec (λ c κs. search rules) (λ c. search rules) (λ c. search rules) (λ c κs. search rules)
     (λ c.
     let test = c.before.before in
-    compared-zero test.before.before.before.requires.1 test.before.before.before.requires.2 (sym test.before.byte_at.ensures ∙ test.if1.true) c.beginning.ensures)
+    compared-zero test.before.before.before.requires.1 test.before.before.before.requires.2 (sym test.before.byte_at.ensures ∙ test.if-byte_at-eq61.true) c.beginning.ensures)
     (λ c. search rules) (λ c κs. search rules)
     (λ c.
     let test = c.before.before in
-    compared-strict test.before.before.before.requires.1 test.before.before.before.requires.2 (λ e. test.if1.false (test.before.byte_at.ensures ∙ e)) c.beginning2.ensures))
+    compared-strict test.before.before.before.requires.1 test.before.before.before.requires.2 (λ e. test.if-byte_at-eq61.false (test.before.byte_at.ensures ∙ e)) c.beginning-2.ensures))

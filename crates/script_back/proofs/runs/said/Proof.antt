@@ -7,10 +7,10 @@ use Rattle.script_back.proofs.Positions.{Sofar, sofar-none, run_ends, run-differ
 use Rattle.script_back.proofs.runs.said.Statement.{statement}
 use Rattle.script_back.proofs.runs.said.Tie as tie
 
-abbrev invariant-loop : tie.invariant-loop
+abbrev invariant-loop : tie.invariant-loop-i
 invariant-loop text at bytes i₀ i = Sofar text at bytes i
 
-abbrev decreases-loop : tie.decreases-loop
+abbrev decreases-loop : tie.decreases-loop-i
 decreases-loop text at bytes i₀ i = length bytes - i
 
 pub said_spec : {M : Type 1} → statement M
@@ -20,18 +20,18 @@ said_spec =
     (λ c. sofar-none _ _ _ c.requires)
     (λ c. omega arith)
     (λ c. omega arith)
-    (λ c. run_ends c.before.before.loop.invariant c.before.loop-test.true c.if1.true)
+    (λ c. run_ends c.before.before.loop-i.invariant c.before.loop-i-test.true c.if-text-at.true)
     (λ c. omega arith)
     (λ c. omega arith)
     (λ c. omega arith)
     (λ c. omega arith)
     (λ c.
     let turn = c.before.before.before.before in
-    run-differs turn.before.loop.invariant turn.loop-test.true c.before.before.before.if1.false c.if2.true)
+    run-differs turn.before.loop-i.invariant turn.loop-i-test.true c.before.before.before.if-text-at.false c.if-text-at-2.true)
     (λ c. omega arith)
     (λ c. omega arith)
     (λ c.
     let turn = c.before.before.before.before in
-    run-goes-on turn.before.loop.invariant turn.loop-test.true c.before.before.before.if1.false c.if2.false)
+    run-goes-on turn.before.loop-i.invariant turn.loop-i-test.true c.before.before.before.if-text-at.false c.if-text-at-2.false)
     (λ c. omega arith)
-    (λ c. run-stands c.before.loop.invariant c.loop-test.false))
+    (λ c. run-stands c.before.loop-i.invariant c.loop-i-test.false))

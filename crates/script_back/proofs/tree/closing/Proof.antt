@@ -10,6 +10,6 @@ pub closing_spec : {M : Type 1} → statement M
 closing_spec =
     tie.close
     (tie.spec (λ c. search rules) (λ c κs. search rules)
-    (λ c. said-as (closing-other _ c.before.before.if1.true) c.said.ensures)
+    (λ c. said-as (closing-other _ c.before.before.if-set-eq5.true) c.said.ensures)
     (λ c. search rules) (λ c κs. search rules)
-    (λ c. said-as (closing-one _ (λ e. omega (arith, c.before.before.before.before.requires.1, e)) c.before.before.if1.false) c.said2.ensures))
+    (λ c. said-as (closing-one _ (λ e. omega (arith, c.before.before.before.before.requires.1, e)) c.before.before.if-set-eq5.false) c.said-2.ensures))

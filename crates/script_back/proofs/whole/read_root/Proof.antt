@@ -13,12 +13,12 @@ read_root_spec =
     (λ c.
     let first = c.before.before.before.before.before.before in
     let s = first.before.before.before.before.before in
-    root-is-true s.requires.0 (sym first.byte_at.ensures ∙ c.before.before.before.before.before.if1.true) c.before.before.Read-none.ensures)
+    root-is-true s.requires.0 (sym first.byte_at-first.ensures ∙ c.before.before.before.before.before.if-first-eq116.true) c.before.before.Read-none.ensures)
     (λ c. search rules) (λ c κs. search rules) (λ c. search rules)
     (λ c.
     let first = c.before.before.before.before.before.before.before in
     let s = first.before.before.before.before.before in
-    root-is-false s.requires.0 (sym first.byte_at.ensures ∙ c.before.before.before.before.before.if2.true) c.before.before.read-none2.ensures)
+    root-is-false s.requires.0 (sym first.byte_at-first.ensures ∙ c.before.before.before.before.before.if-first-eq102.true) c.before.before.read_none-then-first-eq102.ensures)
     (λ c κs.
     let s = c.before.before.before.before.before.before.before.before.before.before.before in
     (blank-some s.requires.0, record { inside = s.requires.1; tape = s.requires.0.lent.tape; fits = omega arith }))
@@ -26,4 +26,4 @@ read_root_spec =
     (λ c.
     let first = c.before.before.before.before.before.before.before.before.before.before.before.before.before.before in
     let s = first.before.before.before.before.before in
-    root-is-node s.requires.0 (λ e. c.before.before.before.before.before.before.before.before.before.before.before.before.before.if1.false (first.byte_at.ensures ∙ e)) (λ e. c.before.before.before.before.before.before.before.before.before.before.before.before.if2.false (first.byte_at.ensures ∙ e)) c.before.before.before.before.before.before.before.read-node.ensures))
+    root-is-node s.requires.0 (λ e. c.before.before.before.before.before.before.before.before.before.before.before.before.before.if-first-eq116.false (first.byte_at-first.ensures ∙ e)) (λ e. c.before.before.before.before.before.before.before.before.before.before.before.before.if-first-eq102.false (first.byte_at-first.ensures ∙ e)) c.before.before.before.before.before.before.before.read_node.ensures))

@@ -9,37 +9,37 @@ use Rattle.script_polynomial.proofs.Runs.{left, byte-agrees, byte-differs, text-
 use Rattle.script_polynomial.proofs.bytes.agreed.Statement.{statement}
 use Rattle.script_polynomial.proofs.bytes.agreed.Tie as tie
 
-abbrev invariant-loop : tie.invariant-loop
+abbrev invariant-loop : tie.invariant-loop-i
 invariant-loop text at bytes i₀ i = (i ≤ length bytes) × (at + i ≤ length text) × (common bytes (drop at text) ≡ i + left text bytes at i)
 
-abbrev decreases-loop : tie.decreases-loop
+abbrev decreases-loop : tie.decreases-loop-i
 decreases-loop text at bytes i₀ i = length bytes - i
 
-loop-holds : tie.Need-loop-init invariant-loop decreases-loop
+loop-holds : tie.Need-loop-i-init invariant-loop decreases-loop
 loop-holds c = (omega arith, omega arith, rw (add-zero c.args.at) (sym (zero-add _)))
 
-returns : tie.Need-returns invariant-loop decreases-loop
+returns : tie.Need-returns-then-text-at invariant-loop decreases-loop
 returns c =
-    let l = c.before.before.loop in
+    let l = c.before.before.loop-i in
     let a = c.before.before.before.args in
     omega (arith, l.invariant.2, text-ends a.text.now a.bytes.now a.at l.i (omega arith) (omega arith))
 
-returns-2 : tie.Need-returns-2 invariant-loop decreases-loop
+returns-2 : tie.Need-returns-then-text-at-2 invariant-loop decreases-loop
 returns-2 c =
-    let l = c.before.before.before.before.before.loop in
+    let l = c.before.before.before.before.before.loop-i in
     let a = c.before.before.before.before.before.before.args in
-    omega (arith, l.invariant.2, byte-differs a.text.now a.bytes.now a.at l.i (omega arith) (omega arith) c.if2.true)
+    omega (arith, l.invariant.2, byte-differs a.text.now a.bytes.now a.at l.i (omega arith) (omega arith) c.if-text-at-2.true)
 
-loop-again : tie.Need-loop-preserved invariant-loop decreases-loop
+loop-again : tie.Need-loop-i-preserved invariant-loop decreases-loop
 loop-again c =
-    let l = c.before.before.before.before.before.loop in
+    let l = c.before.before.before.before.before.loop-i in
     let a = c.before.before.before.before.before.before.args in
-    let next = byte-agrees a.text.now a.bytes.now a.at l.i (omega arith) (omega arith) c.if2.false in
+    let next = byte-agrees a.text.now a.bytes.now a.at l.i (omega arith) (omega arith) c.if-text-at-2.false in
     (omega arith, omega arith, omega (arith, l.invariant.2, next))
 
-returns-3 : tie.Need-returns-3 invariant-loop decreases-loop
+returns-3 : tie.Need-returns invariant-loop decreases-loop
 returns-3 c =
-    let l = c.before.loop in
+    let l = c.before.loop-i in
     let a = c.before.before.args in
     omega (arith, l.invariant.2, bytes-end a.text.now a.bytes.now a.at l.i (omega arith))
 

@@ -6,7 +6,7 @@ use borrow.Author.Rules.{rules}
 use Rattle.script_polynomial.proofs.bytes.byte_at.Statement.{statement}
 use Rattle.script_polynomial.proofs.bytes.byte_at.Tie as tie
 
-returns : tie.Need-returns
+returns : tie.Need-returns-then-text-at
 returns c = let a = c.before.args in sym (get_or-eq_default a.text.now 0 {n = a.at} (omega arith))
 
 pub byte_at_spec : {M : Type 1} → statement M

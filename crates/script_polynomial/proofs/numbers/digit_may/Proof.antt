@@ -6,15 +6,15 @@ use Rattle.rules.specs.Reading.{digit_may}
 use Rattle.script_polynomial.proofs.numbers.digit_may.Statement.{statement}
 use Rattle.script_polynomial.proofs.numbers.digit_may.Tie as tie
 
-returns : tie.Need-returns
+returns : tie.Need-returns-then-byte-lt48
 unfolding digit_may
-returns c = rw (lt-leb 48 c.before.args.byte c.if1.true)
+returns c = rw (lt-leb 48 c.before.args.byte c.if-byte-lt48.true)
 
-returns-2 : tie.Need-returns-2
+returns-2 : tie.Need-returns-then-byte-gt57
 unfolding digit_may
-returns-2 c = rw (le-leb 48 c.before.before.args.byte (omega arith), lt-leb c.before.before.args.byte 57 c.if2.true)
+returns-2 c = rw (le-leb 48 c.before.before.args.byte (omega arith), lt-leb c.before.before.args.byte 57 c.if-byte-gt57.true)
 
-returns-3 : tie.Need-returns-3
+returns-3 : tie.Need-returns
 unfolding digit_may
 returns-3 c = rw (le-leb 48 c.before.before.args.byte (omega arith), le-leb c.before.before.args.byte 57 (omega arith))
 

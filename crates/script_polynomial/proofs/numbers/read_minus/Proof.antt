@@ -8,52 +8,52 @@ use Rattle.script_polynomial.proofs.Signed.{minus-fits, minus-value, number_read
 use Rattle.script_polynomial.proofs.numbers.read_minus.Statement.{statement}
 use Rattle.script_polynomial.proofs.numbers.read_minus.Tie as tie
 
-read-magnitude-requires : tie.Need-read-magnitude-requires
+read-magnitude-requires : tie.Need-read_magnitude-found-requires
 read-magnitude-requires c κs = (
-  run_inside _ _ (40 ∷ 45 ∷ 32 ∷ []) c.before.agreed.ensures
+  run_inside _ _ (40 ∷ 45 ∷ 32 ∷ []) c.before.agreed-digits.ensures
       c.before.before.before.before.requires.0,
   omega arith,
 )
 
-returns-2 : tie.Need-returns-2
+returns-2 : tie.Need-returns-then-byte_at-last
 returns-2 c =
     let one = c.before.before.before.before.before in
-    minus-open _ _ _ one.before.before.agreed.ensures one.before.if1.false one.read-magnitude.ensures
-    c.before.before.before.found2.given.1
-    c.before.byte_at.ensures c.if2.true
+    minus-open _ _ _ one.before.before.agreed-digits.ensures one.before.if-digits-at-lt3.false one.read_magnitude-found.ensures
+    c.before.before.before.found-in-Read-1.given.1
+    c.before.byte_at.ensures c.if-byte_at-last.true
 
 cast-t17 : tie.Need-overflow-cast-t17
 cast-t17 c =
-    let small = (number_read c.before.before.before.before.before.read-magnitude.ensures
-    c.before.before.before.found2.given.1).1.at_most in
+    let small = (number_read c.before.before.before.before.before.read_magnitude-found.ensures
+    c.before.before.before.found-in-Read-1.given.1).1.at_most in
     record { sfits = omega (arith, small) }
 
 sub-t18 : tie.Need-overflow-sub-t18
-sub-t18 c = minus-fits (number_read c.before.before.before.before.before.read-magnitude.ensures
-    c.before.before.before.found2.given.1).1
+sub-t18 c = minus-fits (number_read c.before.before.before.before.before.read_magnitude-found.ensures
+    c.before.before.before.found-in-Read-1.given.1).1
 
 add-t19 : tie.Need-overflow-add-t19
 add-t19 c =
     let s = c.before.before.before.before.before.before.before.before.before.before in
-    let here = byte_inside s.args.text.now c.before.before.before.found2.given.0.1.0
-    (omega (arith, c.before.byte_at.ensures, c.if2.false, s.requires.1)) in
+    let here = byte_inside s.args.text.now c.before.before.before.found-in-Read-1.given.0.1.0
+    (omega (arith, c.before.byte_at.ensures, c.if-byte_at-last.false, s.requires.1)) in
     omega (arith, here)
 
-returns-3 : tie.Need-returns-3
+returns-3 : tie.Need-returns-in-Stopped
 returns-3 c =
     let one = c.before.before.before in
-    minus-stopped _ _ _ one.before.before.agreed.ensures one.before.if1.false one.read-magnitude.ensures c.before.found.given.1
+    minus-stopped _ _ _ one.before.before.agreed-digits.ensures one.before.if-digits-at-lt3.false one.read_magnitude-found.ensures c.before.found-1.given.1
 
-returns-4 : tie.Need-returns-4
+returns-4 : tie.Need-returns-else-byte_at-last
 returns-4 c =
     let one = c.before.before.before.before.before in
-    let e = c.before.before.before.found2.given.1 in
-    minus-read _ _ _ one.before.before.agreed.ensures one.before.if1.false one.read-magnitude.ensures e c.before.byte_at.ensures
-    c.if2.false
-    one.before.before.before.before.before.requires.1 (minus-value (number_read one.read-magnitude.ensures e).1)
+    let e = c.before.before.before.found-in-Read-1.given.1 in
+    minus-read _ _ _ one.before.before.agreed-digits.ensures one.before.if-digits-at-lt3.false one.read_magnitude-found.ensures e c.before.byte_at.ensures
+    c.if-byte_at-last.false
+    one.before.before.before.before.before.requires.1 (minus-value (number_read one.read_magnitude-found.ensures e).1)
 
 pub read_minus_spec : {M : Type 1} → statement M
 read_minus_spec =
     tie.close
-    (tie.spec (λ c. search rules) (λ c κs. search rules) (λ c. search rules) (λ c. minus-unsaid _ _ _ c.before.agreed.ensures c.if1.true)
+    (tie.spec (λ c. search rules) (λ c κs. search rules) (λ c. search rules) (λ c. minus-unsaid _ _ _ c.before.agreed-digits.ensures c.if-digits-at-lt3.true)
     read-magnitude-requires (λ c. search rules) (λ c. search rules) (λ c κs. search rules) returns-2 cast-t17 sub-t18 add-t19 returns-3 returns-4)

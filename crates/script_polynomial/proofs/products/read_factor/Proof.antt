@@ -11,13 +11,13 @@ use Rattle.script_polynomial.proofs.products.read_factor.Statement.{statement}
 use Rattle.script_polynomial.proofs.products.read_factor.Tie as tie
 
 -- The letter that was found, and the power of 16 that it stands for.
-module _ (c : tie.After-known-told) where
+module _ (c : tie.In-Followed) where
   abbrev later : ℕ
-  later = c.before.letter.given.0.0
+  later = c.before.letter-1.given.0.0
 
   letter-found : let a = c.before.before.before.before.before.before.args in
       LetterFound a.n a.limit a.after a.monomial c.before.before.before.before.byte_at.result (Followed later)
-  letter-found = rw c.before.letter.given.1 at c.before.before.before.next-letter.ensures
+  letter-found = rw c.before.letter-1.given.1 at c.before.before.before.next_letter-letter.ensures
 
   small : later < 16
   small =
@@ -30,34 +30,34 @@ module _ (c : tie.After-known-told) where
   room : let a = c.before.before.before.before.before.before.args in a.monomial + 16 ^ later ≤ a.limit
   room = grown-within _ _ _ _ _ later c.before.before.before.before.before.before.requires.3 letter-found
 
-returns : tie.Need-returns
+returns : tie.Need-returns-then-byte-eq41
 returns c =
     let told = c.before.before in
     let s = told.before.before.before.before.before.before in
     rw (power told) (factor-last _ _ _ _ _ _ s.requires.1 s.requires.3 told.before.before.before.before.byte_at.ensures _ (letter-found told)
-    c.before.byte-at2.ensures c.if1.true)
+    c.before.byte_at-byte.ensures c.if-byte-eq41.true)
 
-returns-2 : tie.Need-returns-2
+returns-2 : tie.Need-returns-then-not-space_may
 returns-2 c =
     let told = c.before.before.before.before in
     let s = told.before.before.before.before.before.before in
-    let none = rw (power told) at (sym c.before.space-may.ensures ∙ not-true _ c.if2.true) in
+    let none = rw (power told) at (sym c.before.space_may.ensures ∙ not-true _ c.if-not-space_may.true) in
     factor-stops _ _ _ _ _ _ s.requires.1 s.requires.3 told.before.before.before.before.byte_at.ensures _ (letter-found told)
-    c.before.before.before.byte-at2.ensures c.before.before.if1.false none
+    c.before.before.before.byte_at-byte.ensures c.before.before.if-byte-eq41.false none
 
-returns-3 : tie.Need-returns-3
+returns-3 : tie.Need-returns-in-None
 returns-3 c =
     let one = c.before.before in
     let s = one.before.before.before in
-    factor-none _ _ _ _ _ _ s.requires.1 s.requires.3 one.before.byte_at.ensures one.next-letter.ensures c.enum_told.given.1
+    factor-none _ _ _ _ _ _ s.requires.1 s.requires.3 one.before.byte_at.ensures one.next_letter-letter.ensures c.enum_told-1.given.1
 
-returns-4 : tie.Need-returns-4
+returns-4 : tie.Need-returns-else-not-space_may
 returns-4 c =
     let told = c.before.before.before.before in
     let s = told.before.before.before.before.before.before in
-    let both = rw (power told) at (sym c.before.space-may.ensures ∙ not-false _ c.if2.false) in
+    let both = rw (power told) at (sym c.before.space_may.ensures ∙ not-false _ c.if-not-space_may.false) in
     rw (power told) (factor-more _ _ _ _ _ _ s.requires.1 s.requires.3 told.before.before.before.before.byte_at.ensures _ (letter-found told)
-    c.before.before.before.byte-at2.ensures both)
+    c.before.before.before.byte_at-byte.ensures both)
 
 pub read_factor_spec : {M : Type 1} → statement M
 read_factor_spec =

@@ -6,10 +6,10 @@ use Rattle.script_polynomial.proofs.Factors.{SoFar, factors-begin, factors-stop,
 use Rattle.script_polynomial.proofs.products.read_factors.Statement.{statement}
 use Rattle.script_polynomial.proofs.products.read_factors.Tie as tie
 
-abbrev invariant-loop : tie.invariant-loop
+abbrev invariant-loop : tie.invariant-loop-position
 invariant-loop text at n limit next₀ after₀ product₀ next after product = SoFar text at n limit next after product
 
-abbrev decreases-loop : tie.decreases-loop
+abbrev decreases-loop : tie.decreases-loop-position
 decreases-loop text at n limit next₀ after₀ product₀ next after product = limit - product
 
 pub read_factors_spec : {M : Type 1} → statement M
@@ -17,15 +17,15 @@ read_factors_spec =
     tie.close
     (tie.spec invariant-loop decreases-loop (λ c. omega arith)
     (λ c. let s = c.before in factors-begin _ _ _ _ s.requires.0 s.requires.1 s.requires.3)
-    (λ c κs. let l = c.loop.invariant in (l.inside, l.variable, c.before.before.requires.2, l.packed))
+    (λ c κs. let l = c.loop-position.invariant in (l.inside, l.variable, c.before.before.requires.2, l.packed))
     (λ c. search rules)
-    (λ c. let one = c.before.before.before in factors-stop _ _ _ _ one.before.loop.invariant one.read-factor.ensures
-    c.before.factor.given.1)
+    (λ c. let one = c.before.before.before in factors-stop _ _ _ _ one.before.loop-position.invariant one.read_factor-factor.ensures
+    c.before.factor-1.given.1)
     (λ c. search rules)
-    (λ c. let one = c.before.before.before in factors-end _ _ _ _ one.before.loop.invariant one.read-factor.ensures
-    c.before.factor2.given.1)
+    (λ c. let one = c.before.before.before in factors-end _ _ _ _ one.before.loop-position.invariant one.read_factor-factor.ensures
+    c.before.factor-in-Last-1.given.1)
     (λ c. search rules)
-    (λ c. let one = c.before.before.before in factors-less _ _ _ _ one.before.loop.invariant one.read-factor.ensures
-    c.before.factor3.given.1)
-    (λ c. let one = c.before.before.before in factors-go-on _ _ _ _ one.before.loop.invariant one.read-factor.ensures
-    c.before.factor3.given.1))
+    (λ c. let one = c.before.before.before in factors-less _ _ _ _ one.before.loop-position.invariant one.read_factor-factor.ensures
+    c.before.factor-in-More-1.given.1)
+    (λ c. let one = c.before.before.before in factors-go-on _ _ _ _ one.before.loop-position.invariant one.read_factor-factor.ensures
+    c.before.factor-in-More-1.given.1))

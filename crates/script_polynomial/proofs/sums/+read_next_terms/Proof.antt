@@ -54,15 +54,15 @@ pub +read-next-terms-spec : {M : Type 1} → statement M
     (λ c. let told = c.before.before in
     omega (
       arith,
-      (further-on _ _ _ _ _ _ told.before.before.before.before.before.before.read-next-term.ensures
-          told.before.step3.given.1).some,
+      (further-on _ _ _ _ _ _ told.before.before.before.before.before.before.read_next_term-step.ensures
+          told.before.step-in-More-1.given.1).some,
     ))
     (λ c κs.
     let told = c.before.before in
     let one = told.before.before.before.before.before.before in
     let s = one.before.before.before.before.before in
-    let next = further-on _ _ _ _ _ _ one.read-next-term.ensures told.before.step3.given.1 in
-    let kept = one.read-next-term.auto.1 in (
+    let next = further-on _ _ _ _ _ _ one.read_next_term-step.ensures told.before.step-in-More-1.given.1 in
+    let kept = one.read_next_term-step.auto.1 in (
       omega (arith, next .some, s.requires.0),
       (
         next .inside,
@@ -77,15 +77,15 @@ pub +read-next-terms-spec : {M : Type 1} → statement M
     (λ c κs.
     let rest = c.before.before.before in
     let one = rest.before.before.before.before.before.before.before.before.before in
-    terms-counted _ rest.read-next-terms.ensures (omega (arith, one.read-next-term.auto.1.0)) (omega arith))
+    terms-counted _ rest.read_next_terms-rest.ensures (omega (arith, one.read_next_term-step.auto.1.0)) (omega arith))
     (λ c. search rules) (λ c. search rules)
-    (λ c. terms-stopped _ _ _ _ _ _ c.before.before.before.before.before.before.read-next-term.ensures c.before.step.given.1)
+    (λ c. terms-stopped _ _ _ _ _ _ c.before.before.before.before.before.before.read_next_term-step.ensures c.before.step-1.given.1)
     (λ c. search rules) (λ c. search rules)
-    (λ c. terms-last _ _ _ _ _ _ c.before.before.before.before.before.before.read-next-term.ensures c.before.step2.given.1)
+    (λ c. terms-last _ _ _ _ _ _ c.before.before.before.before.before.before.read_next_term-step.ensures c.before.step-in-Last-1.given.1)
     (λ c. search rules) (λ c. search rules)
     (λ c.
     let rest = c.before.before.before.before in
     let told = rest.before.before.before in
-    terms-more _ _ _ _ _ _ told.before.before.before.before.before.before.read-next-term.ensures told.before.step3.given.1 _
+    terms-more _ _ _ _ _ _ told.before.before.before.before.before.before.read_next_term-step.ensures told.before.step-in-More-1.given.1 _
     c.one_more.ensures
-    rest.read-next-terms.ensures)
+    rest.read_next_terms-rest.ensures)

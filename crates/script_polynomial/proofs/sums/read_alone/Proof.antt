@@ -7,18 +7,18 @@ use Rattle.script_polynomial.proofs.sums.read_alone.Tie as tie
 spaced-requires : tie.Need-spaced-requires
 spaced-requires c κs =
     let one = c.before.before.before.before.before.before in
-    (alone-term _ _ _ one.before.highest.ensures.0 one.read-term.ensures c.before.found2.given.1).reaches.inside
+    (alone-term _ _ _ one.before.highest.ensures.0 one.read_term-found.ensures c.before.found-in-Read-1.given.1).reaches.inside
 
-returns : tie.Need-returns
+returns : tie.Need-returns-in-Stopped
 returns c =
     let one = c.before.before.before.before.before.before in
-    alone-stopped _ _ _ one.before.highest.ensures.0 one.read-term.ensures c.before.found.given.1
+    alone-stopped _ _ _ one.before.highest.ensures.0 one.read_term-found.ensures c.before.found-1.given.1
 
-returns-2 : tie.Need-returns-2
+returns-2 : tie.Need-returns-in-Read
 returns-2 c =
     let told = c.before in
     let one = told.before.before.before.before.before.before in
-    alone-read _ _ _ one.before.highest.ensures.0 one.read-term.ensures told.before.found2.given.1
+    alone-read _ _ _ one.before.highest.ensures.0 one.read_term-found.ensures told.before.found-in-Read-1.given.1
     one.before.before.before.before.before.before.requires.3 _ c.spaced.ensures
 
 pub read_alone_spec : {M : Type 1} → statement M

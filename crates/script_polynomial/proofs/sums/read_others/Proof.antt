@@ -6,46 +6,46 @@ use Rattle.script_polynomial.proofs.Polynomials.{others-unspaced, others-stopped
 use Rattle.script_polynomial.proofs.sums.read_others.Statement.{statement}
 use Rattle.script_polynomial.proofs.sums.read_others.Tie as tie
 
-read-next-terms-requires : tie.Need-read-next-terms-requires
+read-next-terms-requires : tie.Need-read_next_terms-found-requires
 read-next-terms-requires c κs =
     let tested = c.before.before in
     let s = tested.before.before.before.before in
-    let here = byte_inside s.args.text.now s.args.at (omega (arith, tested.before.byte_at.ensures, tested.if1.false)) in
+    let here = byte_inside s.args.text.now s.args.at (omega (arith, tested.before.byte_at.ensures, tested.if-byte_at-ne32.false)) in
     (omega (arith, here), s.requires.1, s.requires.2, s.requires.3)
 
 add-spaced : tie.Need-overflow-add-spaced
 add-spaced c =
     let one = c.before.before.before.before.before.before in
     let tested = one.before.before.before in
-    let room = (others-terms _ _ _ _ tested.before.byte_at.ensures tested.if1.false one.read-next-terms.ensures
-    c.before.found2.given.1).room in
+    let room = (others-terms _ _ _ _ tested.before.byte_at.ensures tested.if-byte_at-ne32.false one.read_next_terms-found.ensures
+    c.before.found-in-Read-1.given.1).room in
     omega (arith, room.coefficients)
 
 spaced-requires : tie.Need-spaced-requires
 spaced-requires c κs =
     let one = c.before.before.before.before.before.before in
     let tested = one.before.before.before in
-    (others-terms _ _ _ _ tested.before.byte_at.ensures tested.if1.false one.read-next-terms.ensures
-    c.before.found2.given.1).reaches.inside
+    (others-terms _ _ _ _ tested.before.byte_at.ensures tested.if-byte_at-ne32.false one.read_next_terms-found.ensures
+    c.before.found-in-Read-1.given.1).reaches.inside
 
-returns-2 : tie.Need-returns-2
+returns-2 : tie.Need-returns-in-Stopped
 returns-2 c =
     let one = c.before.before.before.before.before.before in
     let tested = one.before.before.before in
-    others-stopped _ _ _ _ tested.before.byte_at.ensures tested.if1.false one.read-next-terms.ensures c.before.found.given.1
+    others-stopped _ _ _ _ tested.before.byte_at.ensures tested.if-byte_at-ne32.false one.read_next_terms-found.ensures c.before.found-1.given.1
 
-returns-3 : tie.Need-returns-3
+returns-3 : tie.Need-returns-in-Read
 returns-3 c =
     let told = c.before in
     let one = told.before.before.before.before.before.before in
     let tested = one.before.before.before in
-    others-read _ _ _ _ tested.before.byte_at.ensures tested.if1.false one.read-next-terms.ensures told.before.found2.given.1 _
+    others-read _ _ _ _ tested.before.byte_at.ensures tested.if-byte_at-ne32.false one.read_next_terms-found.ensures told.before.found-in-Read-1.given.1 _
     c.spaced.ensures
 
 pub read_others_spec : {M : Type 1} → statement M
 read_others_spec =
     tie.close
-    (tie.spec (λ c κs. search rules) (λ c. others-unspaced _ _ _ _ c.before.byte_at.ensures c.if1.true)
+    (tie.spec (λ c κs. search rules) (λ c. others-unspaced _ _ _ _ c.before.byte_at.ensures c.if-byte_at-ne32.true)
     (λ c. search rules) read-next-terms-requires
     (λ c. search rules) (λ c. search rules) add-spaced spaced-requires (λ c. search rules) (λ c. search rules) returns-2 (λ c. search rules)
     (λ c. search rules)

@@ -16,11 +16,11 @@ use Rattle.script_polynomial.proofs.Comparing.{slot-short, front-and}
 use Rattle.script_polynomial.proofs.table.agreed_slot.Statement.{statement}
 use Rattle.script_polynomial.proofs.table.agreed_slot.Tie as tie
 
-put-polynomial-requires : tie.Need-put-polynomial-requires
+put-polynomial-requires : tie.Need-put_polynomial-end-requires
 put-polynomial-requires c κs =
     let s = c.before.before.before.before.before.before in
     let h = s.requires.1 in
-    let same = c.before.wide.ensures in
+    let same = c.before.wide-count.ensures in
     let short = slot-short h in (
       h.variables,
       record { coefficients = omega (arith, same, h.room.coefficients); monomials = omega (arith, same, h.room.monomials) },
@@ -28,23 +28,23 @@ put-polynomial-requires c κs =
     )
 
 -- The text has room, with one byte behind it.
-end-small : (c : tie.After-put-polynomial) → c.put-polynomial.result < 7958
+end-small : (c : tie.After-put_polynomial-end) → c.put_polynomial-end.result < 7958
 end-small c =
     let s = c.before.before.before.before.before.before.before in
-    let same = c.before.before.wide.ensures in
-    omega (arith, c.put-polynomial.ensures.behind, rw (← same) at (slot-short s.requires.1))
+    let same = c.before.before.wide-count.ensures in
+    omega (arith, c.put_polynomial-end.ensures.behind, rw (← same) at (slot-short s.requires.1))
 
-long : (c : tie.After-put-polynomial) → length c.put-polynomial.new.0 ≡ 7958
-long c = wrote-long c.put-polynomial.ensures ∙ length-replicate {A = ℕ} 7958 0
+long : (c : tie.After-put_polynomial-end) → length c.put_polynomial-end.new.0 ≡ 7958
+long c = wrote-long c.put_polynomial-end.ensures ∙ length-replicate {A = ℕ} 7958 0
 
 returns : tie.Need-returns
 returns c =
     let put = c.before.before.before in
     let a = put.before.before.before.before.before.before.before.args in
-    let same = put.before.before.wide.ensures in
-    let text = front-and 32 put.put-polynomial.ensures (omega (
+    let same = put.before.before.wide-count.ensures in
+    let text = front-and 32 put.put_polynomial-end.ensures (omega (
       arith,
-      put.put-polynomial.ensures.behind,
+      put.put_polynomial-end.ensures.behind,
       end-small put,
       length-replicate
           {A = ℕ} 7958 0,

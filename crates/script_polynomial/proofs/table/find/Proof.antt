@@ -19,41 +19,41 @@ use Rattle.script_polynomial.proofs.table.find.Tie as tie
 abbrev alike : List ℤ → List ℕ → List ℕ → List ℤ → List ℕ → ℕ → ℕ → Bool
 alike cs ms ts vs ps count j = same (terms_from vs ps 0 count) (slot_of cs ms ts j)
 
-abbrev invariant-loop : tie.invariant-loop
+abbrev invariant-loop : tie.invariant-loop-j
 invariant-loop coefficient monomial terms value powers known n count j₀ j = (j ≤ known)
     × (first_from (alike coefficient monomial terms value powers count) j (known - j) ≡ first_from
     (alike coefficient monomial terms value powers count) 0 known)
 
-abbrev decreases-loop : tie.decreases-loop
+abbrev decreases-loop : tie.decreases-loop-j
 decreases-loop coefficient monomial terms value powers known n count j₀ j = known - j
 
-same-slot-requires : tie.Need-same-slot-requires invariant-loop decreases-loop
+same-slot-requires : tie.Need-same_slot-requires invariant-loop decreases-loop
 same-slot-requires c κs =
     let s = c.before.before.before.before.before in
-    let h = slot-within s.requires.0 c.before.loop.j (omega arith) in
+    let h = slot-within s.requires.0 c.before.loop-j.j (omega arith) in
     (h.room, h.counts, s.requires.1)
 
-returns : tie.Need-returns invariant-loop decreases-loop
+returns : tie.Need-returns-then-same_slot invariant-loop decreases-loop
 returns c =
-    let l = c.before.before.before.loop in
+    let l = c.before.before.before.loop-j in
     let a = c.before.before.before.before.before.before.before.args in
     sym (first_found (alike a.coefficient.now a.monomial.now a.terms.now a.value.now a.powers.now a.count) l.j a.known
     (omega arith)
-    (sym c.before.same-slot.ensures ∙ c.if1.true)) ∙ l.invariant.1
+    (sym c.before.same_slot.ensures ∙ c.if-same_slot.true)) ∙ l.invariant.1
 
-loop-again : tie.Need-loop-preserved invariant-loop decreases-loop
+loop-again : tie.Need-loop-j-preserved invariant-loop decreases-loop
 loop-again c =
-    let l = c.before.before.before.loop in
+    let l = c.before.before.before.loop-j in
     let a = c.before.before.before.before.before.before.before.args in (
       omega arith,
       sym (first_step (alike a.coefficient.now a.monomial.now a.terms.now a.value.now a.powers.now a.count) l.j a.known
           (omega arith)
-          (sym c.before.same-slot.ensures ∙ c.if1.false)) ∙ l.invariant.1,
+          (sym c.before.same_slot.ensures ∙ c.if-same_slot.false)) ∙ l.invariant.1,
     )
 
-returns-2 : tie.Need-returns-2 invariant-loop decreases-loop
+returns-2 : tie.Need-returns invariant-loop decreases-loop
 returns-2 c =
-    let l = c.before.loop in
+    let l = c.before.loop-j in
     let a = c.before.before.before.before.before.args in
     sym (first-none (alike a.coefficient.now a.monomial.now a.terms.now a.value.now a.powers.now a.count) l.j a.known
     (omega arith)) ∙ l.invariant.1

@@ -6,22 +6,22 @@ use Rattle.script_polynomial.proofs.Comparing.{other-count}
 use Rattle.script_polynomial.proofs.table.same_slot.Statement.{statement}
 use Rattle.script_polynomial.proofs.table.same_slot.Tie as tie
 
-returns : tie.Need-returns
+returns : tie.Need-returns-then-wide-count
 returns c =
     let a = c.before.before.before.before.before.before.args in
     other-count a.coefficient.now a.monomial.now a.value.now a.powers.now 0 _ a.count _
-    (λ e. c.if1.true (c.before.wide.ensures ∙ e))
+    (λ e. c.if-wide-count.true (c.before.wide.ensures ∙ e))
 
-same-terms-requires : tie.Need-same-terms-requires
+same-terms-requires : tie.Need-same_terms-requires
 same-terms-requires c κs =
     let s = c.before.before.before.before.before.before in
-    let same = sym c.before.wide.ensures ∙ c.if1.false in
+    let same = sym c.before.wide.ensures ∙ c.if-wide-count.false in
     (rw same at s.requires.0, s.requires.2)
 
-returns-2 : tie.Need-returns-2
+returns-2 : tie.Need-returns
 returns-2 c =
-    let same = sym c.before.before.wide.ensures ∙ c.before.if1.false in
-    rw same c.same-terms.ensures
+    let same = sym c.before.before.wide.ensures ∙ c.before.if-wide-count.false in
+    rw same c.same_terms.ensures
 
 pub same_slot_spec : {M : Type 1} → statement M
 same_slot_spec =

@@ -11,7 +11,7 @@ use Rattle.script_polynomial.proofs.Copying.{stored_from, stored-step, stored-en
 use Rattle.script_polynomial.proofs.table.store.Statement.{statement}
 use Rattle.script_polynomial.proofs.table.store.Tie as tie
 
-abbrev invariant-loop : tie.invariant-loop
+abbrev invariant-loop : tie.invariant-loop-i
 invariant-loop coefficient₀ monomial₀ terms value powers slot count i₀ coefficient monomial i =
     (length coefficient ≡ length coefficient₀) × (length monomial ≡ length monomial₀)
     × (stored_from (λ t. t.coefficient) value powers (16 * slot) count coefficient i ≡ stored_from (λ t. t.coefficient) value powers
@@ -19,13 +19,13 @@ invariant-loop coefficient₀ monomial₀ terms value powers slot count i₀ coe
     × (stored_from (λ t. t.monomial) value powers (16 * slot) count monomial i ≡ stored_from (λ t. t.monomial) value powers
     (16 * slot) count monomial₀ 0)
 
-abbrev decreases-loop : tie.decreases-loop
+abbrev decreases-loop : tie.decreases-loop-i
 decreases-loop coefficient₀ monomial₀ terms value powers slot count i₀ coefficient monomial i = count - i
 
-loop-again : tie.Need-loop-preserved invariant-loop decreases-loop
+loop-again : tie.Need-loop-i-preserved invariant-loop decreases-loop
 loop-again c =
     let first = c.before.before in
-    let l = first.before.loop in
+    let l = first.before.loop-i in
     let a = first.before.before.args in
     let v = a.value.now in
     let p = a.powers.now in
@@ -33,13 +33,13 @@ loop-again c =
       simp length-set l.invariant.0,
       simp length-set l.invariant.1,
       stored-step (λ t. t.coefficient) v p from a.count l.coefficient l.i _ (omega arith)
-          (to_z-of_z w32 _ (record { sfits = c.before.c.given })) ∙ l.invariant.2,
+          (to_z-of_z w32 _ (record { sfits = c.before.c-1.given })) ∙ l.invariant.2,
       stored-step (λ t. t.monomial) v p from a.count l.monomial l.i _ (omega arith) refl ∙ l.invariant.3,
     )
 
 returns : tie.Need-returns invariant-loop decreases-loop
 returns c =
-    let l = c.before.loop in
+    let l = c.before.loop-i in
     let a = c.before.before.args in
     let v = a.value.now in
     let p = a.powers.now in
@@ -56,11 +56,11 @@ store_spec =
     (λ c. omega (arith, c.before.before.requires.3.coefficients))
     (λ c. omega (arith, c.before.before.before.requires.0.coefficients))
     (λ c. omega (arith, c.before.before.before.requires.0.coefficients, c.before.before.before.requires.2)) (λ c. search rules)
-    (λ c. omega (arith, c.before.before.before.requires.0.coefficients, c.before.before.before.requires.2, c.before.before.loop.invariant.0))
+    (λ c. omega (arith, c.before.before.before.requires.0.coefficients, c.before.before.before.requires.2, c.before.before.loop-i.invariant.0))
     (λ c. search rules)
     (λ c. omega (arith, c.before.before.before.before.requires.3.monomials))
     (λ c. omega (arith, c.before.before.before.before.requires.0.coefficients))
     (λ c. omega (arith, c.before.before.before.before.requires.0.coefficients, c.before.before.before.before.requires.2)) (λ c. search rules)
-    (λ c. let s = c.before.before.before.before in omega (arith, s.requires.0.monomials, s.requires.2, c.before.before.before.loop.invariant.1))
+    (λ c. let s = c.before.before.before.before in omega (arith, s.requires.0.monomials, s.requires.2, c.before.before.before.loop-i.invariant.1))
     (λ c. omega arith) (λ c. omega arith) loop-again (λ c. omega (arith, c.before.before.requires.2)) (λ c. c.before.before.requires.1)
-    (λ c. c.before.loop.invariant.0) (λ c. c.before.loop.invariant.1) (λ c. search rules) returns)
+    (λ c. c.before.loop-i.invariant.0) (λ c. c.before.loop-i.invariant.1) (λ c. search rules) returns)

@@ -24,28 +24,28 @@ factors-below t = and 1 factors-kinds.ps (falls 1 factors-kinds.ps ◌<◌ μ-fa
 
 pub +put-factors-spec : {M : Type 1} → statement M
 +put-factors-spec = close μ-factors λ t. factors-lts.spec (power-reads.Asked, power-reads.Learnt, factors-below t, factors.Post) (factors-at t) factors.Post
-    (λ c. factors-none _ _ _ c.if1.true)
-    (λ c. omega (arith, c.if1.false))
+    (λ c. factors-none _ _ _ c.if-count-eq0.true)
+    (λ c. omega (arith, c.if-count-eq0.false))
     (λ c. record { fits = omega (arith, c.before.before.requires.1.0) })
     (λ c. omega (arith, c.before.before.requires.1.0))
     (λ c κs.
     let s = c.before.before.before in (
-      omega (arith, s.requires.1.0, c.before.if1.false),
-      fits-first (factors-more _ _ _ c.before.if1.false) s.requires.1.1,
+      omega (arith, s.requires.1.0, c.before.if-count-eq0.false),
+      fits-first (factors-more _ _ _ c.before.if-count-eq0.false) s.requires.1.1,
     ))
     (λ c. let s = c.before.before.before.before.before.before.before in record { fits = omega (arith, s.requires.1.0) })
-    (λ c. omega (arith, c.before.before.before.before.before.if1.false))
+    (λ c. omega (arith, c.before.before.before.before.before.if-count-eq0.false))
     (λ c κs.
     let first = c.before.before.before in
     let s = first.before.before.before.before in (
-      omega (arith, first.before.before.if1.false),
+      omega (arith, first.before.before.if-count-eq0.false),
       (
-        omega (arith, s.requires.1.0, first.before.before.if1.false),
-        fits-second (factors-more _ _ _ first.before.before.if1.false) s.requires.1.1 first.put-power.ensures,
+        omega (arith, s.requires.1.0, first.before.before.if-count-eq0.false),
+        fits-second (factors-more _ _ _ first.before.before.if-count-eq0.false) s.requires.1.1 first.put_power-next.ensures,
       ),
     ))
-    (λ c. c.before.before.put-factors.auto.0 ∙ c.before.before.before.before.before.before.put-power.auto.0)
+    (λ c. c.before.before.put_factors.auto.0 ∙ c.before.before.before.before.before.before.put_power-next.auto.0)
     (λ c.
     let others = c.before.before in
     let first = others.before.before.before.before in
-    wrote-split (factors-more _ _ _ first.before.before.if1.false) first.put-power.ensures others.put-factors.ensures)
+    wrote-split (factors-more _ _ _ first.before.before.if-count-eq0.false) first.put_power-next.ensures others.put_factors.ensures)

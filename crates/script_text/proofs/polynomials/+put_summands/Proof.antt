@@ -30,51 +30,51 @@ pub +put-summands-spec : {M : Type 1} → statement M
 +put-summands-spec =
     close μ-summands λ t.
     summands-lts.spec (byte-Reads.Asked, byte-Reads.Learnt, term-reads.Asked, term-reads.Learnt, summands-below t, summands.Post) (summands-at t) summands.Post
-    (λ c. summands-none _ _ _ _ _ c.if1.true)
-    (λ c κs. fits-first (summands-more _ _ _ _ _ c.before.if1.false refl) c.before.before.before.before.requires.1.2)
+    (λ c. summands-none _ _ _ _ _ c.if-count-eq0.true)
+    (λ c κs. fits-first (summands-more _ _ _ _ _ c.before.if-count-eq0.false refl) c.before.before.before.before.requires.1.2)
     (λ c. search rules)
-    (λ c. let space = c.before.before in omega (arith, space.before.before.before.before.before.requires.1.1.coefficients, space.before.before.if1.false))
+    (λ c. let space = c.before.before in omega (arith, space.before.before.before.before.before.requires.1.1.coefficients, space.before.before.if-count-eq0.false))
     (λ c. search rules)
     (λ c. let space = c.before.before.before.before.before in
-    omega (arith, space.before.before.before.before.before.requires.1.1.monomials, space.before.before.if1.false))
+    omega (arith, space.before.before.before.before.before.requires.1.1.monomials, space.before.before.if-count-eq0.false))
     (λ c κs.
     let value = c.before.before in
     let space = value.before.before.before in
     let s = space.before.before.before.before.before in (
       s.requires.1.0,
-      fits-first two_runs (fits-second (summands-more _ _ _ _ _ space.before.before.if1.false (to_z-of_z w32 _ (record { sfits = value.value.given })))
-          s.requires.1.2 space.put_byte.ensures),
+      fits-first two_runs (fits-second (summands-more _ _ _ _ _ space.before.before.if-count-eq0.false (to_z-of_z w32 _ (record { sfits = value.value-1.given })))
+          s.requires.1.2 space.put_byte-term.ensures),
     ))
     (λ c.
     let space = c.before.before.before.before.before.before.before.before.before in
     let s = space.before.before.before.before.before in
-    record { fits = omega (arith, s.requires.1.1.coefficients, space.before.before.if1.false, s.ranges.k) })
-    (λ c. let space = c.before.before.before.before.before.before.before.before.before in omega (arith, space.before.before.if1.false))
+    record { fits = omega (arith, s.requires.1.1.coefficients, space.before.before.if-count-eq0.false, s.ranges.k) })
+    (λ c. let space = c.before.before.before.before.before.before.before.before.before in omega (arith, space.before.before.if-count-eq0.false))
     (λ c κs.
     let term = c.before.before.before in
     let value = term.before.before.before in
     let space = value.before.before.before in
     let s = space.before.before.before.before.before in (
-      omega (arith, space.before.before.if1.false),
+      omega (arith, space.before.before.if-count-eq0.false),
       (
         s.requires.1.0,
         record {
-          coefficients = omega (arith, s.requires.1.1.coefficients, space.before.before.if1.false);
-          monomials = omega (arith, s.requires.1.1.monomials, space.before.before.if1.false);
+          coefficients = omega (arith, s.requires.1.1.coefficients, space.before.before.if-count-eq0.false);
+          monomials = omega (arith, s.requires.1.1.monomials, space.before.before.if-count-eq0.false);
         },
-        fits-second two_runs (fits-second (summands-more _ _ _ _ _ space.before.before.if1.false (to_z-of_z w32 _ (record { sfits = value.value.given })))
-            s.requires.1.2 space.put_byte.ensures) term.put-term.ensures,
+        fits-second two_runs (fits-second (summands-more _ _ _ _ _ space.before.before.if-count-eq0.false (to_z-of_z w32 _ (record { sfits = value.value-1.given })))
+            s.requires.1.2 space.put_byte-term.ensures) term.put_term-next.ensures,
       ),
     ))
     (λ c.
     let others = c.before.before in
     let term = others.before.before.before.before in
     let space = term.before.before.before.before.before.before in
-    others.put-summands.auto.0 ∙ term.put-term.auto.0 ∙ space.put_byte.auto.0)
+    others.put_summands.auto.0 ∙ term.put_term-next.auto.0 ∙ space.put_byte-term.auto.0)
     (λ c.
     let others = c.before.before in
     let term = others.before.before.before.before in
     let value = term.before.before.before in
     let space = value.before.before.before in
-    wrote-split (summands-more _ _ _ _ _ space.before.before.if1.false (to_z-of_z w32 _ (record { sfits = value.value.given }))) space.put_byte.ensures
-    (wrote-split two_runs term.put-term.ensures others.put-summands.ensures))
+    wrote-split (summands-more _ _ _ _ _ space.before.before.if-count-eq0.false (to_z-of_z w32 _ (record { sfits = value.value-1.given }))) space.put_byte-term.ensures
+    (wrote-split two_runs term.put_term-next.ensures others.put_summands.ensures))

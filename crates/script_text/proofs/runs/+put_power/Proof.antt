@@ -24,32 +24,32 @@ power_below t = and 1 power-kinds.ps (falls 1 power-kinds.ps ◌<◌ μ-power t)
 
 pub +put-power-spec : {M : Type 1} → statement M
 +put-power-spec = close μ-power λ t. power-lts.spec (byte-Reads.Asked, byte-Reads.Learnt, power_below t, power.Post) (power_at t) power.Post
-    (λ c. power-none _ _ c.if1.true)
-    (λ c κs. fits-first (power-more _ _ c.before.if1.false) c.before.before.before.requires.1.1)
+    (λ c. power-none _ _ c.if-exponent-eq0.true)
+    (λ c κs. fits-first (power-more _ _ c.before.if-exponent-eq0.false) c.before.before.before.requires.1.1)
     (λ c. let s = c.before.before.before.before.before.before.before in record { fits = omega (arith, s.requires.1.0) })
     (λ c κs.
     let space = c.before.before.before in
     let s = space.before.before.before.before in
-    fits-first two_runs (fits-second (power-more _ _ space.before.before.if1.false) s.requires.1.1 space.put_byte.ensures))
-    (λ c. let space = c.before.before.before.before.before.before.before in omega (arith, space.before.before.if1.false))
+    fits-first two_runs (fits-second (power-more _ _ space.before.before.if-exponent-eq0.false) s.requires.1.1 space.put_byte-letter.ensures))
+    (λ c. let space = c.before.before.before.before.before.before.before in omega (arith, space.before.before.if-exponent-eq0.false))
     (λ c κs.
     let letter = c.before.before.before in
     let space = letter.before.before.before.before in
     let s = space.before.before.before.before in (
-      omega (arith, space.before.before.if1.false),
+      omega (arith, space.before.before.if-exponent-eq0.false),
       (
         s.requires.1.0,
-        fits-second two_runs (fits-second (power-more _ _ space.before.before.if1.false) s.requires.1.1 space.put_byte.ensures) letter.put-byte2.ensures,
+        fits-second two_runs (fits-second (power-more _ _ space.before.before.if-exponent-eq0.false) s.requires.1.1 space.put_byte-letter.ensures) letter.put_byte-next.ensures,
       ),
     ))
     (λ c.
     let others = c.before.before in
     let letter = others.before.before.before.before in
     let space = letter.before.before.before.before in
-    others.put-power.auto.0 ∙ letter.put-byte2.auto.0 ∙ space.put_byte.auto.0)
+    others.put_power.auto.0 ∙ letter.put_byte-next.auto.0 ∙ space.put_byte-letter.auto.0)
     (λ c.
     let others = c.before.before in
     let letter = others.before.before.before.before in
     let space = letter.before.before.before.before in
-    wrote-split (power-more _ _ space.before.before.if1.false) space.put_byte.ensures
-    (wrote-split two_runs letter.put-byte2.ensures others.put-power.ensures))
+    wrote-split (power-more _ _ space.before.before.if-exponent-eq0.false) space.put_byte-letter.ensures
+    (wrote-split two_runs letter.put_byte-next.ensures others.put_power.ensures))

@@ -9,29 +9,29 @@ use Rattle.script_text.proofs.Texts.{first_more}
 use Rattle.script_text.proofs.runs.put_bytes.Statement.{statement}
 use Rattle.script_text.proofs.runs.put_bytes.Tie as tie
 
-abbrev invariant-loop : tie.invariant-loop
+abbrev invariant-loop : tie.invariant-loop-i
 invariant-loop text₀ at bytes next₀ i₀ text next i = (i ≤ length bytes) × (length text ≡ length text₀) × (next ≡ at + i) × Wrote text₀ text at (take i bytes) next
 
-abbrev decreases-loop : tie.decreases-loop
+abbrev decreases-loop : tie.decreases-loop-i
 decreases-loop text₀ at bytes next₀ i₀ text next i = length bytes - i
 
-loop-holds : tie.Need-loop-init invariant-loop decreases-loop
+loop-holds : tie.Need-loop-i-init invariant-loop decreases-loop
 loop-holds c = (omega arith, refl, omega arith, wrote_nothing)
 
-loop-again : tie.Need-loop-preserved invariant-loop decreases-loop
+loop-again : tie.Need-loop-i-preserved invariant-loop decreases-loop
 loop-again c =
     let put = c.before.before in
-    let l = put.before.before.before.before.loop in
+    let l = put.before.before.before.before.loop-i in
     let bytes = put.before.before.before.before.before.before.before.args.bytes.now in (
       omega arith,
-      put.put_byte.auto.0 ∙ l.invariant.1,
-      omega (arith, put.put_byte.ensures.behind, l.invariant.2),
-      wrote_as (wrote-both l.invariant.3 put.put_byte.ensures) (first_more bytes l.i (omega arith)),
+      put.put_byte-next.auto.0 ∙ l.invariant.1,
+      omega (arith, put.put_byte-next.ensures.behind, l.invariant.2),
+      wrote_as (wrote-both l.invariant.3 put.put_byte-next.ensures) (first_more bytes l.i (omega arith)),
     )
 
 returns : tie.Need-returns invariant-loop decreases-loop
 returns c =
-    let l = c.before.loop in
+    let l = c.before.loop-i in
     wrote_as l.invariant.3 (first-whole c.before.before.before.before.args.bytes.now l.i (omega arith) l.invariant.0)
 
 pub put_bytes_spec : {M : Type 1} → statement M
@@ -39,4 +39,4 @@ put_bytes_spec =
     tie.close
     (tie.spec invariant-loop decreases-loop loop-holds (λ c. omega arith) (λ c. omega arith)
     (λ c κs. let s = c.before.before.before.before.before.before in record { short = omega (arith, s.requires.short) })
-    (λ c. omega arith) loop-again (λ c. c.before.loop.invariant.1) returns)
+    (λ c. omega arith) loop-again (λ c. c.before.loop-i.invariant.1) returns)

@@ -12,32 +12,32 @@ use Rattle.search.specs.Falling.{FallingSlot}
 use Rattle.search.proofs.falling.all_fall.Statement.{statement}
 use Rattle.search.proofs.falling.all_fall.Tie as tie
 
-abbrev invariant-loop : tie.invariant-loop
+abbrev invariant-loop : tie.invariant-loop-i
 invariant-loop monomial terms atoms n i₀ i =
     (n ≡ many atoms.count) × ((j : ℕ) → j < i → FallingSlot monomial terms (atom_slot atoms.number j))
 
-abbrev decreases-loop : tie.decreases-loop
+abbrev decreases-loop : tie.decreases-loop-i
 decreases-loop monomial terms atoms n i₀ i = n - i
 
-slot-falls-requires : tie.Need-slot-falls-requires invariant-loop decreases-loop
+slot-falls-requires : tie.Need-slot_falls-requires invariant-loop decreases-loop
 slot-falls-requires c κs = (c.before.before.before.before.before.before.requires, omega arith)
 
-loop-again : tie.Need-loop-preserved invariant-loop decreases-loop
+loop-again : tie.Need-loop-i-preserved invariant-loop decreases-loop
 loop-again c =
     let a = c.before.before.before.before.before.before.before.before.args in
-    let l = c.before.before.before.before.loop in (
+    let l = c.before.before.before.before.loop-i in (
       l.invariant.0,
       below_more (λ (j : ℕ). FallingSlot a.monomial.now a.terms.now (atom_slot a.t3.number j)) l.i l.invariant.1
-          (c.before.slot-falls.ensures (not-false c.before.slot-falls.result c.if1.false)),
+          (c.before.slot_falls.ensures (not-false c.before.slot_falls.result c.if-not-slot_falls.false)),
     )
 
-returns-2 : tie.Need-returns-2 invariant-loop decreases-loop
+returns-2 : tie.Need-returns invariant-loop decreases-loop
 returns-2 c e =
-    let l = c.before.loop in
-    record { each = λ j h. l.invariant.1 j (omega (arith, h, l.invariant.0, c.loop-test.false)) }
+    let l = c.before.loop-i in
+    record { each = λ j h. l.invariant.1 j (omega (arith, h, l.invariant.0, c.loop-i-test.false)) }
 
 pub all_fall_spec : {M : Type 1} → statement M
 all_fall_spec =
     tie.close
-    (tie.spec invariant-loop decreases-loop (λ c κs. search rules) (λ c. (c.many.ensures, λ j h. absurd (omega arith))) (λ c. omega arith) (λ c. search rules)
+    (tie.spec invariant-loop decreases-loop (λ c κs. search rules) (λ c. (c.many-n.ensures, λ j h. absurd (omega arith))) (λ c. omega arith) (λ c. search rules)
     (λ c. omega arith) slot-falls-requires (λ c e. absurd (true≢false (sym e))) (λ c. omega arith) loop-again returns-2)

@@ -5,11 +5,11 @@ use Rattle.search.proofs.Masking.{at_slot}
 use Rattle.search.proofs.masked.mask_of_slot.Statement.{statement}
 use Rattle.search.proofs.masked.mask_of_slot.Tie as tie
 
-mask-of-requires : tie.Need-mask-of-requires
+mask-of-requires : tie.Need-mask_of-requires
 mask-of-requires c κs =
     let s = c.before.before.before.before in
     let few = s.requires.0.few s.args.k in
-    let (f, g) = c.places.ensures in
+    let (f, g) = c.places-run.ensures in
     record {
       ordered = omega (arith, f, g);
       coefficients = omega (arith, g, few, s.requires.1.0);
@@ -20,8 +20,8 @@ mask-of-requires c κs =
 returns : tie.Need-returns
 returns c =
     let s = c.before.before.before.before.before in
-    let (f, g) = c.before.places.ensures in
-    at_slot s.args.terms.now s.args.k f g c.mask-of.ensures
+    let (f, g) = c.before.places-run.ensures in
+    at_slot s.args.terms.now s.args.k f g c.mask_of.ensures
 
 pub mask_of_slot_spec : {M : Type 1} → statement M
 mask_of_slot_spec = tie.close (tie.spec (λ c κs. search rules) mask-of-requires returns)

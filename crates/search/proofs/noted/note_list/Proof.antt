@@ -12,27 +12,27 @@ use Rattle.search.specs.Masked.{mask_at}
 use Rattle.search.proofs.noted.note_list.Statement.{statement}
 use Rattle.search.proofs.noted.note_list.Tie as tie
 
-abbrev invariant-loop : tie.invariant-loop
+abbrev invariant-loop : tie.invariant-loop-i
 invariant-loop masks columns₀ atoms n i₀ columns i =
     (n ≡ many atoms.count) × ((length columns ≡ 130) × ((j : ℕ) → j < i → Noted columns j (mask_at masks j) (get_or atoms.set j 0)))
 
-abbrev decreases-loop : tie.decreases-loop
+abbrev decreases-loop : tie.decreases-loop-i
 decreases-loop masks columns₀ atoms n i₀ columns i = n - i
 
-mask-at-requires : tie.Need-mask-at-requires invariant-loop decreases-loop
+mask-at-requires : tie.Need-mask_at-mask-requires invariant-loop decreases-loop
 mask-at-requires c κs = (omega arith, c.before.before.before.before.before.before.requires.0)
 
 note-requires : tie.Need-note-requires invariant-loop decreases-loop
-note-requires c κs = (omega arith, c.before.before.before.before.loop.invariant.1.0)
+note-requires c κs = (omega arith, c.before.before.before.before.loop-i.invariant.1.0)
 
-loop-again : tie.Need-loop-preserved invariant-loop decreases-loop
+loop-again : tie.Need-loop-i-preserved invariant-loop decreases-loop
 loop-again c =
     let s = c.before.before.before.before.before.before.before.before.before.before.before in
-    let l = c.before.before.before.before.before.before.before.loop in
+    let l = c.before.before.before.before.before.before.before.loop-i in
     let (all, (words, so_far)) = l.invariant in
     let after = c.before.before.note.new.1.1.1.0 in
     let set = get_or s.args.t1.set in
-    let took = subst (λ (q : Mask). Took l.columns l.i q (set l.i 0) after) c.before.before.before.before.mask_at.ensures
+    let took = subst (λ (q : Mask). Took l.columns l.i q (set l.i 0) after) c.before.before.before.before.mask_at-mask.ensures
     c.before.before.note.ensures in (
       all,
       (
@@ -44,13 +44,13 @@ loop-again c =
 
 returns : tie.Need-returns invariant-loop decreases-loop
 returns c =
-    let l = c.before.loop in
+    let l = c.before.loop-i in
     record { words = l.invariant.1.0; atoms = λ j h. l.invariant.1.1 j (omega (arith, l.invariant.0)) }
 
 pub note_list_spec : {M : Type 1} → statement M
 note_list_spec =
     tie.close
     (tie.spec invariant-loop decreases-loop (λ c κs. search rules)
-    (λ c. (c.many.ensures, (c.before.before.before.requires.1, λ j h. absurd (omega arith)))) (λ c. omega arith)
+    (λ c. (c.many-n.ensures, (c.before.before.before.requires.1, λ j h. absurd (omega arith)))) (λ c. omega arith)
     mask-at-requires note-requires (λ c. omega arith) (λ c. omega arith) loop-again
-    (λ c. c.before.loop.invariant.1.0 ∙ sym c.before.before.before.before.before.requires.1) returns)
+    (λ c. c.before.loop-i.invariant.1.0 ∙ sym c.before.before.before.before.before.requires.1) returns)

@@ -14,80 +14,80 @@ use Rattle.search.proofs.Walks.{walk-on, walk-stop, walk_end, tries-step, tries-
 use Rattle.search.proofs.pairs.cut_by_pairs.Statement.{statement}
 use Rattle.search.proofs.pairs.cut_by_pairs.Tie as tie
 
-abbrev invariant-loop : tie.invariant-loop
+abbrev invariant-loop : tie.invariant-loop-i
 invariant-loop coefficient monomial terms sign masks columns falls board atoms p all n mask fall sofar₀ i₀ sofar i =
     let t = table_of coefficient monomial terms board.variables in
     let tries_of = tries (sets_of board) (form_at t p) in
     cut_in all sofar.0 (tries_of (rest t atoms i)) ≡ cut_in all sofar₀.0 (tries_of (atoms_of t atoms))
 
-abbrev decreases-loop : tie.decreases-loop
+abbrev decreases-loop : tie.decreases-loop-i
 decreases-loop coefficient monomial terms sign masks columns falls board atoms p all n mask fall sofar₀ i₀ sofar i = n - i
 
 abbrev table : tie.Start invariant-loop decreases-loop → Table
 table s = lent_table s.args.coefficient s.args.monomial s.args.terms s.args.board.variables
 
 -- the place before the loop
-abbrev start : tie.At-loop invariant-loop decreases-loop → tie.Start invariant-loop decreases-loop
+abbrev start : tie.At-loop-i invariant-loop decreases-loop → tie.Start invariant-loop decreases-loop
 start l = l.before.before.before.before.before.before.before.before.before
 
-mask-of-slot-requires : tie.Need-mask-of-slot-requires invariant-loop decreases-loop
+mask-of-slot-requires : tie.Need-mask_of_slot-mask-requires invariant-loop decreases-loop
 mask-of-slot-requires c κs =
     let s = c.before.before.before.before.before.before in
-    (form-slots s.requires.0.0.forms s.requires.0.0.places, (s.requires.0.0.forms.coefficients, s.requires.1.0.0))
+    (form-slots s.requires.fact.0.forms s.requires.fact.0.places, (s.requires.fact.0.forms.coefficients, s.requires.fact_2.0.0))
 
-falls-with-requires : tie.Need-falls-with-requires invariant-loop decreases-loop
+falls-with-requires : tie.Need-falls_with-all_fall-requires invariant-loop decreases-loop
 falls-with-requires c κs =
     let s = c.before.before.before.before.before.before.before in
-    let forms = s.requires.0.0.forms in
-    (record { monomials = forms.monomials; counts = forms.counts; few = forms.few }, s.requires.1.0.0)
+    let forms = s.requires.fact.0.forms in
+    (record { monomials = forms.monomials; counts = forms.counts; few = forms.few }, s.requires.fact_2.0.0)
 
-cut-with-requires : tie.Need-cut-with-requires invariant-loop decreases-loop
+cut-with-requires : tie.Need-cut_with-cut-requires invariant-loop decreases-loop
 cut-with-requires c κs =
     let d = c.before in
-    let all = d.before.before.before.many.ensures in
-    let own = d.before.before.mask-of-slot.ensures in
+    let all = d.before.before.before.many-n.ensures in
+    let own = d.before.before.mask_of_slot-mask.ensures in
     let s = start d in
     let words = s.pre.1.1 in (
       s.pre.0,
       (
-        (s.pre.1.0.0, (s.pre.1.0.1, omega (arith, all, c.loop-test.true))),
+        (s.pre.1.0.0, (s.pre.1.0.1, omega (arith, all, c.loop-i-test.true))),
         (
           words.masked,
           (
             (own, words.noted),
-            λ e. let (list, falls) = d.before.falls-with.ensures e in record { own = falls; atoms = words.falling list },
+            λ e. let (list, falls) = d.before.falls_with-all_fall.ensures e in record { own = falls; atoms = words.falling list },
           ),
         ),
       ),
     )
 
-returns : tie.Need-returns invariant-loop decreases-loop
+returns : tie.Need-returns-then-stops invariant-loop decreases-loop
 returns c =
     let d = c.before.before.before.before in
     let s = start d in
-    let l = d.loop in
-    let all = d.before.before.before.many.ensures in
-    let h : l.i < many s.args.atoms.count = omega (arith, all, c.before.before.before.loop-test.true) in
+    let l = d.loop-i in
+    let all = d.before.before.before.many-n.ensures in
+    let h : l.i < many s.args.atoms.count = omega (arith, all, c.before.before.before.loop-i-test.true) in
     walk-stop s.args.all l.sofar.0 _ _ l.invariant (tries-step (table s) s.args.atoms _ _ l.i h)
-    c.before.before.cut-with.ensures (sym c.before.stops.ensures ∙ c.if1.true)
+    c.before.before.cut_with-cut.ensures (sym c.before.stops.ensures ∙ c.if-stops.true)
 
-loop-again : tie.Need-loop-preserved invariant-loop decreases-loop
+loop-again : tie.Need-loop-i-preserved invariant-loop decreases-loop
 loop-again c =
     let d = c.before.before.before.before in
     let s = start d in
-    let l = d.loop in
-    let all = d.before.before.before.many.ensures in
-    let h : l.i < many s.args.atoms.count = omega (arith, all, c.before.before.before.loop-test.true) in
+    let l = d.loop-i in
+    let all = d.before.before.before.many-n.ensures in
+    let h : l.i < many s.args.atoms.count = omega (arith, all, c.before.before.before.loop-i-test.true) in
     walk-on s.args.all l.sofar.0 _ _ l.invariant (tries-step (table s) s.args.atoms _ _ l.i h)
-    c.before.before.cut-with.ensures (sym c.before.stops.ensures ∙ c.if1.false)
+    c.before.before.cut_with-cut.ensures (sym c.before.stops.ensures ∙ c.if-stops.false)
 
-returns-2 : tie.Need-returns-2 invariant-loop decreases-loop
+returns-2 : tie.Need-returns invariant-loop decreases-loop
 returns-2 c =
     let d = c.before in
     let s = start d in
-    let all = d.before.before.before.many.ensures in
-    let h : many s.args.atoms.count ≤ d.loop.i = omega (arith, all, c.loop-test.false) in
-    walk_end s.args.all d.loop.invariant (tries-end (table s) s.args.atoms _ _ _ h)
+    let all = d.before.before.before.many-n.ensures in
+    let h : many s.args.atoms.count ≤ d.loop-i.i = omega (arith, all, c.loop-i-test.false) in
+    walk_end s.args.all d.loop-i.invariant (tries-end (table s) s.args.atoms _ _ _ h)
 
 pub cut_by_pairs_spec : {M : Type 1} → statement M
 cut_by_pairs_spec =

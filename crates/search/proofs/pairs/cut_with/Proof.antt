@@ -26,13 +26,13 @@ use Rattle.search.proofs.pairs.cut_with.Tie as tie
 abbrev tries_from : Table → Board → ℕ → Atoms → ℕ → ℕ → List SignSet
 tries_from t board p a i j = tries_with board (form_at t p) (atom_at t a.number a.set i) (rest t a j)
 
-abbrev invariant-loop : tie.invariant-loop
+abbrev invariant-loop : tie.invariant-loop-j
 invariant-loop coefficient monomial terms sign masks columns i p mask falls all atoms n run first set1 q1 mask1 left₀ sofar₀ j₀ left sofar j =
     Candidates columns mask mask1 set1 sofar.0 left
     × ((v : ℕ) (board : Board) → let t = table_of coefficient monomial terms v in
     Stands t board atoms sign p → cut_in all sofar.0 (tries_from t board p atoms i j) ≡ cut_in all sofar₀.0 (tries_from t board p atoms i (i + 1)))
 
-abbrev decreases-loop : tie.decreases-loop
+abbrev decreases-loop : tie.decreases-loop-j
 decreases-loop coefficient monomial terms sign masks columns i p mask falls all atoms n run first set1 q1 mask1 left₀ sofar₀ j₀ left sofar j = n - j
 
 abbrev table : tie.Start invariant-loop decreases-loop → Table
@@ -40,44 +40,44 @@ table s = lent_table s.args.coefficient s.args.monomial s.args.terms s.args.boar
 
 -- the board of the call
 stands : (s : tie.Start invariant-loop decreases-loop) → Stands (table s) (sets_of s.args.board) s.args.t8 s.args.sign.now s.args.p
-stands s = record { ready = s.requires.0.0; own = s.requires.1.0.1.0; filled = s.requires.0.1 }
+stands s = record { ready = s.requires.fact.0; own = s.requires.fact_2.0.1.0; filled = s.requires.fact.1 }
 
 -- the place before the loop
-abbrev start : tie.At-loop invariant-loop decreases-loop → tie.Start invariant-loop decreases-loop
+abbrev start : tie.At-loop-j invariant-loop decreases-loop → tie.Start invariant-loop decreases-loop
 start l = l.before.before.before.before.before.before.before.before.before.before.before.before.before.before
 
-mask-at-requires : tie.Need-mask-at-requires invariant-loop decreases-loop
+mask-at-requires : tie.Need-mask_at-mask1-requires invariant-loop decreases-loop
 mask-at-requires c κs =
     let s = c.before.before.before.before.before.before.before.before.before.before in
-    (omega (arith, s.requires.1.0.1.1), s.requires.1.1.0.words)
+    (omega (arith, s.requires.fact_2.0.1.1), s.requires.fact_2.1.0.words)
 
-candidates-requires : tie.Need-candidates-requires invariant-loop decreases-loop
-candidates-requires c κs = c.before.before.before.before.before.before.before.before.before.before.before.requires.1.1.1.0.1.words
+candidates-requires : tie.Need-candidates-left-requires invariant-loop decreases-loop
+candidates-requires c κs = c.before.before.before.before.before.before.before.before.before.before.before.requires.fact_2.1.1.0.1.words
 
-next-requires : tie.Need-next-requires invariant-loop decreases-loop
-next-requires c κs = omega (arith, c.before.before.before.before.before.before.many.ensures)
+next-requires : tie.Need-next-j-requires invariant-loop decreases-loop
+next-requires c κs = omega (arith, c.before.before.before.before.before.before.many-n.ensures)
 
-loop-holds : tie.Need-loop-init invariant-loop decreases-loop
+loop-holds : tie.Need-loop-j-init invariant-loop decreases-loop
 loop-holds c =
     let s = c.before.before.before.before.before.before.before.before.before.before.before.before.before in
-    let (low, (signed, at)) = s.requires.1.0 in
-    let (masked, ((own, noted), falling)) = s.requires.1.1 in
-    let word = c.before.candidates.ensures in (
+    let (low, (signed, at)) = s.requires.fact_2.0 in
+    let (masked, ((own, noted), falling)) = s.requires.fact_2.1 in
+    let word = c.before.candidates-left.ensures in (
       word,
       λ v board h. skips h low s.args.i at own masked noted s.args.all s.args.set.0
-          c.before.before.mask_at.ensures word c.next.ensures
-          c.before.before.before.before.before.before.before.many.ensures,
+          c.before.before.mask_at-mask1.ensures word c.next-j.ensures
+          c.before.before.before.before.before.before.before.many-n.ensures,
     )
 
-places-requires-3 : tie.Need-places-requires-3 invariant-loop decreases-loop
+places-requires-3 : tie.Need-places-q2-requires invariant-loop decreases-loop
 places-requires-3 c κs = (omega arith, (start c.before.before.before).pre.0.0.forms.counts)
 
-mask-at-requires-2 : tie.Need-mask-at-requires-2 invariant-loop decreases-loop
+mask-at-requires-2 : tie.Need-mask_at-mask2-requires invariant-loop decreases-loop
 mask-at-requires-2 c κs =
     let l = c.before.before.before.before in
-    (omega (arith, l.before.before.before.before.before.before.before.before.many.ensures), (start l).requires.1.1.0.words)
+    (omega (arith, l.before.before.before.before.before.before.before.before.many-n.ensures), (start l).requires.fact_2.1.0.words)
 
-cut-by-sifted-pair-requires : tie.Need-cut-by-sifted-pair-requires invariant-loop decreases-loop
+cut-by-sifted-pair-requires : tie.Need-cut_by_sifted_pair-cut-requires invariant-loop decreases-loop
 cut-by-sifted-pair-requires c κs =
     let d = c.before.before.before.before.before in
     let s = start d in
@@ -86,12 +86,12 @@ cut-by-sifted-pair-requires c κs =
     let (masked, ((own, noted), falling)) = s.pre.1.1 in
     let slot = atom_slot s.args.t8.number in
     let i = s.args.i in
-    let j = d.loop.j in
-    let all = d.before.before.before.before.before.before.before.before.many.ensures in
+    let j = d.loop-j.j in
+    let all = d.before.before.before.before.before.before.before.before.many-n.ensures in
     let next : j < many s.args.t8.count = omega (arith, all) in
-    let p = d.before.before.before.before.before.before.before.places.ensures in
-    let q1 = d.before.before.before.before.places2.ensures in
-    let q2 = c.before.places3.ensures in (
+    let p = d.before.before.before.before.before.before.before.places-run.ensures in
+    let q1 = d.before.before.before.before.places-q1.ensures in
+    let q2 = c.before.places-q2.ensures in (
       (
         record {
           p = held-places (run-held s.args.p ready.forms ready.places low p.0 p.1 signed);
@@ -100,8 +100,8 @@ cut-by-sifted-pair-requires c κs =
         },
         record {
           p = of-run s.args.terms.now s.args.p p.0 p.1 own;
-          q1 = atom-mask masked i at d.before.before.before.mask_at.ensures q1.0 q1.1;
-          q2 = atom-mask masked j next c.mask-at2.ensures q2.0 q2.1;
+          q1 = atom-mask masked i at d.before.before.before.mask_at-mask1.ensures q1.0 q1.1;
+          q2 = atom-mask masked j next c.mask_at-mask2.ensures q2.0 q2.1;
         },
       ),
       λ e. record {
@@ -112,13 +112,13 @@ cut-by-sifted-pair-requires c κs =
     )
 
 -- what the pair leaves of the set so far
-cut-is : (c : tie.After-cut-by-sifted-pair invariant-loop decreases-loop) (v : ℕ) (board : Board) →
+cut-is : (c : tie.After-cut_by_sifted_pair-cut invariant-loop decreases-loop) (v : ℕ) (board : Board) →
     let l = c.before.before.before.before.before.before in
     let a = (start l).args in
     let t = table_of a.coefficient.now a.monomial.now a.terms.now v in
     let atom = atom_at t a.t8.number a.t8.set in
     Stands t board a.t8 a.sign.now a.p
-    → c.cut-by-sifted-pair.result.0 ≡ cut_in a.all l.loop.sofar.0 (pair_tries board (form_at t a.p) (atom a.i) (atom l.loop.j))
+    → c.cut_by_sifted_pair-cut.result.0 ≡ cut_in a.all l.loop-j.sofar.0 (pair_tries board (form_at t a.p) (atom a.i) (atom l.loop-j.j))
 cut-is c v board h =
     let l = c.before.before.before.before.before.before in
     let s = start l in
@@ -126,72 +126,72 @@ cut-is c v board h =
     let t = table_of a.coefficient.now a.monomial.now a.terms.now v in
     let slot = atom_slot a.t8.number in
     let i = a.i in
-    let j = l.loop.j in
-    let all = l.before.before.before.before.before.before.before.before.many.ensures in
-    let next : j < many a.t8.count = omega (arith, all, c.before.before.before.before.before.loop-test.true) in
-    let p = l.before.before.before.before.before.before.before.places.ensures in
-    let q1 = l.before.before.before.before.places2.ensures in
-    let q2 = c.before.before.places3.ensures in
+    let j = l.loop-j.j in
+    let all = l.before.before.before.before.before.before.before.before.many-n.ensures in
+    let next : j < many a.t8.count = omega (arith, all, c.before.before.before.before.before.loop-j-test.true) in
+    let p = l.before.before.before.before.before.before.before.places-run.ensures in
+    let q1 = l.before.before.before.before.places-q1.ensures in
+    let q2 = c.before.before.places-q2.ensures in
     let ready = h.ready in
     let own = run-held a.p ready.forms ready.places s.pre.1.0.0 p.0 p.1 h.own in
     let first = run-held (slot i) ready.forms ready.places (omega arith) q1.0 q1.1 (ready.atoms i s.pre.1.0.1.1) in
     let second = run-held (slot j) ready.forms ready.places (omega arith) q2.0 q2.1 (ready.atoms j next) in
-    c.cut-by-sifted-pair.ensures.on (record { p = own.signed; q1 = first.signed; q2 = second.signed; filled = h.filled })
-    ∙ ap (cut_in a.all l.loop.sofar.0)
+    c.cut_by_sifted_pair-cut.ensures.on (record { p = own.signed; q1 = first.signed; q2 = second.signed; filled = h.filled })
+    ∙ ap (cut_in a.all l.loop-j.sofar.0)
     (pair-at t board a.p (slot i) (slot j) (get_or a.t8.set i 0) (get_or a.t8.set j 0) p.0 p.1 q1.0 q1.1 q2.0 q2.1)
 
-returns : tie.Need-returns invariant-loop decreases-loop
+returns : tie.Need-returns-then-stops invariant-loop decreases-loop
 returns c =
     let d = c.before.before.before.before.before.before.before.before in
     let s = start d in
-    let l = d.loop in
-    let all = d.before.before.before.before.before.before.before.before.many.ensures in
-    let h : l.j < many s.args.t8.count = omega (arith, all, c.before.before.before.before.before.before.before.loop-test.true) in
+    let l = d.loop-j in
+    let all = d.before.before.before.before.before.before.before.before.many-n.ensures in
+    let h : l.j < many s.args.t8.count = omega (arith, all, c.before.before.before.before.before.before.before.loop-j-test.true) in
     walk-stop s.args.all l.sofar.0 _ _ (l.invariant.1 _ _ (stands s)) (with-step (table s) s.args.t8 _ _ l.j _ h)
-    (cut-is c.before.before _ _ (stands s)) (sym c.before.stops.ensures ∙ c.if1.true)
+    (cut-is c.before.before _ _ (stands s)) (sym c.before.stops.ensures ∙ c.if-stops.true)
 
 add-next-2 : tie.Need-overflow-add-next-2 invariant-loop decreases-loop
 add-next-2 c =
     let l = c.before.before.before.before.before.before.before.before.before in
-    let all = l.before.before.before.before.before.before.before.before.many.ensures in
-    let h : l.loop.j < 64 = omega (arith, c.before.before.before.before.before.before.before.before.loop-test.true, all) in
+    let all = l.before.before.before.before.before.before.before.before.many-n.ensures in
+    let h : l.loop-j.j < 64 = omega (arith, c.before.before.before.before.before.before.before.before.loop-j-test.true, all) in
     search rules
 
-next-requires-2 : tie.Need-next-requires-2 invariant-loop decreases-loop
+next-requires-2 : tie.Need-next-j-requires-in-loop-j invariant-loop decreases-loop
 next-requires-2 c κs =
     let l = c.before.before.before.before.before.before.before.before.before in
-    omega (arith, l.before.before.before.before.before.before.before.before.many.ensures)
+    omega (arith, l.before.before.before.before.before.before.before.before.many-n.ensures)
 
-loop-less : tie.Need-loop-smaller invariant-loop decreases-loop
-loop-less c = omega (arith, c.next2.ensures.on, c.before.before.before.before.before.before.before.before.before.loop-test.true)
+loop-less : tie.Need-loop-j-smaller invariant-loop decreases-loop
+loop-less c = omega (arith, c.next-j-in-loop-j.ensures.on, c.before.before.before.before.before.before.before.before.before.loop-j-test.true)
 
-loop-again : tie.Need-loop-preserved invariant-loop decreases-loop
+loop-again : tie.Need-loop-j-preserved invariant-loop decreases-loop
 loop-again c =
     let d = c.before.before.before.before.before.before.before.before.before.before in
     let s = start d in
     let a = s.args in
     let (low, (signed, at)) = s.pre.1.0 in
     let (masked, ((own, noted), falling)) = s.pre.1.1 in
-    let l = d.loop in
-    let all = d.before.before.before.before.before.before.before.before.many.ensures in
-    let on = c.before.before.before.before.before.before.before.before.before.loop-test.true in
+    let l = d.loop-j in
+    let all = d.before.before.before.before.before.before.before.before.many-n.ensures in
+    let on = c.before.before.before.before.before.before.before.before.before.loop-j-test.true in
     let h : l.j < many a.t8.count = omega (arith, all, on) in
-    let word = c.before.still.ensures.candidates l.invariant.0 in (
+    let word = c.before.still-left.ensures.candidates l.invariant.0 in (
       word,
-      λ v board k. skips k low a.i at own masked noted a.all c.before.before.before.before.cut-by-sifted-pair.result.0
-          d.before.before.before.mask_at.ensures word c.next2.ensures all
+      λ v board k. skips k low a.i at own masked noted a.all c.before.before.before.before.cut_by_sifted_pair-cut.result.0
+          d.before.before.before.mask_at-mask1.ensures word c.next-j-in-loop-j.ensures all
           ∙ walk-on a.all l.sofar.0 _ _ (l.invariant.1 v board k)
           (with-step (table_of a.coefficient.now a.monomial.now a.terms.now v) a.t8 board _ l.j _ h)
-          (cut-is c.before.before.before.before v board k) (sym c.before.before.before.stops.ensures ∙ c.before.before.if1.false),
+          (cut-is c.before.before.before.before v board k) (sym c.before.before.before.stops.ensures ∙ c.before.before.if-stops.false),
     )
 
-returns-2 : tie.Need-returns-2 invariant-loop decreases-loop
+returns-2 : tie.Need-returns invariant-loop decreases-loop
 returns-2 c =
     let d = c.before in
     let s = start d in
-    let all = d.before.before.before.before.before.before.before.before.many.ensures in
-    let h : many s.args.t8.count ≤ d.loop.j = omega (arith, all) in
-    walk_end s.args.all (d.loop.invariant.1 _ _ (stands s)) (with-end (table s) s.args.t8 _ _ _ _ h)
+    let all = d.before.before.before.before.before.before.before.before.many-n.ensures in
+    let h : many s.args.t8.count ≤ d.loop-j.j = omega (arith, all) in
+    walk_end s.args.all (d.loop-j.invariant.1 _ _ (stands s)) (with-end (table s) s.args.t8 _ _ _ _ h)
 
 pub cut_with_spec : {M : Type 1} → statement M
 cut_with_spec =

@@ -9,20 +9,20 @@ use lib.ListN.{get_or}
 use Rattle.search.proofs.variables.above.Statement.{statement}
 use Rattle.search.proofs.variables.above.Tie as tie
 
-abbrev invariant-loop : tie.invariant-loop
+abbrev invariant-loop : tie.invariant-loop-i
 invariant-loop board floor n i₀ i = (j : ℕ) → j < i → get_or board.sets j 0 ≡ get_or floor.sets j 0
 
-abbrev decreases-loop : tie.decreases-loop
+abbrev decreases-loop : tie.decreases-loop-i
 decreases-loop board floor n i₀ i = n - i
 
-loop-again : tie.Need-loop-preserved invariant-loop decreases-loop
+loop-again : tie.Need-loop-i-preserved invariant-loop decreases-loop
 loop-again c =
     let a = c.before.before.before.before.before.args in
-    let l = c.before.before.before.before.loop in
-    below_more (λ (j : ℕ). get_or a.t1.sets j 0 ≡ get_or a.t2.sets j 0) l.i l.invariant c.if1.false
+    let l = c.before.before.before.before.loop-i in
+    below_more (λ (j : ℕ). get_or a.t1.sets j 0 ≡ get_or a.t2.sets j 0) l.i l.invariant c.if-set-low.false
 
-returns-2 : tie.Need-returns-2 invariant-loop decreases-loop
-returns-2 c e = record { each = λ j h. c.before.loop.invariant j (omega arith) }
+returns-2 : tie.Need-returns invariant-loop decreases-loop
+returns-2 c e = record { each = λ j h. c.before.loop-i.invariant j (omega arith) }
 
 pub above_spec : {M : Type 1} → statement M
 above_spec =

@@ -8,14 +8,14 @@ use Rattle.settled.proofs.removal.goes.Tie as tie
 stays-requires : tie.Need-stays-requires
 stays-requires c κs =
     let s = c.before.before.before.before.before in
-    let ((own, from), words) = s.requires.1 in
-    (s.requires.0, ((own, run-settles s.args.variables from.given from.settles), words))
+    let ((own, from), words) = s.requires.fact_2 in
+    (s.requires.fact, ((own, run-settles s.args.variables from.given from.settles), words))
 
-returns : tie.Need-returns
-returns c = rw (sym c.before.stays.ensures, c.if1.true)
+returns : tie.Need-returns-then-stays
+returns c = rw (sym c.before.stays.ensures, c.if-stays.true)
 
-returns-2 : tie.Need-returns-2
-returns-2 c = rw (sym c.before.before.stays.ensures, c.before.if1.false) c.implied.ensures
+returns-2 : tie.Need-returns
+returns-2 c = rw (sym c.before.before.stays.ensures, c.before.if-stays.false) c.implied.ensures
 
 pub goes_spec : {M : Type 1} → statement M
 goes_spec = tie.close (tie.spec stays-requires returns (λ c κs. search rules) returns-2)

@@ -15,33 +15,33 @@ use Rattle.settled.proofs.removal.implied.Tie as tie
 abbrev table : tie.Start → Table
 table s = lent_table s.args.coefficient s.args.monomial s.args.terms s.args.variables
 
-says-inside-requires : tie.Need-says-inside-requires
+says-inside-requires : tie.Need-says_inside-yes-requires
 says-inside-requires c κs =
     let s = c.before.before.before.before.before.before.before.before.before.before.before.before.before.before.before.before in
     let (forms, (low, from)) = s.requires in
-    let r = c.before.before.before.before.before.before.before.before.before.before.before.before.before.afresh in
+    let r = c.before.before.before.before.before.before.before.before.before.before.before.before.before.afresh-fresh in
     let st = r.result.ran.state in
     let number = s.args.number in
     let settled = ends-settled s.args.variables _ r.ensures.outcome
-    c.before.before.before.before.before.before.before.before.before.before.if1.false in
+    c.before.before.before.before.before.before.before.before.before.before.if-ran.false in
     let listed = list-ready {t = table s} st.board st.atoms _ forms r.ensures.variables (length-replicate {A = ℕ} 1280 0) in
-    rw (c.before.before.sign-slot.ensures, c.before.before.before.before.before.sign-list.ensures) (
+    rw (c.before.before.sign_slot.ensures, c.before.before.before.before.before.sign_list.ensures) (
       (slot-ready number (omega arith) listed, (r.ensures.variables, low)),
       (slot-there _ _ _ (form-slots forms listed.places) number (omega arith), settled),
     )
 
-returns : tie.Need-returns
+returns : tie.Need-returns-then-ran
 returns c =
     let s = c.before.before.before.before.before.before.before in
-    let r = c.before.before.before.before.afresh in
-    c.inside.ensures ∙ implied-by-contradiction (table s) _ _ r.result.ran r.ensures.outcome c.before.if1.true
+    let r = c.before.before.before.before.afresh-fresh in
+    c.inside.ensures ∙ implied-by-contradiction (table s) _ _ r.result.ran r.ensures.outcome c.before.if-ran.true
 
-returns-2 : tie.Need-returns-2
+returns-2 : tie.Need-returns
 returns-2 c =
     let s = c.before.before.before.before.before.before.before.before.before.before.before.before.before.before.before.before.before in
-    let r = c.before.before.before.before.before.before.before.before.before.before.before.before.before.before.afresh in
-    let settled = c.before.before.before.before.before.before.before.before.before.before.before.if1.false in
-    c.says-inside.ensures ∙ implied-by-state (table s) _ _ r.result.ran r.ensures.outcome settled
+    let r = c.before.before.before.before.before.before.before.before.before.before.before.before.before.before.afresh-fresh in
+    let settled = c.before.before.before.before.before.before.before.before.before.before.before.if-ran.false in
+    c.says_inside-yes.ensures ∙ implied-by-state (table s) _ _ r.result.ran r.ensures.outcome settled
 
 pub implied_spec : {M : Type 1} → statement M
 implied_spec =

@@ -7,5 +7,5 @@ use Rattle.settled.proofs.removal.kept_unless.Tie as tie
 pub kept_unless_spec : {M : Type 1} → statement M
 kept_unless_spec =
     tie.close
-    (tie.spec (λ c. search rules) (λ c. search rules) (λ c. search rules) (λ c. removed-one _ _ _ c.if1.true) (λ c κs. search rules)
-    (λ c. kept-one _ _ _ c.before.before.if1.false c.push.ensures))
+    (tie.spec (λ c. search rules) (λ c. search rules) (λ c. search rules) (λ c. removed-one _ _ _ c.if-out.true) (λ c κs. search rules)
+    (λ c. kept-one _ _ _ c.before.before.if-out.false c.push-more.ensures))

@@ -17,53 +17,53 @@ use Rattle.settled.proofs.Removing.{Counting, counting-first, counting-next, cou
 use Rattle.settled.proofs.removal.remove.Statement.{statement}
 use Rattle.settled.proofs.removal.remove.Tie as tie
 
-abbrev invariant-loop : tie.invariant-loop
+abbrev invariant-loop : tie.invariant-loop-i
 invariant-loop coefficient monomial terms sign masks columns falls variables state largest list end kept₀ order₀ rounds₀ i₀ kept order rounds i =
     let t = table_of coefficient monomial terms variables in
     (i ≤ end) × ((end ≡ many list.count)
     × (Removing t (state_of t state) list i kept × (Some (atoms_of t list) (atoms_of t kept.atoms ++ rest t list i)
     × Counting t (state_of t state) list largest i kept rounds)))
 
-abbrev decreases-loop : tie.decreases-loop
+abbrev decreases-loop : tie.decreases-loop-i
 decreases-loop coefficient monomial terms sign masks columns falls variables state largest list end kept₀ order₀ rounds₀ i₀ kept order rounds i = end - i
 
 abbrev table : tie.Start invariant-loop decreases-loop → Table
 table s = lent_table s.args.coefficient s.args.monomial s.args.terms s.args.variables
 
-goes-requires : tie.Need-goes-requires invariant-loop decreases-loop
+goes-requires : tie.Need-goes-told-requires invariant-loop decreases-loop
 goes-requires c κs =
     let s = c.before.before.before.before.before.before.before.before.before.before.before.before.before in
-    let (ready, from) = s.requires.0 in
-    let l = c.before.before.before.before.before.loop in
-    let afresh = afresh-others s.args.t9 (atoms_of (table s) l.auto.atoms) from (omega (arith, l.invariant.1.0)) l.invariant.1.1.1.0 (c.joined.ensures (table s)) in
-    ((ready, (from.variables, omega arith)), ((s.requires.1.0.atoms l.i (omega arith), afresh), s.requires.1.1))
+    let (ready, from) = s.requires.fact in
+    let l = c.before.before.before.before.before.loop-i in
+    let afresh = afresh-others s.args.t9 (atoms_of (table s) l.auto.atoms) from (omega (arith, l.invariant.1.0)) l.invariant.1.1.1.0 (c.joined-others.ensures (table s)) in
+    ((ready, (from.variables, omega arith)), ((s.requires.fact_2.0.atoms l.i (omega arith), afresh), s.requires.fact_2.1))
 
-fresh-rounds-requires : tie.Need-fresh-rounds-requires invariant-loop decreases-loop
+fresh-rounds-requires : tie.Need-fresh_rounds-rounds-requires invariant-loop decreases-loop
 fresh-rounds-requires c κs =
     let s = c.before.before.before.before.before.before.before.before.before.before.before.before.before.before.before in
-    let (ready, from) = s.requires.0 in
-    let l = c.before.before.before.before.before.before.before.loop in
-    (ready.forms, afresh-others s.args.t9 (atoms_of (table s) l.auto.atoms) from (omega (arith, l.invariant.1.0)) l.invariant.1.1.1.0 (c.before.before.joined.ensures (table s)))
+    let (ready, from) = s.requires.fact in
+    let l = c.before.before.before.before.before.before.before.loop-i in
+    (ready.forms, afresh-others s.args.t9 (atoms_of (table s) l.auto.atoms) from (omega (arith, l.invariant.1.0)) l.invariant.1.1.1.0 (c.before.before.joined-others.ensures (table s)))
 
-loop-again : tie.Need-loop-preserved invariant-loop decreases-loop
+loop-again : tie.Need-loop-i-preserved invariant-loop decreases-loop
 loop-again c =
     let s = c.before.before.before.before.before.before.before.before.before.before.before.before.before.before.before.before.before in
     let a = s.args.t9 in
-    let l = c.before.before.before.before.before.before.before.before.before.loop in
+    let l = c.before.before.before.before.before.before.before.before.before.loop-i in
     let atom : Atom = atom_at (table s) a.number a.set l.i in
     let stays : Bool = stays_by s.args.variables (state_of (table s) s.args.state) atom in
-    let others = c.before.before.before.before.joined.ensures (table s) in
-    let out = c.before.before.before.goes.ensures ∙ ap (λ (others : List Atom). not stays && implied_by s.args.variables others atom) others in
-    let counted = rw others at c.before.fresh-rounds.ensures in
-    let more = c.before.before.before.before.before.before.before.before.loop-test.true in (
+    let others = c.before.before.before.before.joined-others.ensures (table s) in
+    let out = c.before.before.before.goes-told.ensures ∙ ap (λ (others : List Atom). not stays && implied_by s.args.variables others atom) others in
+    let counted = rw others at c.before.fresh_rounds-rounds.ensures in
+    let more = c.before.before.before.before.before.before.before.before.loop-i-test.true in (
       omega (arith, more),
       (
         l.invariant.1.0,
         (
-          removing-next l.invariant.1.1.0 (omega (arith, more, l.invariant.1.0)) out c.kept-unless.ensures,
+          removing-next l.invariant.1.1.0 (omega (arith, more, l.invariant.1.0)) out c.kept_unless-kept.ensures,
           (
-            some_more (table s) (omega (arith, more, l.invariant.1.0)) l.invariant.1.1.1.0 c.kept-unless.ensures,
-            counting-next l.invariant.1.1.1.1 (omega (arith, more, l.invariant.1.0)) out counted c.kept-unless.ensures,
+            some_more (table s) (omega (arith, more, l.invariant.1.0)) l.invariant.1.1.1.0 c.kept_unless-kept.ensures,
+            counting-next l.invariant.1.1.1.1 (omega (arith, more, l.invariant.1.0)) out counted c.kept_unless-kept.ensures,
           ),
         ),
       ),
@@ -71,16 +71,16 @@ loop-again c =
 
 returns : tie.Need-returns invariant-loop decreases-loop
 returns c = (
-  removing-last c.before.loop.invariant.1.1.0 (omega arith),
-  counting-last c.before.loop.invariant.1.1.1.1 (omega arith),
+  removing-last c.before.loop-i.invariant.1.1.0 (omega arith),
+  counting-last c.before.loop-i.invariant.1.1.1.1 (omega arith),
 )
 
 pub remove_spec : {M : Type 1} → statement M
 remove_spec =
     tie.close
     (tie.spec invariant-loop decreases-loop (λ c κs. search rules) (λ c κs. search rules)
-    (λ c. (omega arith, (c.before.many.ensures, (removing-first _ _ _ _ _ _ (length-replicate {A = Bool} 64 false), (some_first _ _ _ _, counting-first _ _ _ _ _ _ _)))))
+    (λ c. (omega arith, (c.before.many-end.ensures, (removing-first _ _ _ _ _ _ (length-replicate {A = Bool} 64 false), (some_first _ _ _ _, counting-first _ _ _ _ _ _ _)))))
     (λ c. omega arith) (λ c. omega arith) (λ c. omega arith) (λ c. omega arith)
-    (λ c κs. omega (arith, c.before.before.before.before.loop.invariant.1.1.0.count)) goes-requires fresh-rounds-requires
-    (λ c κs. (omega (arith, c.before.before.before.before.before.before.before.loop-test.true, c.before.before.before.before.before.before.before.before.loop.invariant.1.0), omega (arith, c.before.before.before.before.before.before.before.loop-test.true, c.before.before.before.before.before.before.before.before.loop.invariant.1.0, c.before.before.before.before.before.before.before.before.loop.invariant.1.1.0.count)))
-    (λ c. omega (arith, c.before.before.before.before.before.before.before.before.loop-test.true, c.before.before.before.before.before.before.before.before.before.loop.invariant.1.0)) (λ c. omega (arith, c.before.before.before.before.before.before.before.before.loop-test.true)) loop-again returns)
+    (λ c κs. omega (arith, c.before.before.before.before.loop-i.invariant.1.1.0.count)) goes-requires fresh-rounds-requires
+    (λ c κs. (omega (arith, c.before.before.before.before.before.before.before.loop-i-test.true, c.before.before.before.before.before.before.before.before.loop-i.invariant.1.0), omega (arith, c.before.before.before.before.before.before.before.loop-i-test.true, c.before.before.before.before.before.before.before.before.loop-i.invariant.1.0, c.before.before.before.before.before.before.before.before.loop-i.invariant.1.1.0.count)))
+    (λ c. omega (arith, c.before.before.before.before.before.before.before.before.loop-i-test.true, c.before.before.before.before.before.before.before.before.before.loop-i.invariant.1.0)) (λ c. omega (arith, c.before.before.before.before.before.before.before.before.loop-i-test.true)) loop-again returns)

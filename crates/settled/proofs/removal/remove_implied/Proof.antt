@@ -22,7 +22,7 @@ abbrev table : tie.Start → Table
 table s = lent_table s.args.coefficient s.args.monomial s.args.terms s.args.variables
 
 -- the place before the signs
-abbrev start : tie.After-sign-list2 → tie.Start
+abbrev start : tie.After-sign_list-2 → tie.Start
 start c = c.before.before.before.before.before.before.before.before.before
 
 -- those of one list and then those of another: both are there
@@ -34,18 +34,18 @@ both-ready b a list ss forms same places e f =
     let one = list-ready b a ss forms same places in
     rw (f, e) (list-keeps b list same one, list-ready b list _ forms same one.places)
 
-signs-ready : (c : tie.After-sign-list2) →
+signs-ready : (c : tie.After-sign_list-2) →
     let s = start c in
     let st = s.args.state in
-    let signs = c.sign-list2.new.1.1.1.1.0 in
+    let signs = c.sign_list-2.new.1.1.1.1.0 in
     Ready (table s) (sets_of st.board) st.atoms signs × Ready (table s) (sets_of st.board) s.args.list signs
 signs-ready c =
     let s = start c in
     let (forms, from) = s.pre in
     both-ready s.args.state.board s.args.state.atoms s.args.list _ forms from.variables (length-replicate {A = ℕ} 1280 0)
-    c.before.before.before.sign-list.ensures c.sign-list2.ensures
+    c.before.before.before.sign_list.ensures c.sign_list-2.ensures
 
-words-of-requires : tie.Need-words-of-requires
+words-of-requires : tie.Need-words_of-falls-requires
 words-of-requires c κs =
     let ready = (signs-ready c.before.before.before.before).0 in
     (form-slots ready.forms ready.places, (ready.forms.coefficients, (length-replicate {A = ℕ} 128 0, length-replicate {A = ℕ} 130 0)))
@@ -54,23 +54,23 @@ remove-requires : tie.Need-remove-requires
 remove-requires c κs =
     let signs = c.before.before.before.before.before.before.before.before.before.before.before.before in
     let (ready, listed) = signs-ready signs in
-    ((ready, (start signs).requires.1), (listed, c.before.before.before.before.before.before.before.words_of.ensures))
+    ((ready, (start signs).requires.1), (listed, c.before.before.before.before.before.before.before.words_of-falls.ensures))
 
-returns : tie.Need-returns
+returns : tie.Need-returns-then-variables-many
 returns c =
     let s = start c.before.before.before.before.before.before.before.before.before.before.before.before.before in
     (test-first s.pre.1 c.remove.ensures.0, count-first s.args.list s.args.largest s.pre.1 c.remove.ensures.1)
 
-remove-counting-requires : tie.Need-remove-counting-requires
+remove-counting-requires : tie.Need-remove_counting-requires
 remove-counting-requires c κs =
     let signs = c.before.before.before.before.before.before.before.before.before.before.before.before in
     let (ready, listed) = signs-ready signs in
-    ((ready, (start signs).requires.1), (listed, c.before.before.before.before.before.before.before.words_of.ensures))
+    ((ready, (start signs).requires.1), (listed, c.before.before.before.before.before.before.before.words_of-falls.ensures))
 
-returns-2 : tie.Need-returns-2
+returns-2 : tie.Need-returns
 returns-2 c =
     let s = start c.before.before.before.before.before.before.before.before.before.before.before.before.before in
-    (test-first s.pre.1 c.remove-counting.ensures.0, count-first s.args.list s.args.largest s.pre.1 c.remove-counting.ensures.1)
+    (test-first s.pre.1 c.remove_counting.ensures.0, count-first s.args.list s.args.largest s.pre.1 c.remove_counting.ensures.1)
 
 -- at most 2(16 + 64) + 1
 small : (c : tie.After-many) → ((start c.before.before.before.before.before.before.before.before).args.variables ≤ 16) × (c.many.result ≤ 64)

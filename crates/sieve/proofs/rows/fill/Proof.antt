@@ -11,38 +11,38 @@ use Rattle.sieve.proofs.Merge.{Merged, merge-begun, merge_on, merged-row, more_r
 use Rattle.sieve.proofs.rows.fill.Statement.{statement}
 use Rattle.sieve.proofs.rows.fill.Tie as tie
 
-abbrev invariant-loop : tie.invariant-loop
+abbrev invariant-loop : tie.invariant-loop-count
 invariant-loop coefficient monomial sign pair a₀ b₀ c₀ s₀ i₀ j₀ k₀ count₀ a b c s i j k count =
     ((length a ≡ 48) × ((length b ≡ 48) × ((length c ≡ 48) × (length s ≡ 48))))
     × (Merged coefficient monomial sign pair i j k × ((count ≤ 48) × ((q : ℕ) → q < count → RowAt coefficient monomial sign pair (rows a b c s) q)))
 
-abbrev decreases-loop : tie.decreases-loop
+abbrev decreases-loop : tie.decreases-loop-count
 decreases-loop coefficient monomial sign pair a₀ b₀ c₀ s₀ i₀ j₀ k₀ count₀ a b c s i j k count = 48 - count
 
-loop-holds : tie.Need-loop-init invariant-loop decreases-loop
+loop-holds : tie.Need-loop-count-init invariant-loop decreases-loop
 loop-holds c =
     let s = c.before.before.before in
-    (s.requires.1, (merge-begun s.requires.0.0, (omega arith, λ q l. absurd (omega arith))))
+    (s.requires.a_len, (merge-begun s.requires.places_of.0, (omega arith, λ q l. absurd (omega arith))))
 
-same_length : tie.Need-same-length invariant-loop decreases-loop
-same_length c = c.before.before.before.before.loop.invariant.0.0 ∙
-    sym c.before.before.before.before.before.before.before.before.requires.1.0
+same_length : tie.Need-shape_of-a-then-i-j invariant-loop decreases-loop
+same_length c = c.before.before.before.before.loop-count.invariant.0.0 ∙
+    sym c.before.before.before.before.before.before.before.before.requires.a_len.0
 
-same-length-2 : tie.Need-same-length-2 invariant-loop decreases-loop
-same-length-2 c = c.before.before.before.before.loop.invariant.0.1.0 ∙
-    sym c.before.before.before.before.before.before.before.before.requires.1.1.0
+same-length-2 : tie.Need-shape_of-b-then-i-j invariant-loop decreases-loop
+same-length-2 c = c.before.before.before.before.loop-count.invariant.0.1.0 ∙
+    sym c.before.before.before.before.before.before.before.before.requires.a_len.1.0
 
-same-length-3 : tie.Need-same-length-3 invariant-loop decreases-loop
-same-length-3 c = c.before.before.before.before.loop.invariant.0.1.1.0 ∙
-    sym c.before.before.before.before.before.before.before.before.requires.1.1.1.0
+same-length-3 : tie.Need-shape_of-c-then-i-j invariant-loop decreases-loop
+same-length-3 c = c.before.before.before.before.loop-count.invariant.0.1.1.0 ∙
+    sym c.before.before.before.before.before.before.before.before.requires.a_len.1.1.0
 
-same-length-4 : tie.Need-same-length-4 invariant-loop decreases-loop
-same-length-4 c = c.before.before.before.before.loop.invariant.0.1.1.1 ∙
-    sym c.before.before.before.before.before.before.before.before.requires.1.1.1.1
+same-length-4 : tie.Need-shape_of-s-then-i-j invariant-loop decreases-loop
+same-length-4 c = c.before.before.before.before.loop-count.invariant.0.1.1.1 ∙
+    sym c.before.before.before.before.before.before.before.before.requires.a_len.1.1.1
 
-returns : tie.Need-returns invariant-loop decreases-loop
+returns : tie.Need-returns-then-i-j invariant-loop decreases-loop
 returns c =
-    let l = c.before.before.before.before.loop in
+    let l = c.before.before.before.before.loop-count in
     let (lengths, (merged, (few, each))) = l.invariant in
     record {
       firsts = omega (arith, few, lengths.0);
@@ -52,17 +52,17 @@ returns c =
       each = each;
     }
 
-next-row-requires : tie.Need-next-row-requires invariant-loop decreases-loop
-next-row-requires c κs = (c.before.before.before.before.before.before.before.before.requires.0.0, omega arith)
+next-row-requires : tie.Need-next_row-row-requires invariant-loop decreases-loop
+next-row-requires c κs = (c.before.before.before.before.before.before.before.before.requires.places_of.0, omega arith)
 
-loop-again : tie.Need-loop-preserved invariant-loop decreases-loop
+loop-again : tie.Need-loop-count-preserved invariant-loop decreases-loop
 loop-again c =
     let s = c.before.before.before.before.before.before.before.before.before.before.before.before in
-    let l = c.before.before.before.before.before.before.before.before.loop in
+    let l = c.before.before.before.before.before.before.before.before.loop-count in
     let (lengths, (merged, (few, each))) = l.invariant in
-    let r = c.before.before.before.next_row in
-    let f = s.requires.0.1 in
-    let more = c.before.before.before.before.before.before.before.loop-test.true in (
+    let r = c.before.before.before.next_row-row in
+    let f = s.requires.places_of.1 in
+    let more = c.before.before.before.before.before.before.before.loop-count-test.true in (
       (
         length-set l.a l.count _ ∙ lengths.0,
         (
@@ -77,17 +77,17 @@ loop-again c =
           more_rows l.a l.b l.c l.s l.count (omega (arith, more, lengths.0)) (omega (arith, more, lengths.1.0))
               (omega (arith, more, lengths.1.1.0)) (omega (arith, more, lengths.1.1.1))
               (rw (
-                to_z-of_z w32 _ (record { sfits = c.before.before.struct_told.given.0.1 }),
-                to_z-of_z w32 _ (record { sfits = c.before.struct-told2.given.1.0.1 }),
-                to_z-of_z w32 _ (record { sfits = c.struct-told3.given.1.1.0.1 }),
+                to_z-of_z w32 _ (record { sfits = c.before.before.struct_told-1.given.0.1 }),
+                to_z-of_z w32 _ (record { sfits = c.before.struct_told-in-loop-count-1.given.1.0.1 }),
+                to_z-of_z w32 _ (record { sfits = c.struct_told-in-loop-count-2-1.given.1.1.0.1 }),
               ) (merged-row f merged r.ensures)) each,
         ),
       ),
     )
 
-returns-2 : tie.Need-returns-2 invariant-loop decreases-loop
+returns-2 : tie.Need-returns invariant-loop decreases-loop
 returns-2 c =
-    let l = c.before.loop in
+    let l = c.before.loop-count in
     let (lengths, (merged, (few, each))) = l.invariant in
     record {
       firsts = omega (arith, few, lengths.0);
@@ -102,12 +102,12 @@ fill_spec =
     tie.close
     (tie.spec invariant-loop decreases-loop loop-holds (λ c. omega arith) (λ c. omega arith) (λ c. omega arith) (λ c. omega arith)
     same_length same-length-2 same-length-3 same-length-4 returns next-row-requires
-    (λ c. omega arith) (λ c. omega (arith, c.before.before.before.before.before.before.before.before.loop.invariant.0.0)) (λ c. omega arith)
-    (λ c. omega (arith, c.before.before.before.before.before.before.before.before.loop.invariant.0.1.0)) (λ c. omega arith)
-    (λ c. omega (arith, c.before.before.before.before.before.before.before.before.loop.invariant.0.1.1.0))
-    (λ c. omega (arith, c.before.before.before.before.before.before.before.before.loop.invariant.0.1.1.1)) (λ c. omega arith)
+    (λ c. omega arith) (λ c. omega (arith, c.before.before.before.before.before.before.before.before.loop-count.invariant.0.0)) (λ c. omega arith)
+    (λ c. omega (arith, c.before.before.before.before.before.before.before.before.loop-count.invariant.0.1.0)) (λ c. omega arith)
+    (λ c. omega (arith, c.before.before.before.before.before.before.before.before.loop-count.invariant.0.1.1.0))
+    (λ c. omega (arith, c.before.before.before.before.before.before.before.before.loop-count.invariant.0.1.1.1)) (λ c. omega arith)
     (λ c. omega arith) loop-again
-    (λ c. c.before.loop.invariant.0.0 ∙ sym c.before.before.before.before.before.requires.1.0)
-    (λ c. c.before.loop.invariant.0.1.0 ∙ sym c.before.before.before.before.before.requires.1.1.0)
-    (λ c. c.before.loop.invariant.0.1.1.0 ∙ sym c.before.before.before.before.before.requires.1.1.1.0)
-    (λ c. c.before.loop.invariant.0.1.1.1 ∙ sym c.before.before.before.before.before.requires.1.1.1.1) returns-2)
+    (λ c. c.before.loop-count.invariant.0.0 ∙ sym c.before.before.before.before.before.requires.a_len.0)
+    (λ c. c.before.loop-count.invariant.0.1.0 ∙ sym c.before.before.before.before.before.requires.a_len.1.0)
+    (λ c. c.before.loop-count.invariant.0.1.1.0 ∙ sym c.before.before.before.before.before.requires.a_len.1.1.0)
+    (λ c. c.before.loop-count.invariant.0.1.1.1 ∙ sym c.before.before.before.before.before.requires.a_len.1.1.1) returns-2)

@@ -12,26 +12,26 @@ returns c =
     let g = t.before.before.before in
     let s = g.before.before.before.before.before.before.before in
     let h = g.before.before.before.before.head.ensures in
-    let h1 = g.before.before.before.head2.ensures in
+    let h1 = g.before.before.before.head-2.ensures in
     let f = g.before.before.larger.ensures in
-    let h2 = g.before.head3.ensures in
-    let k = g.larger2.ensures in
+    let h2 = g.before.head-3.ensures in
+    let k = g.larger-top.ensures in
     record {
-      top = g.larger2.result;
+      top = g.larger-top.result;
       below = top_below h h1 h2 f k s.requires.1;
       above1 = top-above1 h h1 h2 f k;
       above2 = top-above2 h h1 h2 f k;
       above3 = top-above3 h h1 h2 f k;
-      s1 = t.before.before.taken.result.s;
-      s2 = t.before.taken2.result.s;
-      s3 = t.taken3.result.s;
-      p = rw (to_z-of_z w32 _ (record { sfits = c.before.before.struct_told.given.0.1 })) t.before.before.taken.ensures;
-      q1 = rw (to_z-of_z w32 _ (record { sfits = c.before.struct-told2.given.0.1 })) t.before.taken2.ensures;
-      q2 = rw (to_z-of_z w32 _ (record { sfits = c.struct-told3.given.0.1 })) t.taken3.ensures;
-      sign = c.before.before.before.shared.ensures;
+      s1 = t.before.before.taken-first.result.s;
+      s2 = t.before.taken-second.result.s;
+      s3 = t.taken-third.result.s;
+      p = rw (to_z-of_z w32 _ (record { sfits = c.before.before.struct_told-1.given.0.1 })) t.before.before.taken-first.ensures;
+      q1 = rw (to_z-of_z w32 _ (record { sfits = c.before.struct_told-2-1.given.0.1 })) t.before.taken-second.ensures;
+      q2 = rw (to_z-of_z w32 _ (record { sfits = c.struct_told-3-1.given.0.1 })) t.taken-third.ensures;
+      sign = c.before.before.before.shared-s.ensures;
     }
 
-taken-requires-3 : tie.Need-taken-requires-3
+taken-requires-3 : tie.Need-taken-third-requires
 taken-requires-3 c κs =
     let s = c.before.before.before.before.before.before.before.before.before in
     let x = s.requires.0 in record { coefficients = x.q2.coefficients; monomials = x.q2.monomials; signs = x.q2.signs }

@@ -8,24 +8,24 @@ use Rattle.sieve.proofs.Bars.{try-ended, passes}
 use Rattle.sieve.proofs.tries.may_pass.Statement.{statement}
 use Rattle.sieve.proofs.tries.may_pass.Tie as tie
 
-abbrev invariant-loop : tie.invariant-loop
+abbrev invariant-loop : tie.invariant-loop-count
 invariant-loop a b c s n u w lowers hint i₀ count₀ i count = Unit {0}
 
-abbrev decreases-loop : tie.decreases-loop
+abbrev decreases-loop : tie.decreases-loop-count
 decreases-loop a b c s n u w lowers hint i₀ count₀ i count = n - count
 
-low : (c : tie.After-wrapped invariant-loop decreases-loop) → c.wrapped.result < c.before.before.before.before.args.n
-low c = c.wrapped.ensures.low (omega arith)
+low : (c : tie.After-wrapped-at invariant-loop decreases-loop) → c.wrapped-at.result < c.before.before.before.before.args.n
+low c = c.wrapped-at.ensures.low (omega arith)
 
-returns : tie.Need-returns invariant-loop decreases-loop
+returns : tie.Need-returns-then-row_bars invariant-loop decreases-loop
 returns c =
     let f = c.before.before.before.before.before.before.before.before.before.before.ranges in
     try-ended _ (low c.before.before.before.before.before.before) f.u f.w
     (rw (
-      to_z-of_z w32 _ (record { sfits = c.before.before.before.before.before.x.given }),
-      to_z-of_z w32 _ (record { sfits = c.before.before.before.before.y.given }),
-      to_z-of_z w32 _ (record { sfits = c.before.before.before.z.given }),
-    ) at c.before.row-bars.ensures) c.if1.true
+      to_z-of_z w32 _ (record { sfits = c.before.before.before.before.before.x-1.given }),
+      to_z-of_z w32 _ (record { sfits = c.before.before.before.before.y-1.given }),
+      to_z-of_z w32 _ (record { sfits = c.before.before.before.z-1.given }),
+    ) at c.before.row_bars.ensures) c.if-row_bars.true
 
 pub may_pass_spec : {M : Type 1} → statement M
 may_pass_spec =

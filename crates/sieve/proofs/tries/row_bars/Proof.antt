@@ -4,18 +4,18 @@ use Rattle.sieve.proofs.Bars.{sum-above, sum_below, bars-above, bars-below, bars
 use Rattle.sieve.proofs.tries.row_bars.Statement.{statement}
 use Rattle.sieve.proofs.tries.row_bars.Tie as tie
 
-returns-2 : tie.Need-returns-2
+returns-2 : tie.Need-returns-then-x-y
 returns-2 c =
     let f = c.before.before.before.before.before.ranges in
-    bars-below (sum_below f.a f.u f.b f.w f.c c.before.before.before.before.plus.ensures
-    c.before.before.before.cross.ensures
-    c.before.if2.false) c.can-be.ensures
+    bars-below (sum_below f.a f.u f.b f.w f.c c.before.before.before.before.plus-x.ensures
+    c.before.before.before.cross-y.ensures
+    c.before.if-y-x.false) c.can_be.ensures
 
-returns-3 : tie.Need-returns-3
+returns-3 : tie.Need-returns
 returns-3 c =
     let f = c.before.before.before.before.ranges in
-    bars-above (sum-above f.a f.u f.b f.w f.c c.before.before.before.plus.ensures c.before.before.cross.ensures
-    c.before.if1.false) c.can-be2.ensures
+    bars-above (sum-above f.a f.u f.b f.w f.c c.before.before.before.plus-x.ensures c.before.before.cross-y.ensures
+    c.before.if-x-y.false) c.can_be-2.ensures
 
 pub row_bars_spec : {M : Type 1} → statement M
 row_bars_spec =

@@ -6,24 +6,24 @@ use Rattle.sieve.proofs.Bars.{un_not, test-cannot, test-passes, test-passed}
 use Rattle.sieve.proofs.tries.some_test.Statement.{statement}
 use Rattle.sieve.proofs.tries.some_test.Tie as tie
 
-returns : tie.Need-returns
-returns c = test-cannot (un_not {b = c.before.before.args.cuts} c.if1.true)
+returns : tie.Need-returns-then-not-cuts
+returns c = test-cannot (un_not {b = c.before.before.args.cuts} c.if-not-cuts.true)
 
-returns-5 : tie.Need-returns-5
+returns-5 : tie.Need-returns
 returns-5 c =
-    test-passed c.before.before.before.before.before.before.before.before.before.before.before.before.before.before.half.ensures
-    c.before.before.before.before.before.before.before.before.before.before.before.before.before.half2.ensures
-    c.before.before.before.before.before.before.before.before.before.before.before.before.half3.ensures
-    c.before.before.before.before.before.before.before.before.before.before.before.half4.ensures
+    test-passed c.before.before.before.before.before.before.before.before.before.before.before.before.before.before.half-below1.ensures
+    c.before.before.before.before.before.before.before.before.before.before.before.before.before.half-above1.ensures
+    c.before.before.before.before.before.before.before.before.before.before.before.before.half-below2.ensures
+    c.before.before.before.before.before.before.before.before.before.before.before.half-above2.ensures
     c.before.before.before.before.before.before.before.before.before.before.both.ensures
-    c.before.before.before.before.before.before.before.before.before.some-halves.ensures
-    (omega (arith, c.before.before.before.before.before.before.before.before.if2.false))
-    c.before.before.before.before.before.before.before.both2.ensures
-    c.before.before.before.before.before.before.some-halves2.ensures
-    (omega (arith, c.before.before.before.before.before.if3.false))
-    c.before.before.before.before.both3.ensures c.before.before.before.some-halves3.ensures
-    (omega (arith, c.before.before.if4.false))
-    c.before.both4.ensures c.some-halves4.ensures (λ e. leb-false _ _ e)
+    c.before.before.before.before.before.before.before.before.before.some_halves-row1.ensures
+    (omega (arith, c.before.before.before.before.before.before.before.before.if-n-row1.false))
+    c.before.before.before.before.before.before.before.both-2.ensures
+    c.before.before.before.before.before.before.some_halves-row2.ensures
+    (omega (arith, c.before.before.before.before.before.if-n-row2.false))
+    c.before.before.before.before.both-3.ensures c.before.before.before.some_halves-row3.ensures
+    (omega (arith, c.before.before.if-n-row3.false))
+    c.before.both-4.ensures c.some_halves-row4.ensures (λ e. leb-false _ _ e)
 
 pub some_test_spec : {M : Type 1} → statement M
 some_test_spec =

@@ -13,7 +13,7 @@ unfolding open_signs three_bits set_with
 returns c =
     let m = c.before in
     let a = m.before.args.self.0 in
-    c.set-of.ensures ∙ at_one mirror mirror-remainder a (λ x e So so. rw (bits_of a x m.bits.ensures e) at so) refl
+    c.set_of.ensures ∙ at_one mirror mirror-remainder a (λ x e So so. rw (bits_of a x m.bits-a.ensures e) at so) refl
 
 pub mirror_spec : {M : Type 1} → statement M
 mirror_spec = tie.close (tie.spec (λ c κs. search rules) (λ c κs. search rules) returns)

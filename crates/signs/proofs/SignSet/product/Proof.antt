@@ -14,8 +14,8 @@ returns c =
     let m = c.before.before.before.before.before.before.before.before.before.before.before.before.before in
     let a = m.before.before.args.self.0 in
     let b = m.before.before.args.other.0 in
-    c.set-of.ensures ∙
-    at-two product product-remainder a b (λ x y e d So so. rw (bits_of a x m.before.bits.ensures e, bits_of b y m.bits2.ensures d) at so) refl
+    c.set_of.ensures ∙
+    at-two product product-remainder a b (λ x y e d So so. rw (bits_of a x m.before.bits-a.ensures e, bits_of b y m.bits-b.ensures d) at so) refl
 
 pub product_spec : {M : Type 1} → statement M
 product_spec = tie.close (tie.spec (λ c κs. search rules) (λ c κs. search rules) (λ c κs. search rules) returns)

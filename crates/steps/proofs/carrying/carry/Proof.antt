@@ -6,19 +6,19 @@ use Rattle.steps.proofs.Cutting.{contradicts, carries-on}
 use Rattle.steps.proofs.carrying.carry.Statement.{statement}
 use Rattle.steps.proofs.carrying.carry.Tie as tie
 
-contradiction : tie.Need-returns
+contradiction : tie.Need-returns-then-ran
 contradiction c l h =
     let s = c.before.before.before.before.before.before.before.before in
-    let atoms = c.before.before.before.atoms-in.ensures in
-    contradicts l (atoms.0 ∙ h.size) (omega (arith, h.size, s.requires.1.1)) (atoms.1 _ l h) s.args.largest c.before.before.run-largest.ensures c.if1.true _ h
+    let atoms = c.before.before.before.atoms_in-atoms.ensures in
+    contradicts l (atoms.0 ∙ h.size) (omega (arith, h.size, s.requires.1.1)) (atoms.1 _ l h) s.args.largest c.before.before.run_largest-ran.ensures c.if-ran.true _ h
 
-carries : tie.Need-returns-2
+carries : tie.Need-returns
 carries c l h =
     let s = c.before.before.before.before.before.before.before.before.before.before.before.before.before in
-    let atoms = c.before.before.before.before.before.before.before.before.atoms-in.ensures in
+    let atoms = c.before.before.before.before.before.before.before.before.atoms_in-atoms.ensures in
     carries-on l (atoms.0 ∙ h.size) (omega (arith, h.size, s.requires.1.1)) (atoms.1 _ l h) s.args.largest
-    c.before.before.before.before.before.before.before.run-largest.ensures c.before.before.before.before.before.if1.false
-    c.before.before.before.before.carried.ensures _ (c.before.before.with-sets.ensures l h)
+    c.before.before.before.before.before.before.before.run_largest-ran.ensures c.before.before.before.before.before.if-ran.false
+    c.before.before.before.before.carried-cut.ensures _ (c.before.before.with_sets.ensures l h)
 
 pub carry_spec : {M : Type 1} → statement M
 carry_spec =

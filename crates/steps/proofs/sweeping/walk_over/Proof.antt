@@ -8,29 +8,29 @@ use Rattle.steps.proofs.Childwise.{Sweeping, sweep-start, sweep-here, sweep-turn
 use Rattle.steps.proofs.sweeping.walk_over.Statement.{statement}
 use Rattle.steps.proofs.sweeping.walk_over.Tie as tie
 
-abbrev invariant-loop : tie.invariant-loop
+abbrev invariant-loop : tie.invariant-loop-place
 invariant-loop coefficient monomial terms sign masks columns falls variables state ors n walked₀ place₀ walked place =
     (children : Children) → Lists (row_of ors n) (laid children) → Sweeping (table_of coefficient monomial terms variables) state children walked place
 
-abbrev decreases-loop : tie.decreases-loop
+abbrev decreases-loop : tie.decreases-loop-place
 decreases-loop coefficient monomial terms sign masks columns falls variables state ors n walked₀ place₀ walked place = n - place
 
-enter-pruned-requires : tie.Need-enter-pruned-requires invariant-loop decreases-loop
+enter-pruned-requires : tie.Need-enter_pruned-walked-requires invariant-loop decreases-loop
 enter-pruned-requires c κs =
     let (hears, (long, (few, (children, h)))) = c.before.before.before.before.before.before.before.before.before.before.before.before.requires in
-    let q = sweep-here (c.before.before.before.before.loop.invariant children h) _ h _ _ c.before.atoms-of.ensures.0 c.tokens-of.ensures.0 few c.before.before.before.loop-test.true in
+    let q = sweep-here (c.before.before.before.before.loop-place.invariant children h) _ h _ _ c.before.atoms_of-atoms.ensures.0 c.tokens_of-tokens.ensures.0 few c.before.before.before.loop-place-test.true in
     (hears, (long, (omega (arith, q.left, h.size, few), omega (arith, q.room, h.size, few))))
 
-loop-again : tie.Need-loop-preserved invariant-loop decreases-loop
+loop-again : tie.Need-loop-place-preserved invariant-loop decreases-loop
 loop-again c children h =
-    let q = sweep-here (c.before.before.before.before.before.loop.invariant children h) _ h _ _ c.before.before.atoms-of.ensures.0 c.before.tokens-of.ensures.0 c.before.before.before.before.before.before.before.before.before.before.before.before.before.requires.1.1.0 c.before.before.before.before.loop-test.true in
-    sweep-turn q _ (c.enter-pruned.ensures _ q.walk _ q.atoms q.own _ q.stands h q.at)
+    let q = sweep-here (c.before.before.before.before.before.loop-place.invariant children h) _ h _ _ c.before.before.atoms_of-atoms.ensures.0 c.before.tokens_of-tokens.ensures.0 c.before.before.before.before.before.before.before.before.before.before.before.before.before.requires.1.1.0 c.before.before.before.before.loop-place-test.true in
+    sweep-turn q _ (c.enter_pruned-walked.ensures _ q.walk _ q.atoms q.own _ q.stands h q.at)
 
 pub walk_over_spec : {M : Type 1} → statement M
 walk_over_spec =
     tie.close
-    (tie.spec invariant-loop decreases-loop (λ c κs. tt) (λ c children h. sweep-start _ _ children _ c.begin.ensures.0 (c.begin.ensures.1.1 _))
-    (λ c. omega (arith, c.loop-test.true, c.before.before.before.before.before.before.before.before.before.requires.1.1.0, c.before.before.before.before.before.before.before.before.before.requires.1.0)) (λ c. omega (arith, c.before.loop-test.true, c.before.before.before.before.before.before.before.before.before.before.requires.1.1.0, c.before.before.before.before.before.before.before.before.before.before.requires.1.0)) (λ c κs. tt) (λ c κs. tt) enter-pruned-requires
-    (λ c. omega (arith, c.before.before.before.before.loop-test.true, c.before.before.before.before.before.before.before.before.before.before.before.before.before.requires.1.1.0)) (λ c. omega (arith, c.before.before.before.before.loop-test.true, c.before.before.before.before.before.before.before.before.before.before.before.before.before.requires.1.1.0, c.before.before.atoms-of.ensures.1))
-    (λ c. omega (arith, c.before.before.before.before.loop-test.true, c.before.before.before.before.before.before.before.before.before.before.before.before.before.requires.1.1.0, c.before.before.atoms-of.ensures.1, c.before.tokens-of.ensures.1))
-    (λ c. omega (arith, c.before.before.before.before.loop-test.true)) loop-again (λ c children h. sweep-end (c.before.loop.invariant children h) _ h c.loop-test.false))
+    (tie.spec invariant-loop decreases-loop (λ c κs. tt) (λ c children h. sweep-start _ _ children _ c.begin-walked.ensures.0 (c.begin-walked.ensures.1.1 _))
+    (λ c. omega (arith, c.loop-place-test.true, c.before.before.before.before.before.before.before.before.before.requires.1.1.0, c.before.before.before.before.before.before.before.before.before.requires.1.0)) (λ c. omega (arith, c.before.loop-place-test.true, c.before.before.before.before.before.before.before.before.before.before.requires.1.1.0, c.before.before.before.before.before.before.before.before.before.before.requires.1.0)) (λ c κs. tt) (λ c κs. tt) enter-pruned-requires
+    (λ c. omega (arith, c.before.before.before.before.loop-place-test.true, c.before.before.before.before.before.before.before.before.before.before.before.before.before.requires.1.1.0)) (λ c. omega (arith, c.before.before.before.before.loop-place-test.true, c.before.before.before.before.before.before.before.before.before.before.before.before.before.requires.1.1.0, c.before.before.atoms_of-atoms.ensures.1))
+    (λ c. omega (arith, c.before.before.before.before.loop-place-test.true, c.before.before.before.before.before.before.before.before.before.before.before.before.before.requires.1.1.0, c.before.before.atoms_of-atoms.ensures.1, c.before.tokens_of-tokens.ensures.1))
+    (λ c. omega (arith, c.before.before.before.before.loop-place-test.true)) loop-again (λ c children h. sweep-end (c.before.loop-place.invariant children h) _ h c.loop-place-test.false))

@@ -7,21 +7,21 @@ use Rattle.steps.proofs.Handing.{Filled, fill_start, fill-turn, fill_end}
 use Rattle.steps.proofs.tidying.atoms_in.Statement.{statement}
 use Rattle.steps.proofs.tidying.atoms_in.Tie as tie
 
-abbrev invariant-loop : tie.invariant-loop
+abbrev invariant-loop : tie.invariant-loop-i
 invariant-loop list n atoms₀ i₀ atoms i =
     (i ≤ n) × ((atoms.count ≡ n) × ((length atoms.number ≡ 64) × ((length atoms.set ≡ 64) × Filled list atoms.number atoms.set i)))
 
-abbrev decreases-loop : tie.decreases-loop
+abbrev decreases-loop : tie.decreases-loop-i
 decreases-loop list n atoms₀ i₀ atoms i = n - i
 
-loop-again : tie.Need-loop-preserved invariant-loop decreases-loop
+loop-again : tie.Need-loop-i-preserved invariant-loop decreases-loop
 loop-again c =
-    let inv = c.before.before.loop.invariant in
+    let inv = c.before.before.loop-i.invariant in
     (omega arith, (inv.1.0, (simp length-set inv.1.1.0, (simp length-set inv.1.1.1.0, fill-turn (omega arith) (omega arith) inv.1.1.1.1))))
 
 returns : tie.Need-returns invariant-loop decreases-loop
 returns c =
-    let loop = c.before.loop in
+    let loop = c.before.loop-i in
     let inv = loop.invariant in (
       inv.1.0,
       λ t l h.

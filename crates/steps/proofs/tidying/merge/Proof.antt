@@ -11,42 +11,42 @@ use Rattle.tape.specs.Storing.{ahead-start, ahead-later, ahead-too, rest-ahead}
 use Rattle.steps.proofs.tidying.merge.Statement.{statement}
 use Rattle.steps.proofs.tidying.merge.Tie as tie
 
-abbrev invariant-loop : tie.invariant-loop
+abbrev invariant-loop : tie.invariant-loop-i
 invariant-loop coefficient monomial terms variables list₀ n count₀ i₀ list count i =
     (i ≤ n) × ((count ≤ i) × ((length list ≡ length list₀) × (Ahead list list₀ i
     × ((l : List ℕ) → Lists (row_of list₀ n) l → Merging (table_of coefficient monomial terms variables) l (row_of list count) (drop i l)))))
 
-abbrev decreases-loop : tie.decreases-loop
+abbrev decreases-loop : tie.decreases-loop-i
 decreases-loop coefficient monomial terms variables list₀ n count₀ i₀ list count i = n - i
 
-is-open : tie.Need-loop-preserved invariant-loop decreases-loop
+is-open : tie.Need-loop-i-preserved-in-Open invariant-loop decreases-loop
 is-open c =
     let called = c.before.before in
-    let loop = called.before.before.before.before.before.before.before.loop in
-    let test = called.before.before.before.before.before.before.loop-test.true in
+    let loop = called.before.before.before.before.before.before.before.loop-i in
+    let test = called.before.before.before.before.before.before.loop-i-test.true in
     let inv = loop.invariant in
     let ahead = inv.1.1.1.0 in
-    let into = called.merge_into.ensures in (
+    let into = called.merge_into-count.ensures in (
       omega (arith, test),
       (
         omega (arith, inv.1.0, into.0),
         (
-          called.merge_into.auto.0 ∙ inv.1.1.0,
+          called.merge_into-count.auto.0 ∙ inv.1.1.0,
           (
             ahead-too (ahead-later (loop.i + 1) into.1.0 (omega (arith, inv.1.0))) (ahead-later (loop.i + 1) ahead (omega arith)),
             λ l h.
                 let m = rw (rest-ahead {i = loop.i} h (omega (arith, h.size, test)) ahead) at (inv.1.1.1.1 l h) in
-                merge-open m _ called.before.before.before.before.if-constant.ensures called.before.before.enum_told.given.1 _
+                merge-open m _ called.before.before.before.before.if_constant-constant.ensures called.before.before.enum_told-1.given.1 _
                 (into.1.1 _ m.list called.before.before.before.before.before.before.before.before.before.before.before.requires.0 m.lists),
           ),
         ),
       ),
     )
 
-is_true : tie.Need-loop-preserved-2 invariant-loop decreases-loop
+is_true : tie.Need-loop-i-preserved invariant-loop decreases-loop
 is_true c =
-    let loop = c.before.before.before.before.before.loop in
-    let test = c.before.before.before.before.loop-test.true in
+    let loop = c.before.before.before.before.before.loop-i in
+    let test = c.before.before.before.before.loop-i-test.true in
     let inv = loop.invariant in
     let ahead = inv.1.1.1.0 in (
       omega (arith, test),
@@ -56,33 +56,33 @@ is_true c =
           inv.1.1.0,
           (
             ahead-later (loop.i + 1) ahead (omega arith),
-            λ l h. merge-true (rw (rest-ahead {i = loop.i} h (omega (arith, h.size, test)) ahead) at (inv.1.1.1.1 l h)) _ c.before.before.if-constant.ensures c.enum-told2.given.1,
+            λ l h. merge-true (rw (rest-ahead {i = loop.i} h (omega (arith, h.size, test)) ahead) at (inv.1.1.1.1 l h)) _ c.before.before.if_constant-constant.ensures c.enum_told-in-True-1.given.1,
           ),
         ),
       ),
     )
 
-is_false : tie.Need-returns invariant-loop decreases-loop
+is_false : tie.Need-returns-in-False invariant-loop decreases-loop
 is_false c =
-    let loop = c.before.before.before.before.before.loop in
+    let loop = c.before.before.before.before.before.loop-i in
     let inv = loop.invariant in (
       omega (arith, inv.0, inv.1.0),
       λ l h.
-          merge-false (rw (rest-ahead {i = loop.i} h (omega (arith, h.size, c.before.before.before.before.loop-test.true)) inv.1.1.1.0) at (inv.1.1.1.1 l h)) _ c.before.before.if-constant.ensures
-          c.enum-told3.given.1,
+          merge-false (rw (rest-ahead {i = loop.i} h (omega (arith, h.size, c.before.before.before.before.loop-i-test.true)) inv.1.1.1.0) at (inv.1.1.1.1 l h)) _ c.before.before.if_constant-constant.ensures
+          c.enum_told-in-False-1.given.1,
     )
 
-returns : tie.Need-returns-2 invariant-loop decreases-loop
+returns : tie.Need-returns invariant-loop decreases-loop
 returns c = (
-  omega (arith, c.before.loop.invariant.0, c.before.loop.invariant.1.0),
-  λ l h. merge-end (rw (rest-none l c.before.loop.i (omega (arith, h.size, c.loop-test.false))) at (c.before.loop.invariant.1.1.1.1 l h)),
+  omega (arith, c.before.loop-i.invariant.0, c.before.loop-i.invariant.1.0),
+  λ l h. merge-end (rw (rest-none l c.before.loop-i.i (omega (arith, h.size, c.loop-i-test.false))) at (c.before.loop-i.invariant.1.1.1.1 l h)),
 )
 
 pub merge_spec : {M : Type 1} → statement M
 merge_spec =
     tie.close
     (tie.spec invariant-loop decreases-loop (λ c. (omega arith, (omega arith, (refl, (ahead-start _ 0, λ l h. merge-start _ l _ (record { is = refl; size = refl })))))) (λ c. omega arith) (λ c. omega arith) (λ c. omega arith)
-    (λ c κs. c.before.before.before.before.before.before.requires.0) (λ c. c.match.keys1)
-    (λ c κs. omega (arith, c.before.before.before.before.before.loop-test.true, c.before.before.before.before.before.before.loop.invariant.1.0, c.before.before.before.before.before.before.loop.invariant.1.1.0, c.before.before.before.before.before.before.before.before.before.before.requires.1)) (λ c. omega (arith, c.before.before.before.before.before.before.before.before.loop-test.true)) is-open
-    (λ c. c.match.keys2) (λ c. omega (arith, c.before.before.before.before.loop-test.true)) is_true (λ c. c.match.keys3) (λ c. c.before.before.before.before.before.loop.invariant.1.1.0) is_false
-    (λ c. c.before.loop.invariant.1.1.0) returns)
+    (λ c κs. c.before.before.before.before.before.before.requires.0) (λ c. c.in-Open.keys1)
+    (λ c κs. omega (arith, c.before.before.before.before.before.loop-i-test.true, c.before.before.before.before.before.before.loop-i.invariant.1.0, c.before.before.before.before.before.before.loop-i.invariant.1.1.0, c.before.before.before.before.before.before.before.before.before.before.requires.1)) (λ c. omega (arith, c.before.before.before.before.before.before.before.before.loop-i-test.true)) is-open
+    (λ c. c.in-Open.keys2) (λ c. omega (arith, c.before.before.before.before.loop-i-test.true)) is_true (λ c. c.in-Open.keys3) (λ c. c.before.before.before.before.before.loop-i.invariant.1.1.0) is_false
+    (λ c. c.before.loop-i.invariant.1.1.0) returns)

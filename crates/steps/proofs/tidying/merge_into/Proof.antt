@@ -11,31 +11,31 @@ use Rattle.steps.proofs.tidying.merge_into.Statement.{statement}
 use Rattle.steps.proofs.tidying.merge_into.Tie as tie
 
 -- nothing is stored while the loop goes on
-abbrev invariant-loop : tie.invariant-loop
+abbrev invariant-loop : tie.invariant-loop-i
 invariant-loop list₀ count token number i₀ list i =
     (i ≤ count) × ((length list ≡ length list₀) × (Ahead list list₀ (count + 1) × ((t : Table) (l : List ℕ) → Forms t → Lists (row_of list₀ count) l → Lists (row_of list count) l × Passing t token l i)))
 
-abbrev decreases-loop : tie.decreases-loop
+abbrev decreases-loop : tie.decreases-loop-i
 decreases-loop list₀ count token number i₀ list i = count - i
 
-found : tie.Need-returns invariant-loop decreases-loop
+found : tie.Need-returns-then-slot_of-number invariant-loop decreases-loop
 found c =
-    let loop = c.before.before.before.before.before.before.before.before.loop in (
+    let loop = c.before.before.before.before.before.before.before.before.loop-i in (
       omega arith,
       (
         ahead-stored loop.i _ loop.invariant.1.1.0 (omega (arith, loop.invariant.0)),
         λ t l forms h.
             let (holds, passing) = loop.invariant.1.1.1 t l forms h in
-            into-found forms holds passing (omega (arith, h.size, c.before.before.before.before.before.before.before.loop-test.true)) _ _ _
-            (sym c.before.before.before.before.before.slot-of2.ensures ∙ c.before.before.before.before.if1.true ∙ c.before.before.before.before.before.before.before.before.before.slot_of.ensures)
-            (rw (c.before.before.before.set-of.ensures, c.before.before.set-of2.ensures) at c.before.intersect.ensures) c.with-set.ensures refl refl,
+            into-found forms holds passing (omega (arith, h.size, c.before.before.before.before.before.before.before.loop-i-test.true)) _ _ _
+            (sym c.before.before.before.before.before.slot_of.ensures ∙ c.before.before.before.before.if-slot_of-number.true ∙ c.before.before.before.before.before.before.before.before.before.slot_of-number.ensures)
+            (rw (c.before.before.before.set_of.ensures, c.before.before.set_of-then-slot_of-number.ensures) at c.before.intersect-set.ensures) c.with_set.ensures refl refl,
       ),
     )
 
-again : tie.Need-loop-preserved invariant-loop decreases-loop
+again : tie.Need-loop-i-preserved invariant-loop decreases-loop
 again c =
-    let loop = c.before.before.before.before.loop in (
-      omega (arith, c.before.before.before.loop-test.true),
+    let loop = c.before.before.before.before.loop-i in (
+      omega (arith, c.before.before.before.loop-i-test.true),
       (
         loop.invariant.1.0,
         (
@@ -43,22 +43,22 @@ again c =
           λ t l forms h.
               let (holds, passing) = loop.invariant.1.1.1 t l forms h in (
                 holds,
-                into-turn forms holds passing (omega (arith, h.size, c.before.before.before.loop-test.true))
-                    (λ e. c.if1.false (c.before.slot-of2.ensures ∙ e ∙ sym c.before.before.before.before.before.slot_of.ensures)),
+                into-turn forms holds passing (omega (arith, h.size, c.before.before.before.loop-i-test.true))
+                    (λ e. c.if-slot_of-number.false (c.before.slot_of.ensures ∙ e ∙ sym c.before.before.before.before.before.slot_of-number.ensures)),
               ),
         ),
       ),
     )
 
-pushed : tie.Need-returns-2 invariant-loop decreases-loop
+pushed : tie.Need-returns invariant-loop decreases-loop
 pushed c =
-    let loop = c.before.loop in (
+    let loop = c.before.loop-i in (
       omega arith,
       (
         ahead-stored _ _ loop.invariant.1.1.0 (omega arith),
         λ t l forms h.
             let (holds, passing) = loop.invariant.1.1.1 t l forms h in
-            into-end passing (omega (arith, h.size, c.loop-test.false)) _ (stored loop.list _ _ (omega (arith, loop.invariant.1.0)) l holds),
+            into-end passing (omega (arith, h.size, c.loop-i-test.false)) _ (stored loop.list _ _ (omega (arith, loop.invariant.1.0)) l holds),
       ),
     )
 
@@ -66,5 +66,5 @@ pub merge_into_spec : {M : Type 1} → statement M
 merge_into_spec =
     tie.close
     (tie.spec invariant-loop decreases-loop (λ c κs. tt) (λ c. (omega arith, (refl, (ahead-start _ _, λ t l forms h. (h, into-start t _ l))))) (λ c. omega arith) (λ c. omega arith) (λ c κs. tt)
-    (λ c κs. tt) (λ c κs. tt) (λ c κs. tt) (λ c κs. tt) (λ c. omega arith) (λ c. omega arith) (λ c. simp length-set c.before.before.before.before.before.before.before.before.loop.invariant.1.0) found (λ c. omega arith) (λ c. omega arith) again
-    (λ c. omega arith) (λ c. omega arith) (λ c. omega arith) (λ c. simp length-set c.before.loop.invariant.1.0) pushed)
+    (λ c κs. tt) (λ c κs. tt) (λ c κs. tt) (λ c κs. tt) (λ c. omega arith) (λ c. omega arith) (λ c. simp length-set c.before.before.before.before.before.before.before.before.loop-i.invariant.1.0) found (λ c. omega arith) (λ c. omega arith) again
+    (λ c. omega arith) (λ c. omega arith) (λ c. omega arith) (λ c. simp length-set c.before.loop-i.invariant.1.0) pushed)

@@ -5,17 +5,17 @@ use Rattle.steps.proofs.Merging.{tidy-broken, tidy-goes}
 use Rattle.steps.proofs.tidying.tidy.Statement.{statement}
 use Rattle.steps.proofs.tidying.tidy.Tie as tie
 
-broken : tie.Need-returns
-broken c l h = let merged = c.before.before.before.merge.ensures in tidy-broken h merged.0 (merged.1 l h) c.if1.true
+broken : tie.Need-returns-then-merged
+broken c l h = let merged = c.before.before.before.merge-merged.ensures in tidy-broken h merged.0 (merged.1 l h) c.if-merged.true
 
-without-full-requires : tie.Need-without-full-requires
-without-full-requires c κs = omega (arith, c.before.before.before.before.merge.ensures.0, c.before.before.before.before.before.before.before.before.before.requires.1)
+without-full-requires : tie.Need-without_full-requires
+without-full-requires c κs = omega (arith, c.before.before.before.before.merge-merged.ensures.0, c.before.before.before.before.before.before.before.before.before.requires.1)
 
-goes : tie.Need-returns-2
+goes : tie.Need-returns
 goes c l h =
-    let merged = c.before.before.before.before.before.before.before.merge.ensures in
+    let merged = c.before.before.before.before.before.before.before.merge-merged.ensures in
     let m = merged.1 l h in
-    tidy-goes h merged.0 m c.before.before.before.before.if1.false (c.before.before.without-full.ensures _ m.list m.lists)
+    tidy-goes h merged.0 m c.before.before.before.before.if-merged.false (c.before.before.without_full.ensures _ m.list m.lists)
 
 pub tidy_spec : {M : Type 1} → statement M
 tidy_spec = tie.close (tie.spec (λ c κs. search rules) (λ c. search rules) broken without-full-requires (λ c. search rules) goes)

@@ -35,7 +35,7 @@ returns c =
       λ earlier l own a b d.
           let headed = stored row.token row.count _ (omega (arith, start.requires, long)) _ a in
           let with-atoms = c.before.before.before.before.before.before.lay.ensures _ _ l headed b (omega (arith, b.size)) in
-          let with-inner = c.before.lay2.ensures _ _ _ (counted with-atoms (omega arith)) d (omega (arith, d.size)) in
+          let with-inner = c.before.lay-2.ensures _ _ _ (counted with-atoms (omega arith)) d (omega (arith, d.size)) in
           child-made earlier l own _ _ b.size d.size (counted with-inner (omega arith)),
     )
 

@@ -8,8 +8,8 @@ use Rattle.tape.proofs.tokens.opposite.Tie as tie
 returns : tie.Need-returns
 returns c =
     let set = c.before.complement.ensures in
-    let small = complement-below c.before.before.set-of.result.0 in
-    rw (sym c.before.before.set-of.ensures) (omega (arith, c.with-set.ensures, set, small))
+    let small = complement-below c.before.before.set_of.result.0 in
+    rw (sym c.before.before.set_of.ensures) (omega (arith, c.with_set.ensures, set, small))
 
 pub opposite_spec : {M : Type 1} → statement M
 opposite_spec = tie.close (tie.spec (λ c κs. search rules) (λ c κs. search rules) (λ c κs. search rules) returns)

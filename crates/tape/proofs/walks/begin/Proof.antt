@@ -6,8 +6,8 @@ use Rattle.tape.proofs.walks.begin.Tie as tie
 
 returns : tie.Need-returns
 returns c = (
-  omega (arith, c.before.empty.ensures.0, c.empty2.ensures.0),
-  (omega (arith, c.before.empty.ensures.0, c.empty2.ensures.0), λ t. begins t _ _ c.before.empty.ensures.1 c.empty2.ensures.1),
+  omega (arith, c.before.empty-new.ensures.0, c.empty-ors.ensures.0),
+  (omega (arith, c.before.empty-new.ensures.0, c.empty-ors.ensures.0), λ t. begins t _ _ c.before.empty-new.ensures.1 c.empty-ors.ensures.1),
 )
 
 pub begin_spec : {M : Type 1} → statement M

@@ -8,7 +8,7 @@ use Rattle.two_atoms.proofs.finding.mirrored.Tie as tie
 
 returns : tie.Need-returns
 unfolding pair_mirrored
-returns c = c.mirror2.ensures ∙ ap mirror (c.before.found.ensures
+returns c = c.mirror-2.ensures ∙ ap mirror (c.before.found.ensures
     ∙ ap (λ (s : SignSet). pair_found s c.before.before.before.args.strict) c.before.before.mirror.ensures)
 
 pub mirrored_spec : {M : Type 1} → statement M

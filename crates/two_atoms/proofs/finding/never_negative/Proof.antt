@@ -9,6 +9,6 @@ use Rattle.two_atoms.proofs.finding.never_negative.Tie as tie
 pub never_negative_spec : {M : Type 1} → statement M
 never_negative_spec =
     tie.close
-    (tie.spec (λ c κs. search rules) (λ c κs. search rules) (λ c. c.non-positive.ensures
-    ∙ negative-below _ _ (rw (back c.before.before.ranges.u) at c.before.if1.true))
-    (λ c. c.non-negative.ensures ∙ negative-from _ _ (rw (back c.before.before.ranges.u) at c.before.if1.false)))
+    (tie.spec (λ c κs. search rules) (λ c κs. search rules) (λ c. c.non_positive.ensures
+    ∙ negative-below _ _ (rw (back c.before.before.ranges.u) at c.before.if-u-lt0.true))
+    (λ c. c.non_negative.ensures ∙ negative-from _ _ (rw (back c.before.before.ranges.u) at c.before.if-u-lt0.false)))

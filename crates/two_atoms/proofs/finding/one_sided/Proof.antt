@@ -9,4 +9,4 @@ pub one_sided_spec : {M : Type 1} → statement M
 one_sided_spec =
     tie.close
     (tie.spec (λ c κs. search rules) (λ c κs. search rules) (λ c κs. search rules)
-    (λ c. c.either.ensures ∙ ap₂ ◌||◌ c.before.before.non-positive.ensures c.before.non-negative.ensures))
+    (λ c. c.either.ensures ∙ ap₂ ◌||◌ c.before.before.non_positive.ensures c.before.non_negative.ensures))

@@ -14,52 +14,52 @@ use Rattle.two_atoms.proofs.Spares.{v-tried, all-spared}
 use Rattle.two_atoms.proofs.pair.cut_by_v.Statement.{statement}
 use Rattle.two_atoms.proofs.pair.cut_by_v.Tie as tie
 
-abbrev invariant-loop : tie.invariant-loop
+abbrev invariant-loop : tie.invariant-loop-i
 invariant-loop coefficient monomial sign pair u all below above sofar₀ i₀ sofar i =
     FactorsWalked (λ (board : Board). SignedOn board monomial sign pair) (λ (board : Board). try_of board coefficient monomial pair (to_z w32 u)) all
     sofar₀.0 sofar.0 i
 
-abbrev decreases-loop : tie.decreases-loop
+abbrev decreases-loop : tie.decreases-loop-i
 decreases-loop coefficient monomial sign pair u all below above sofar₀ i₀ sofar i = 8 - i
 
-returns : tie.Need-returns invariant-loop decreases-loop
+returns : tie.Need-returns-then-both invariant-loop decreases-loop
 returns c =
     let s = c.before.before.before.before.before.before.before.before in
-    let empty = sym c.before.both.ensures ∙ c.if1.true in
-    let first = and_first c.before.before.before.is-empty.result c.before.before.is-empty2.result empty in
-    let second = and_second c.before.before.before.is-empty.result c.before.before.is-empty2.result empty in
+    let empty = sym c.before.both.ensures ∙ c.if-both.true in
+    let first = and_first c.before.before.before.is_empty.result c.before.before.is_empty-2.result empty in
+    let second = and_second c.before.before.before.is_empty.result c.before.before.is_empty-2.result empty in
     by-v s.args.all s.ranges.u
-    (all-spared s.args.all c.before.before.before.before.before.cutting.ensures c.before.before.before.before.cutting2.ensures
-    (c.before.before.before.is-empty.ensures first) (c.before.before.is-empty2.ensures second))
+    (all-spared s.args.all c.before.before.before.before.before.cutting-below.ensures c.before.before.before.before.cutting-above.ensures
+    (c.before.before.before.is_empty.ensures first) (c.before.before.is_empty-2.ensures second))
 
 -- what the try at the index leaves
-tried_here : (c : tie.After-cut-at invariant-loop decreases-loop) → let s =
+tried_here : (c : tie.After-cut_at-cut invariant-loop decreases-loop) → let s =
     c.before.before.before.before.before.before.before.before.before.before.before in
     (board : Board) → SignedOn board s.args.monomial.now s.args.sign.now s.args.pair
-    → c.cut_at.result.0 ≡ cut_in s.args.all c.before.before.loop.sofar.0
+    → c.cut_at-cut.result.0 ≡ cut_in s.args.all c.before.before.loop-i.sofar.0
     (try_of board s.args.coefficient.now s.args.monomial.now s.args.pair (to_z w32 (of_z w32 s.args.u))
-    (factor_at c.before.before.loop.i))
+    (factor_at c.before.before.loop-i.i))
 tried_here c =
     let s = c.before.before.before.before.before.before.before.before.before.before.before in
-    v-tried s.args.all c.before.before.before.before.before.before.before.before.cutting.ensures
-    c.before.before.before.before.before.before.before.cutting2.ensures c.before.before.loop.i
-    (λ board a. c.before.before.loop.invariant.from a) c.cut_at.ensures
+    v-tried s.args.all c.before.before.before.before.before.before.before.before.cutting-below.ensures
+    c.before.before.before.before.before.before.before.cutting-above.ensures c.before.before.loop-i.i
+    (λ board a. c.before.before.loop-i.invariant.from a) c.cut_at-cut.ensures
 
-returns-2 : tie.Need-returns-2 invariant-loop decreases-loop
+returns-2 : tie.Need-returns-then-stops invariant-loop decreases-loop
 returns-2 c =
     let s = c.before.before.before.before.before.before.before.before.before.before.before.before.before in
     by-v s.args.all s.ranges.u
-    (stop-factors c.before.before.before.before.loop.invariant (omega arith) (tried_here c.before.before)
-    (sym c.before.stops.ensures ∙ c.if2.true))
+    (stop-factors c.before.before.before.before.loop-i.invariant (omega arith) (tried_here c.before.before)
+    (sym c.before.stops.ensures ∙ c.if-stops.true))
 
-loop-again : tie.Need-loop-preserved invariant-loop decreases-loop
-loop-again c = walk-factors c.before.before.before.before.loop.invariant (omega arith) (tried_here c.before.before)
-    (sym c.before.stops.ensures ∙ c.if2.false)
+loop-again : tie.Need-loop-i-preserved invariant-loop decreases-loop
+loop-again c = walk-factors c.before.before.before.before.loop-i.invariant (omega arith) (tried_here c.before.before)
+    (sym c.before.stops.ensures ∙ c.if-stops.false)
 
-returns-3 : tie.Need-returns-3 invariant-loop decreases-loop
+returns-3 : tie.Need-returns invariant-loop decreases-loop
 returns-3 c =
     let s = c.before.before.before.before.before.before.before.before.before.before in
-    by-v s.args.all s.ranges.u (end-factors c.before.loop.invariant (omega arith))
+    by-v s.args.all s.ranges.u (end-factors c.before.loop-i.invariant (omega arith))
 
 pub cut_by_v_spec : {M : Type 1} → statement M
 cut_by_v_spec =

@@ -6,23 +6,23 @@ use Rattle.two_atoms.proofs.Spares.{allowed-below, allowed-above, none_below, no
 use Rattle.two_atoms.proofs.range.allowed.Statement.{statement}
 use Rattle.two_atoms.proofs.range.allowed.Tie as tie
 
-returns : tie.Need-returns
-returns c = rw c.before.before.before.if1.true (allowed-above c.before.before.before.before.before.non-positive.ensures
-    c.before.before.before.before.non-negative.ensures c.halves.ensures)
+returns : tie.Need-returns-then-never_negative
+returns c = rw c.before.before.before.if-mirrored.true (allowed-above c.before.before.before.before.before.non_positive-positive.ensures
+    c.before.before.before.before.non_negative-negative.ensures c.halves.ensures)
 
-returns-2 : tie.Need-returns-2
+returns-2 : tie.Need-returns-then-mirrored
 returns-2 c =
     let s = c.before.before.before.before.before in
-    rw c.before.before.if1.true (none_above no-indices (sym (rw (back s.ranges.u) at c.before.never-negative.ensures) ∙ c.if2.false))
+    rw c.before.before.if-mirrored.true (none_above no-indices (sym (rw (back s.ranges.u) at c.before.never_negative.ensures) ∙ c.if-never_negative.false))
 
-returns-3 : tie.Need-returns-3
-returns-3 c = rw c.before.before.before.if1.false (allowed-below c.before.before.before.before.non-negative.ensures
-    c.before.before.before.before.before.non-positive.ensures c.halves2.ensures)
+returns-3 : tie.Need-returns-then-never_positive
+returns-3 c = rw c.before.before.before.if-mirrored.false (allowed-below c.before.before.before.before.non_negative-negative.ensures
+    c.before.before.before.before.before.non_positive-positive.ensures c.halves-then-never_positive.ensures)
 
-returns-4 : tie.Need-returns-4
+returns-4 : tie.Need-returns
 returns-4 c =
     let s = c.before.before.before.before.before in
-    rw c.before.before.if1.false (none_below no-indices (sym (rw (back s.ranges.u) at c.before.never-positive.ensures) ∙ c.if3.false))
+    rw c.before.before.if-mirrored.false (none_below no-indices (sym (rw (back s.ranges.u) at c.before.never_positive.ensures) ∙ c.if-never_positive.false))
 
 pub allowed_spec : {M : Type 1} → statement M
 allowed_spec =

@@ -11,45 +11,45 @@ use Rattle.two_atoms.proofs.RangeWalks.{RangeWalked, range-begun, walk-range, ra
 use Rattle.two_atoms.proofs.range.narrowed.Statement.{statement}
 use Rattle.two_atoms.proofs.range.narrowed.Tie as tie
 
-abbrev invariant-loop : tie.invariant-loop
+abbrev invariant-loop : tie.invariant-loop-i
 invariant-loop coefficient monomial sign u mirrored asked m n o from₀ to₀ i₀ j₀ k₀ from to i j k =
     RangeWalked coefficient monomial sign i₀ m j₀ n k₀ o (to_z w32 u) mirrored from₀ to₀ from to i j k
 
-abbrev decreases-loop : tie.decreases-loop
+abbrev decreases-loop : tie.decreases-loop-i
 decreases-loop coefficient monomial sign u mirrored asked m n o from₀ to₀ i₀ j₀ k₀ from to i j k = m + n + o - (i + j + k)
 
-loop-holds : tie.Need-loop-init invariant-loop decreases-loop
+loop-holds : tie.Need-loop-i-init invariant-loop decreases-loop
 loop-holds c =
     let h = c.before.before.before.requires in
     range-begun h.0.p.ordered h.0.q1.ordered h.0.q2.ordered h.1.ordered h.1.low
 
-returns : tie.Need-returns invariant-loop decreases-loop
+returns : tie.Need-returns-then-to-from invariant-loop decreases-loop
 returns c =
     let s = c.before.before.before.before.before.before in
-    rw (back s.ranges.u) at (range-narrowed {x = s.args.pair} {range = s.args.range} c.before.before.loop.invariant)
+    rw (back s.ranges.u) at (range-narrowed {x = s.args.pair} {range = s.args.range} c.before.before.loop-i.invariant)
 
-next-step-requires : tie.Need-next-step-requires invariant-loop decreases-loop
+next-step-requires : tie.Need-next_step-step-requires invariant-loop decreases-loop
 next-step-requires c κs =
     let h = c.before.before.before.before.before.before.requires.0 in
-    let w = c.before.before.loop.invariant in (
+    let w = c.before.before.loop-i.invariant in (
       (from-within h.p w.first, from-within h.q1 w.second),
       (from-within h.q2 w.third, omega arith),
     )
 
-loop-again : tie.Need-loop-preserved invariant-loop decreases-loop
+loop-again : tie.Need-loop-i-preserved invariant-loop decreases-loop
 loop-again c =
-    let r = c.before.before.before.before.before.before.next-step in
-    let x : SFits w64 r.result.x = record { sfits = c.before.before.before.before.before.struct_told.given.0.1 } in
-    let b : SFits w32 r.result.b = record { sfits = c.before.before.before.before.struct-told2.given.1.0.1 } in
-    walk-range c.before.before.before.before.before.before.before.before.before.loop.invariant r.ensures
-    c.before.before.before.before.before.before.before.before.before.before.asked.ensures
-    (rw (to_z-of_z w64 r.result.x x, back b) at c.before.before.before.raised.ensures)
-    (rw (to_z-of_z w64 r.result.x x, back b) at c.lowered.ensures)
+    let r = c.before.before.before.before.before.before.next_step-step in
+    let x : SFits w64 r.result.x = record { sfits = c.before.before.before.before.before.struct_told-1.given.0.1 } in
+    let b : SFits w32 r.result.b = record { sfits = c.before.before.before.before.struct_told-in-loop-i-1.given.1.0.1 } in
+    walk-range c.before.before.before.before.before.before.before.before.before.loop-i.invariant r.ensures
+    c.before.before.before.before.before.before.before.before.before.before.asked-asked.ensures
+    (rw (to_z-of_z w64 r.result.x x, back b) at c.before.before.before.raised-from.ensures)
+    (rw (to_z-of_z w64 r.result.x x, back b) at c.lowered-to.ensures)
 
-returns-2 : tie.Need-returns-2 invariant-loop decreases-loop
+returns-2 : tie.Need-returns invariant-loop decreases-loop
 returns-2 c =
     let s = c.before.before.before.before.before in
-    rw (back s.ranges.u) at (range-narrowed {x = s.args.pair} {range = s.args.range} c.before.loop.invariant)
+    rw (back s.ranges.u) at (range-narrowed {x = s.args.pair} {range = s.args.range} c.before.loop-i.invariant)
 
 pub narrowed_spec : {M : Type 1} → statement M
 narrowed_spec =

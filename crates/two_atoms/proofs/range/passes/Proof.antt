@@ -9,7 +9,7 @@ use Rattle.two_atoms.proofs.range.passes.Tie as tie
 returns : tie.Need-returns
 returns c =
     let s = c.before.before.before.before in
-    let value = value-at s.args.i s.ranges.x s.ranges.b c.before.before.before.factor.ensures c.before.before.sign-less.ensures
+    let value = value-at s.args.i s.ranges.x s.ranges.b c.before.before.before.factor.ensures c.before.before.sign_less-value.ensures
     in
     c.inside.ensures
     ∙ ap (λ (t : SignSet). inside t s.args.asked.0) (c.before.product.ensures ∙ ap (λ (t : SignSet). product t s.args.s) value)

@@ -11,27 +11,27 @@ use Rattle.two_atoms.proofs.Ranges.{raise-on}
 use Rattle.two_atoms.proofs.range.raised.Statement.{statement}
 use Rattle.two_atoms.proofs.range.raised.Tie as tie
 
-abbrev invariant-loop : tie.invariant-loop
+abbrev invariant-loop : tie.invariant-loop-i
 invariant-loop x b s from to asked i₀ i = Raised (to_z w64 x) (to_z w32 b) s asked.0 from to i
 
-abbrev decreases-loop : tie.decreases-loop
+abbrev decreases-loop : tie.decreases-loop-i
 decreases-loop x b s from to asked i₀ i = to - i
 
-loop-holds : tie.Need-loop-init invariant-loop decreases-loop
+loop-holds : tie.Need-loop-i-init invariant-loop decreases-loop
 loop-holds c = record { ordered = omega arith; within = omega arith; fails = λ i f g. absurd (omega arith) }
 
-returns : tie.Need-returns invariant-loop decreases-loop
+returns : tie.Need-returns-then-passes invariant-loop decreases-loop
 returns c =
     let s = c.before.before.before.before in
-    rw (to_z-of_z w64 s.args.x s.ranges.x, back s.ranges.b) at c.before.before.before.loop.invariant
+    rw (to_z-of_z w64 s.args.x s.ranges.x, back s.ranges.b) at c.before.before.before.loop-i.invariant
 
-loop-again : tie.Need-loop-preserved invariant-loop decreases-loop
-loop-again c = raise-on c.before.before.before.loop.invariant (omega arith) (sym c.before.passes.ensures ∙ c.if1.false)
+loop-again : tie.Need-loop-i-preserved invariant-loop decreases-loop
+loop-again c = raise-on c.before.before.before.loop-i.invariant (omega arith) (sym c.before.passes.ensures ∙ c.if-passes.false)
 
-returns-2 : tie.Need-returns-2 invariant-loop decreases-loop
+returns-2 : tie.Need-returns invariant-loop decreases-loop
 returns-2 c =
     let s = c.before.before in
-    rw (to_z-of_z w64 s.args.x s.ranges.x, back s.ranges.b) at c.before.loop.invariant
+    rw (to_z-of_z w64 s.args.x s.ranges.x, back s.ranges.b) at c.before.loop-i.invariant
 
 pub raised_spec : {M : Type 1} → statement M
 raised_spec =

@@ -12,52 +12,52 @@ use Rattle.why.specs.Way.{tokens-there, refuses-19, refuses-20, atoms-many, told
 use Rattle.why.proofs.reading.explain.Statement.{statement}
 use Rattle.why.proofs.reading.explain.Tie as tie
 
-and-of-atoms-requires : tie.Need-and-of-atoms-requires
+and-of-atoms-requires : tie.Need-and_of_atoms-requires
 and-of-atoms-requires c κs = tokens-there c.before.before.before.before.requires.taken
 
-returns : tie.Need-returns
+returns : tie.Need-returns-then-not-and_of_atoms
 returns c bytes taken =
     let s = c.before.before.before.before.before.before.before in
-    tells-refusal c.refuse.result (refuses-19 taken s.args.room (sym c.before.before.and-of-atoms.ensures
-    ∙ not-true _ c.before.if1.true)) c.refuse.ensures
+    tells-refusal c.refuse.result (refuses-19 taken s.args.room (sym c.before.before.and_of_atoms.ensures
+    ∙ not-true _ c.before.if-not-and_of_atoms.true)) c.refuse.ensures
 
 sub-atoms : tie.Need-overflow-sub-atoms
 sub-atoms c =
     let s = c.before.before.before.before.before.before.before in
     omega (
       arith,
-      atoms-many s.requires.taken (sym c.before.before.and-of-atoms.ensures
-          ∙ not-false _ c.before.if1.false),
-      c.behind-root.ensures,
+      atoms-many s.requires.taken (sym c.before.before.and_of_atoms.ensures
+          ∙ not-false _ c.before.if-not-and_of_atoms.false),
+      c.behind_root.ensures,
     )
 
-returns-2 : tie.Need-returns-2
+returns-2 : tie.Need-returns-then-room-atoms
 returns-2 c bytes taken =
     let s = c.before.before.before.before.before.before.before.before.before in
-    let behind = c.before.before.behind-root.ensures in
-    let only = sym c.before.before.before.before.and-of-atoms.ensures ∙ not-false _ c.before.before.before.if1.false in
-    tells-refusal c.refuse2.result (refuses-20 taken only s.args.room (subst (λ (k : ℕ). s.args.room < s.args.count - k) behind
-    c.before.if2.true)) c.refuse2.ensures
+    let behind = c.before.before.behind_root.ensures in
+    let only = sym c.before.before.before.before.and_of_atoms.ensures ∙ not-false _ c.before.before.before.if-not-and_of_atoms.false in
+    tells-refusal c.refuse-then-room-atoms.result (refuses-20 taken only s.args.room (subst (λ (k : ℕ). s.args.room < s.args.count - k) behind
+    c.before.if-room-atoms.true)) c.refuse-then-room-atoms.ensures
 
-records-of-requires : tie.Need-records-of-requires
+records-of-requires : tie.Need-records_of-found-requires
 records-of-requires c κs =
     let s = c.before.before.before.before.before.before.before.before.before in
     record {
       bytes = s.requires.bytes;
       taken = s.requires.taken;
-      only = sym c.before.before.before.before.and-of-atoms.ensures
-          ∙ not-false _ c.before.before.before.if1.false;
+      only = sym c.before.before.before.before.and_of_atoms.ensures
+          ∙ not-false _ c.before.before.before.if-not-and_of_atoms.false;
     }
 
-returns-3 : tie.Need-returns-3
+returns-3 : tie.Need-returns
 returns-3 c bytes taken =
     let here = c.before.before in
     let s = here.before.before.before.before.before.before.before.before.before.before in
-    let behind = here.before.before.before.behind-root.ensures in
-    let only = sym here.before.before.before.before.before.and-of-atoms.ensures ∙ not-false _
-    here.before.before.before.before.if1.false in
+    let behind = here.before.before.before.behind_root.ensures in
+    let only = sym here.before.before.before.before.before.and_of_atoms.ensures ∙ not-false _
+    here.before.before.before.before.if-not-and_of_atoms.false in
     told-reasons taken only s.args.room (subst (λ (k : ℕ). s.args.count - k ≤ s.args.room) behind (omega arith)) _ (ap
-    (λ (k : ℕ). Explained (s.args.count - k)) behind) (here.records-of.ensures bytes taken)
+    (λ (k : ℕ). Explained (s.args.count - k)) behind) (here.records_of-found.ensures bytes taken)
 
 pub explain_spec : {M : Type 1} → statement M
 explain_spec =

@@ -5,7 +5,7 @@ use Rattle.why.specs.Entry.{tells-refusal, found-refused, found-taken}
 use Rattle.why.proofs.reading.explained.Statement.{statement}
 use Rattle.why.proofs.reading.explained.Tie as tie
 
-read-into-requires : tie.Need-read-into-requires
+read-into-requires : tie.Need-read_into-contents-requires
 read-into-requires c κs = record { coefficients = omega arith; monomials = omega arith; counts = omega arith; tokens = omega arith }
 
 explain-requires : tie.Need-explain-requires
@@ -13,22 +13,22 @@ explain-requires c κs =
     let chosen = c.before.before.before.before.before in
     let reading = chosen.before.before.before.before.before.before in
     let a = reading.before.before.before.before.before.before.args in
-    record { bytes = a.input.now; taken = found-taken reading.read-into.ensures chosen.contents2.given.1 }
+    record { bytes = a.input.now; taken = found-taken reading.read_into-contents.ensures chosen.contents-in-Numbers-1.given.1 }
 
-returns : tie.Need-returns
+returns : tie.Need-returns-in-Refused
 returns c =
     let chosen = c.before.before in
     let reading = chosen.before.before.before.before.before.before in
     let a = reading.before.before.before.before.before.before.args in
-    tells-refusal c.refuse.result (found-refused reading.read-into.ensures a.room chosen.contents.given.1) c.refuse.ensures
+    tells-refusal c.refuse.result (found-refused reading.read_into-contents.ensures a.room chosen.contents-1.given.1) c.refuse.ensures
 
-returns-2 : tie.Need-returns-2
+returns-2 : tie.Need-returns-in-Numbers
 returns-2 c =
     let told = c.before in
     let chosen = told.before.before.before.before.before.before in
     let reading = chosen.before.before.before.before.before.before in
     let a = reading.before.before.before.before.before.before.args in
-    told.explain.ensures a.input.now (found-taken reading.read-into.ensures chosen.contents2.given.1)
+    told.explain.ensures a.input.now (found-taken reading.read_into-contents.ensures chosen.contents-in-Numbers-1.given.1)
 
 pub explained_spec : {M : Type 1} → statement M
 explained_spec =

@@ -26,13 +26,13 @@ held s = let a = s.args in held_by a.variables a.polynomials a.root a.count a.co
 abbrev start : tie.After-work → tie.Start
 start c = c.before.before.before.before.before.before.before.before.before
 
-abbrev working : tie.After-normal-tokens → tie.After-work
+abbrev working : tie.After-normal_tokens → tie.After-work
 working c = c.before.before.before.before.before.before.before.before.before
 
-abbrev normal-of : tie.After-give → tie.After-normal-tokens
+abbrev normal-of : tie.After-give → tie.After-normal_tokens
 normal-of c = c.before.before.before.before
 
-abbrev giving : tie.After-part → tie.After-give
+abbrev giving : tie.After-part-given → tie.After-give
 giving c = c.before.before.before.before.before
 
 abbrev table : tie.After-work → WorkingTable
@@ -41,7 +41,7 @@ table c =
     working_by last.0 last.1.0 last.1.1.0 last.1.1.1.0 last.1.1.1.1.0
 
 -- The row that is cut from the tape is that of the atoms as read.
-module _ (c : tie.After-part) where
+module _ (c : tie.After-part-given) where
   abbrev worked : tie.After-work
   worked = working (normal-of (giving c))
 
@@ -49,18 +49,18 @@ module _ (c : tie.After-part) where
   s = start worked
 
   row : {bytes : List ℕ} (taken : Taken bytes (held s)) → Reads (table_of s.args.variables (table worked)) (atoms_read taken.given)
-      c.part.result
+      c.part-given.result
   row taken =
       let count = s.args.count in
       let tape = (giving c).give.ensures ∙ ap (placed_tokens count) (normal-of (giving c)).normal-tokens.ensures in
       reads taken s.pre.only (table worked) worked.work.ensures (λ k m lists enough.
-      subst (λ (f : ℕ). Lists c.part.result (take (count - f) (drop f m))) c.before.behind-root.ensures
-      (c.part.ensures.1 k m (subst (λ (l : List ℕ). Lists (row_of l k) m) (sym tape) lists) enough))
+      subst (λ (f : ℕ). Lists c.part-given.result (take (count - f) (drop f m))) c.before.behind_root.ensures
+      (c.part-given.ensures.1 k m (subst (λ (l : List ℕ). Lists (row_of l k) m) (sym tape) lists) enough))
 
 work-requires : tie.Need-work-requires
 work-requires c κs = let s = c.before.before.before.before.before.before.before.before in (table-read s.requires.taken, blank-table)
 
-normal-tokens-requires : tie.Need-normal-tokens-requires
+normal-tokens-requires : tie.Need-normal_tokens-requires
 normal-tokens-requires c κs =
     let here = c.before.before.before.before.before.before.before.before in (
       tokens-there
@@ -73,18 +73,18 @@ give-requires : tie.Need-give-requires
 give-requires c κs =
     let here = c.before.before.before in
     let s = start (working here) in
-    (omega (arith, tokens-there s.pre.taken, here.normal-tokens.auto.0), tokens-few s.pre.taken)
+    (omega (arith, tokens-there s.pre.taken, here.normal_tokens.auto.0), tokens-few s.pre.taken)
 
-part-requires : tie.Need-part-requires
+part-requires : tie.Need-part-given-requires
 part-requires c κs =
     let here = c.before.before.before.before in
     let s = start (working (normal-of here)) in
     let taken = s.pre.taken in (
-      omega (arith, atoms-many taken s.pre.only, c.behind-root.ensures),
+      omega (arith, atoms-many taken s.pre.only, c.behind_root.ensures),
       (omega (arith, tokens-there taken, (normal-of here).normal-tokens.auto.0, here.give.auto.0), omega (arith, tokens-few taken)),
     )
 
-tell-all-requires : tie.Need-tell-all-requires
+tell-all-requires : tie.Need-tell_all-requires
 tell-all-requires c κs =
     let here = c.before.before.before in
     let r = row here (s here).requires.taken in (
@@ -103,9 +103,9 @@ returns : tie.Need-returns
 returns c bytes taken =
     let here = c.before.before.before.before in
     let r = row here taken in
-    c.tell-all.ensures (atoms_read taken.given) r.list r.lists r.is
+    c.tell_all.ensures (atoms_read taken.given) r.list r.lists r.is
 
-same_length : tie.Need-same-length
+same_length : tie.Need-shape_of-token
 same_length c =
     let here = giving c.before.before.before.before in
     here.give.kept.0 ∙ (normal-of here).normal-tokens.kept.0

@@ -14,19 +14,19 @@ write_exponents_spec =
     let first = c.before in
     let s = first.before.before in
     let a = s.args in
-    (omega (arith, s.requires.0), rw (exponents-field a.edition a.n a.monomial first.if1.true) at s.requires.1))
+    (omega (arith, s.requires.0), rw (exponents-field a.edition a.n a.monomial first.if-edition-lt2.true) at s.requires.1))
     (λ c. search rules)
     (λ c.
     let field = c.before.before in
     let first = field.before.before in
     let a = first.before.before.args in
-    rw (exponents-field a.edition a.n a.monomial first.if1.true) field.write-field.ensures)
+    rw (exponents-field a.edition a.n a.monomial first.if-edition-lt2.true) field.write_field.ensures)
     (λ c κs. search rules)
     (λ c κs.
     let second = c.before.before in
     let s = second.before.before in
     let a = s.args in
-    (omega arith, room-first (exponents-split a.edition a.n a.monomial second.if1.false (c.pair-count.ensures.0 a.n)) s.requires.1))
+    (omega arith, room-first (exponents-split a.edition a.n a.monomial second.if-edition-lt2.false (c.pair_count.ensures.0 a.n)) s.requires.1))
     (λ c κs.
     let field = c.before.before.before in
     let count = field.before in
@@ -35,8 +35,8 @@ write_exponents_spec =
     let a = s.args in (
       s.requires.0,
       omega arith,
-      room-second (exponents-split a.edition a.n a.monomial second.if1.false (count.pair-count.ensures.0 a.n)) s.requires.1
-          field.write-field2.ensures field.write-field2.auto.0,
+      room-second (exponents-split a.edition a.n a.monomial second.if-edition-lt2.false (count.pair_count.ensures.0 a.n)) s.requires.1
+          field.write_field-pairs.ensures field.write_field-pairs.auto.0,
     ))
     (λ c. search rules)
     (λ c.
@@ -45,5 +45,5 @@ write_exponents_spec =
     let count = field.before in
     let second = count.before.before in
     let a = second.before.before.args in
-    wrote-both (exponents-split a.edition a.n a.monomial second.if1.false (count.pair-count.ensures.0 a.n)) field.write-field2.ensures
-    pairs.write-pairs.ensures))
+    wrote-both (exponents-split a.edition a.n a.monomial second.if-edition-lt2.false (count.pair_count.ensures.0 a.n)) field.write_field-pairs.ensures
+    pairs.write_pairs.ensures))

@@ -8,9 +8,9 @@ use Rattle.deduce.proofs.last.Last.by.Tie as tie
 returns : tie.Need-returns
 returns c = record {
   t = refl;
-  l = rw (c.before.before.before.before.both.ensures, c.before.before.before.before.before.inside.ensures, c.before.before.before.before.before.before.asked.ensures);
-  u = rw (c.before.both2.ensures, c.before.before.inside2.ensures, c.before.before.before.mirror.ensures, c.before.before.before.before.before.before.asked.ensures, asked-mirrored);
-  strict = c.strict-with.ensures;
+  l = rw (c.before.before.before.before.both-l.ensures, c.before.before.before.before.before.inside.ensures, c.before.before.before.before.before.before.asked-asks.ensures);
+  u = rw (c.before.both-u.ensures, c.before.before.inside-2.ensures, c.before.before.before.mirror.ensures, c.before.before.before.before.before.before.asked-asks.ensures, asked-mirrored);
+  strict = c.strict_with-strict.ensures;
 }
 
 pub by_spec : {M : Type 1} → statement M

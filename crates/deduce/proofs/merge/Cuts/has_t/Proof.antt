@@ -7,5 +7,5 @@ use Rattle.deduce.proofs.merge.Cuts.has_t.Tie as tie
 pub has_t_spec : {M : Type 1} → statement M
 has_t_spec =
     tie.close
-    (tie.spec (λ c κs. search rules) (λ c κs. search rules) (λ c. simp (sym c.before.has-t.ensures ∙ c.if1.true))
-    (λ c. simp (sym c.before.before.has-t.ensures ∙ c.before.if1.false) c.has-t2.ensures))
+    (tie.spec (λ c κs. search rules) (λ c κs. search rules) (λ c. simp (sym c.before.has_t.ensures ∙ c.if-has_t.true))
+    (λ c. simp (sym c.before.before.has_t.ensures ∙ c.before.if-has_t.false) c.has_t-else-has_t.ensures))

@@ -7,10 +7,10 @@ use Rattle.interval.proofs.interval.End.at_most.Tie as tie
 returns : tie.Need-returns
 returns c =
     let s = c.before.before.before.before.before.args in
-    let x = c.before.before.before.struct-told2.given in
-    let y = c.before.struct-told4.given in
+    let x = c.before.before.before.struct_told-2-1.given in
+    let y = c.before.struct_told-4-1.given in
     rw (
-      c.at-most.ensures,
+      c.at_most.ensures,
       back {z = s.self.a} (record { sfits = x.0.1 }),
       back {z = s.self.b} (record { sfits = x.1.0.1 }),
       back {z = s.other.a} (record { sfits = y.0.1 }),

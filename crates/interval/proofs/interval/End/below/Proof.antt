@@ -7,8 +7,8 @@ use Rattle.interval.proofs.interval.End.below.Tie as tie
 returns : tie.Need-returns
 returns c =
     let s = c.before.before.before.before.before.args in
-    let x = c.before.before.before.struct-told2.given in
-    let y = c.before.struct-told4.given in
+    let x = c.before.before.before.struct_told-2-1.given in
+    let y = c.before.struct_told-4-1.given in
     rw (
       c.below.ensures,
       back {z = s.self.a} (record { sfits = x.0.1 }),

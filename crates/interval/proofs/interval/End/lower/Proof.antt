@@ -5,13 +5,13 @@ use Rattle.interval.specs.Ends.{lower_end}
 use Rattle.interval.proofs.interval.End.lower.Statement.{statement}
 use Rattle.interval.proofs.interval.End.lower.Tie as tie
 
-returns : tie.Need-returns
+returns : tie.Need-returns-then-at_most
 unfolding lower_end
-returns c = simp (sym c.before.at-most.ensures ∙ c.if1.true)
+returns c = simp (sym c.before.at_most.ensures ∙ c.if-at_most.true)
 
-returns-2 : tie.Need-returns-2
+returns-2 : tie.Need-returns-else-at_most
 unfolding lower_end
-returns-2 c = simp (sym c.before.at-most.ensures ∙ c.if1.false)
+returns-2 c = simp (sym c.before.at_most.ensures ∙ c.if-at_most.false)
 
 pub lower_spec : {M : Type 1} → statement M
 lower_spec = tie.close (tie.spec (λ c κs. search rules) returns returns-2)

@@ -10,20 +10,20 @@ use Rattle.interval.proofs.Values.{not-zero-there}
 use Rattle.interval.proofs.interval.End.not_zero_at.Statement.{statement}
 use Rattle.interval.proofs.interval.End.not_zero_at.Tie as tie
 
-denominator-fits : (c : tie.After-struct-told) → SFits w32 c.before.args.self.b
-denominator-fits c = record { sfits = c.struct_told.given.1.0.1 }
+denominator-fits : (c : tie.After-struct_told-1) → SFits w32 c.before.args.self.b
+denominator-fits c = record { sfits = c.struct_told-1.given.1.0.1 }
 
-returns : tie.Need-returns
+returns : tie.Need-returns-then-d-eq0
 unfolding not_zero_at
-returns c = let s = c.before.before.args.self in rw (no_end s.a s.b (is-zero (denominator-fits c.before) c.if1.true))
+returns c = let s = c.before.before.args.self in rw (no_end s.a s.b (is-zero (denominator-fits c.before) c.if-d-eq0.true))
 
-returns-2 : tie.Need-returns-2
+returns-2 : tie.Need-returns
 returns-2 c =
     let d = c.before.before.before in
     let s = d.before.args in
     let f = d.before.ranges in
-    not-zero-there s.self.a s.self.b s.a s.b _ (not_zero (denominator-fits d) c.before.before.if1.false)
-    (λ t e. rw (back f.a, back f.b) at (c.before.sign_at.ensures t e))
+    not-zero-there s.self.a s.self.b s.a s.b _ (not_zero (denominator-fits d) c.before.before.if-d-eq0.false)
+    (λ t e. rw (back f.a, back f.b) at (c.before.sign_at-value.ensures t e))
 
 pub not_zero_at_spec : {M : Type 1} → statement M
 not_zero_at_spec = tie.close (tie.spec returns (λ c κs. search rules) returns-2)

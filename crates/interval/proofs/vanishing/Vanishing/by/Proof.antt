@@ -9,21 +9,21 @@ use Rattle.interval.specs.Coefficients.{back}
 use Rattle.interval.proofs.vanishing.Vanishing.by.Statement.{statement}
 use Rattle.interval.proofs.vanishing.Vanishing.by.Tie as tie
 
-a-fits : (c : tie.After-struct-told2) → SFits w32 c.before.before.args.self.a
-a-fits c = record { sfits = c.struct-told2.given.0.1 }
+a-fits : (c : tie.After-struct_told-2-1) → SFits w32 c.before.before.args.self.a
+a-fits c = record { sfits = c.struct_told-2-1.given.0.1 }
 
-b-fits : (c : tie.After-struct-told2) → SFits w32 c.before.before.args.self.b
-b-fits c = record { sfits = c.struct-told2.given.1.0.1 }
+b-fits : (c : tie.After-struct_told-2-1) → SFits w32 c.before.before.args.self.b
+b-fits c = record { sfits = c.struct_told-2-1.given.1.0.1 }
 
-returns : tie.Need-returns
+returns : tie.Need-returns-then-self
 unfolding vanish_row counted
-returns c = simp c.if1.true
+returns c = simp c.if-self.true
 
-returns-2 : tie.Need-returns-2
+returns-2 : tie.Need-returns-then-not-is_strict
 unfolding vanish_row counted
-returns-2 c = simp (c.before.before.if1.false, sym c.before.is-strict.ensures ∙ not-true _ c.if2.true)
+returns-2 c = simp (c.before.before.if-self.false, sym c.before.is_strict.ensures ∙ not-true _ c.if-not-is_strict.true)
 
-returns-3 : tie.Need-returns-3
+returns-3 : tie.Need-returns-then-both_zero
 unfolding vanish_row counted
 returns-3 c =
     let s = c.before.before.before.before.before in
@@ -31,12 +31,12 @@ returns-3 c =
     simp (
       back f.a,
       back f.b,
-      c.before.before.before.before.if1.false,
-      sym c.before.before.before.is-strict.ensures ∙ not-false _ c.before.before.if2.false,
-      (rw (back (a-fits s), back (b-fits s)) at (sym c.before.both_zero.ensures ∙ c.if3.true)),
+      c.before.before.before.before.if-self.false,
+      sym c.before.before.before.is_strict.ensures ∙ not-false _ c.before.before.if-not-is_strict.false,
+      (rw (back (a-fits s), back (b-fits s)) at (sym c.before.both_zero.ensures ∙ c.if-both_zero.true)),
     )
 
-returns-4 : tie.Need-returns-4
+returns-4 : tie.Need-returns
 unfolding vanish_row counted
 returns-4 c =
     let s = c.before.before.before.before.before.before in
@@ -46,10 +46,10 @@ returns-4 c =
       back (b-fits s),
       back f.a,
       back f.b,
-      c.apart.ensures,
-      c.before.before.before.before.before.if1.false,
-      sym c.before.before.before.before.is-strict.ensures ∙ not-false _ c.before.before.before.if2.false,
-      (rw (back (a-fits s), back (b-fits s)) at (sym c.before.before.both_zero.ensures ∙ c.before.if3.false)),
+      c.apart-never.ensures,
+      c.before.before.before.before.before.if-self.false,
+      sym c.before.before.before.before.is_strict.ensures ∙ not-false _ c.before.before.before.if-not-is_strict.false,
+      (rw (back (a-fits s), back (b-fits s)) at (sym c.before.before.both_zero.ensures ∙ c.before.if-both_zero.false)),
     )
 
 pub by_spec : {M : Type 1} → statement M

@@ -7,7 +7,7 @@ use Rattle.plain.proofs.tests.Seen.finding.Tie as tie
 
 returns : tie.Need-returns
 unfolding finding_from
-returns c = rw (c.intersect.ensures, c.before.mirror.ensures, c.before.before.found2.ensures, c.before.before.before.found.ensures)
+returns c = rw (c.intersect.ensures, c.before.mirror.ensures, c.before.before.found-2.ensures, c.before.before.before.found.ensures)
 
 pub finding_spec : {M : Type 1} → statement M
 finding_spec = tie.close (tie.spec (λ c κs. search rules) (λ c κs. search rules) (λ c κs. search rules) (λ c κs. search rules) returns)

@@ -8,11 +8,11 @@ returns : tie.Need-returns
 unfolding sign_by
 returns c =
     rw (
-      c.product-of.ensures,
-      c.before.meets-odd.ensures,
-      c.before.before.meets2.ensures,
+      c.product_of.ensures,
+      c.before.meets_odd.ensures,
+      c.before.before.meets-2.ensures,
       c.before.before.before.before.meets.ensures,
-      c.before.before.before.before.before.lacks2.ensures,
+      c.before.before.before.before.before.lacks-2.ensures,
       c.before.before.before.before.before.before.lacks.ensures,
     )
 
