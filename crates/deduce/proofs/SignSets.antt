@@ -98,4 +98,11 @@ asks-zero any e = (refl, (refl, refl))
 -- U asks for the mirrored set
 pub asked-mirrored : (k : Kind) → mirror (named (asked L k)) ≡ named (asked U k)
 unfolding open_signs
-asked-mirrored k = elim k [ ∅ ↦ refl | >0 ↦ refl | =0 ↦ refl | ≥0 ↦ refl | <0 ↦ refl | ≠0 ↦ refl | ≤0 ↦ refl | any ↦ refl ]
+asked-mirrored ∅ = refl
+asked-mirrored >0 = refl
+asked-mirrored =0 = refl
+asked-mirrored ≥0 = refl
+asked-mirrored <0 = refl
+asked-mirrored ≠0 = refl
+asked-mirrored ≤0 = refl
+asked-mirrored any = refl

@@ -31,8 +31,22 @@ row-part a b v c d = solve (a ∷ b ∷ v ∷ c ∷ d ∷ []) (# 0 :* # 2 :* # 4
 
 asked-fits : (side : Side) (k : Kind) → inside (product (named (asked side k)) (named k)) (turned side 3) ≡ true
 unfolding open_signs
-asked-fits L k = elim k [ ∅ ↦ refl | >0 ↦ refl | =0 ↦ refl | ≥0 ↦ refl | <0 ↦ refl | ≠0 ↦ refl | ≤0 ↦ refl | any ↦ refl ]
-asked-fits U k = elim k [ ∅ ↦ refl | >0 ↦ refl | =0 ↦ refl | ≥0 ↦ refl | <0 ↦ refl | ≠0 ↦ refl | ≤0 ↦ refl | any ↦ refl ]
+asked-fits L ∅ = refl
+asked-fits L >0 = refl
+asked-fits L =0 = refl
+asked-fits L ≥0 = refl
+asked-fits L <0 = refl
+asked-fits L ≠0 = refl
+asked-fits L ≤0 = refl
+asked-fits L any = refl
+asked-fits U ∅ = refl
+asked-fits U >0 = refl
+asked-fits U =0 = refl
+asked-fits U ≥0 = refl
+asked-fits U <0 = refl
+asked-fits U ≠0 = refl
+asked-fits U ≤0 = refl
+asked-fits U any = refl
 
 -- What is asked of a t makes the part ≥ 0 (for U: ≤ 0).
 weak-row : (side : Side) (t : Fraction) (x : Row) (v : ℤ) → v ∈ named x.s → combined t x.a x.b ∈ named (asked side x.s)
@@ -73,10 +87,14 @@ zero_in U = by_sign nought refl refl
 -- A sum has the greater strength of its parts.
 pub sum-in : (side : Side) (i j : Strength) → inside (sum (turned side (signs i)) (turned side (signs j))) (turned side (signs (stronger i j))) ≡ true
 unfolding open_signs
-sum-in L weakly j = elim j [ weakly ↦ refl | strictly ↦ refl ]
-sum-in L strictly j = elim j [ weakly ↦ refl | strictly ↦ refl ]
-sum-in U weakly j = elim j [ weakly ↦ refl | strictly ↦ refl ]
-sum-in U strictly j = elim j [ weakly ↦ refl | strictly ↦ refl ]
+sum-in L weakly weakly = refl
+sum-in L weakly strictly = refl
+sum-in L strictly weakly = refl
+sum-in L strictly strictly = refl
+sum-in U weakly weakly = refl
+sum-in U weakly strictly = refl
+sum-in U strictly weakly = refl
+sum-in U strictly strictly = refl
 
 module _ (v : ℕ → ℤ) where
   -- p + tq by the rows.
@@ -123,10 +141,38 @@ Gives side i k w o = inside (sum (turned side (signs i)) (mirror (product k (nam
 -- A t of an allowed sign keeps the strength of p + tq.
 keeps : (side : Side) (i : Strength) (w : Kind) → Gives side i (named (allowed side w)) w i
 unfolding open_signs
-keeps L weakly w = elim w [ ∅ ↦ refl | >0 ↦ refl | =0 ↦ refl | ≥0 ↦ refl | <0 ↦ refl | ≠0 ↦ refl | ≤0 ↦ refl | any ↦ refl ]
-keeps L strictly w = elim w [ ∅ ↦ refl | >0 ↦ refl | =0 ↦ refl | ≥0 ↦ refl | <0 ↦ refl | ≠0 ↦ refl | ≤0 ↦ refl | any ↦ refl ]
-keeps U weakly w = elim w [ ∅ ↦ refl | >0 ↦ refl | =0 ↦ refl | ≥0 ↦ refl | <0 ↦ refl | ≠0 ↦ refl | ≤0 ↦ refl | any ↦ refl ]
-keeps U strictly w = elim w [ ∅ ↦ refl | >0 ↦ refl | =0 ↦ refl | ≥0 ↦ refl | <0 ↦ refl | ≠0 ↦ refl | ≤0 ↦ refl | any ↦ refl ]
+keeps L weakly ∅ = refl
+keeps L weakly >0 = refl
+keeps L weakly =0 = refl
+keeps L weakly ≥0 = refl
+keeps L weakly <0 = refl
+keeps L weakly ≠0 = refl
+keeps L weakly ≤0 = refl
+keeps L weakly any = refl
+keeps L strictly ∅ = refl
+keeps L strictly >0 = refl
+keeps L strictly =0 = refl
+keeps L strictly ≥0 = refl
+keeps L strictly <0 = refl
+keeps L strictly ≠0 = refl
+keeps L strictly ≤0 = refl
+keeps L strictly any = refl
+keeps U weakly ∅ = refl
+keeps U weakly >0 = refl
+keeps U weakly =0 = refl
+keeps U weakly ≥0 = refl
+keeps U weakly <0 = refl
+keeps U weakly ≠0 = refl
+keeps U weakly ≤0 = refl
+keeps U weakly any = refl
+keeps U strictly ∅ = refl
+keeps U strictly >0 = refl
+keeps U strictly =0 = refl
+keeps U strictly ≥0 = refl
+keeps U strictly <0 = refl
+keeps U strictly ≠0 = refl
+keeps U strictly ≤0 = refl
+keeps U strictly any = refl
 
 -- One that is not 0 makes it strict, if q is above or below 0.
 strengthens : (side : Side) (w : Kind) → is_strict w ≡ true → Gives side weakly (intersect (named (allowed side w)) 5) w strictly

@@ -53,8 +53,22 @@ pub data Found01 (side : Side) (k : Kind) (rows : List Row) : Strength → Type 
 
 past-allowed : (side : Side) (k : Kind) → inside (named (past side k)) (named (allowed side k)) ≡ true
 unfolding open_signs
-past-allowed L k = elim k [ ∅ ↦ refl | >0 ↦ refl | =0 ↦ refl | ≥0 ↦ refl | <0 ↦ refl | ≠0 ↦ refl | ≤0 ↦ refl | any ↦ refl ]
-past-allowed U k = elim k [ ∅ ↦ refl | >0 ↦ refl | =0 ↦ refl | ≥0 ↦ refl | <0 ↦ refl | ≠0 ↦ refl | ≤0 ↦ refl | any ↦ refl ]
+past-allowed L ∅ = refl
+past-allowed L >0 = refl
+past-allowed L =0 = refl
+past-allowed L ≥0 = refl
+past-allowed L <0 = refl
+past-allowed L ≠0 = refl
+past-allowed L ≤0 = refl
+past-allowed L any = refl
+past-allowed U ∅ = refl
+past-allowed U >0 = refl
+past-allowed U =0 = refl
+past-allowed U ≥0 = refl
+past-allowed U <0 = refl
+past-allowed U ≠0 = refl
+past-allowed U ≤0 = refl
+past-allowed U any = refl
 
 past-other : (side : Side) (k : Kind) → is_strict k ≡ true → inside (named (past side k)) 5 ≡ true
 unfolding open_signs

@@ -29,9 +29,15 @@ module _ (v : ℕ → ℤ) (board : Board) (fits : (m : ℕ) → v m ∈ monomia
 
 thrice : (s x : Sign) → product_of_signs (product_of_signs (product_of_signs s x) x) x ≡ product_of_signs s x
 unfolding product_of_signs
-thrice negative x = elim x [ negative ↦ refl | nought ↦ refl | positive ↦ refl ]
-thrice nought x = elim x [ negative ↦ refl | nought ↦ refl | positive ↦ refl ]
-thrice positive x = elim x [ negative ↦ refl | nought ↦ refl | positive ↦ refl ]
+thrice negative negative = refl
+thrice negative nought = refl
+thrice negative positive = refl
+thrice nought negative = refl
+thrice nought nought = refl
+thrice nought positive = refl
+thrice positive negative = refl
+thrice positive nought = refl
+thrice positive positive = refl
 
 two-more : (x : ℤ) (e : ℕ) → sign_of (pow x (suc (suc (suc e)))) ≡ sign_of (pow x (suc e))
 unfolding pow

@@ -254,8 +254,22 @@ module _ (r : Interval) (t : Fraction) where
 
   only-allowed : (side : Side) (k : Kind) → Inside (only_allowed side k r) t ↔ ((t.numerator ∈ named (allowed side k)) × Inside r t)
   unfolding only_allowed named
-  only-allowed L k = elim k [ ∅ ↦ none-t | >0 ↦ to-zero | =0 ↦ all-t | ≥0 ↦ to-zero | <0 ↦ from-zero | ≠0 ↦ none-t | ≤0 ↦ from-zero | any ↦ none-t ]
-  only-allowed U k = elim k [ ∅ ↦ none-t | >0 ↦ from-zero | =0 ↦ all-t | ≥0 ↦ from-zero | <0 ↦ to-zero | ≠0 ↦ none-t | ≤0 ↦ to-zero | any ↦ none-t ]
+  only-allowed L ∅ = none-t
+  only-allowed L >0 = to-zero
+  only-allowed L =0 = all-t
+  only-allowed L ≥0 = to-zero
+  only-allowed L <0 = from-zero
+  only-allowed L ≠0 = none-t
+  only-allowed L ≤0 = from-zero
+  only-allowed L any = none-t
+  only-allowed U ∅ = none-t
+  only-allowed U >0 = from-zero
+  only-allowed U =0 = all-t
+  only-allowed U ≥0 = from-zero
+  only-allowed U <0 = to-zero
+  only-allowed U ≠0 = none-t
+  only-allowed U ≤0 = to-zero
+  only-allowed U any = none-t
 
 -- Intervals with the same t have the same allowed ones.
 same-allowed : (side : Side) (k : Kind) {r x : Interval} → Same r x → Same (only_allowed side k r) (only_allowed side k x)

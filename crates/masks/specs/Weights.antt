@@ -152,9 +152,15 @@ not-asked side {x} o k h e = false≢true
 
 mirrored-both : (x z : Sign) → product_of_signs (mirror_of_sign x) (mirror_of_sign z) ≡ product_of_signs x z
 unfolding open_signs
-mirrored-both negative z = elim z [ negative ↦ refl | nought ↦ refl | positive ↦ refl ]
-mirrored-both nought z = elim z [ negative ↦ refl | nought ↦ refl | positive ↦ refl ]
-mirrored-both positive z = elim z [ negative ↦ refl | nought ↦ refl | positive ↦ refl ]
+mirrored-both negative negative = refl
+mirrored-both negative nought = refl
+mirrored-both negative positive = refl
+mirrored-both nought negative = refl
+mirrored-both nought nought = refl
+mirrored-both nought positive = refl
+mirrored-both positive negative = refl
+mirrored-both positive nought = refl
+mirrored-both positive positive = refl
 
 -- A term whose coefficient has the mirrored sign adds the same weight to the other word.
 opposite : (z x : Sign) (board : Board) (t : Term) → sign_of t.coefficient ≡ mirror_of_sign x
@@ -239,15 +245,33 @@ word_sum z board (t ∷ ts) q = ap (bit_or (weighed z board t)) (word_sum z boar
 
 turned-about : (u c z : Sign) → product_of_signs (product_of_signs u c) z ≡ product_of_signs c (product_of_signs u z)
 unfolding product_of_signs
-turned-about negative negative z = elim z [ negative ↦ refl | nought ↦ refl | positive ↦ refl ]
-turned-about negative nought z = elim z [ negative ↦ refl | nought ↦ refl | positive ↦ refl ]
-turned-about negative positive z = elim z [ negative ↦ refl | nought ↦ refl | positive ↦ refl ]
-turned-about nought negative z = elim z [ negative ↦ refl | nought ↦ refl | positive ↦ refl ]
-turned-about nought nought z = elim z [ negative ↦ refl | nought ↦ refl | positive ↦ refl ]
-turned-about nought positive z = elim z [ negative ↦ refl | nought ↦ refl | positive ↦ refl ]
-turned-about positive negative z = elim z [ negative ↦ refl | nought ↦ refl | positive ↦ refl ]
-turned-about positive nought z = elim z [ negative ↦ refl | nought ↦ refl | positive ↦ refl ]
-turned-about positive positive z = elim z [ negative ↦ refl | nought ↦ refl | positive ↦ refl ]
+turned-about negative negative negative = refl
+turned-about negative negative nought = refl
+turned-about negative negative positive = refl
+turned-about negative nought negative = refl
+turned-about negative nought nought = refl
+turned-about negative nought positive = refl
+turned-about negative positive negative = refl
+turned-about negative positive nought = refl
+turned-about negative positive positive = refl
+turned-about nought negative negative = refl
+turned-about nought negative nought = refl
+turned-about nought negative positive = refl
+turned-about nought nought negative = refl
+turned-about nought nought nought = refl
+turned-about nought nought positive = refl
+turned-about nought positive negative = refl
+turned-about nought positive nought = refl
+turned-about nought positive positive = refl
+turned-about positive negative negative = refl
+turned-about positive negative nought = refl
+turned-about positive negative positive = refl
+turned-about positive nought negative = refl
+turned-about positive nought nought = refl
+turned-about positive nought positive = refl
+turned-about positive positive negative = refl
+turned-about positive positive nought = refl
+turned-about positive positive positive = refl
 
 weigh-times : (z : Sign) (u c : ℤ) (m : ℕ) (s : SignSet) → weigh z (sign_of (u *ℤ c)) m s ≡ weigh (product_of_signs (sign_of u) z) (sign_of c) m s
 unfolding weigh

@@ -54,13 +54,41 @@ wanted U = wanted_u
 
 pub asks-as : (side : Side) (k : Kind) → asks side k ≡ named (asked side k)
 unfolding asks_l asks_u open_signs
-asks-as L k = elim k [ ∅ ↦ refl | >0 ↦ refl | =0 ↦ refl | ≥0 ↦ refl | <0 ↦ refl | ≠0 ↦ refl | ≤0 ↦ refl | any ↦ refl ]
-asks-as U k = elim k [ ∅ ↦ refl | >0 ↦ refl | =0 ↦ refl | ≥0 ↦ refl | <0 ↦ refl | ≠0 ↦ refl | ≤0 ↦ refl | any ↦ refl ]
+asks-as L ∅ = refl
+asks-as L >0 = refl
+asks-as L =0 = refl
+asks-as L ≥0 = refl
+asks-as L <0 = refl
+asks-as L ≠0 = refl
+asks-as L ≤0 = refl
+asks-as L any = refl
+asks-as U ∅ = refl
+asks-as U >0 = refl
+asks-as U =0 = refl
+asks-as U ≥0 = refl
+asks-as U <0 = refl
+asks-as U ≠0 = refl
+asks-as U ≤0 = refl
+asks-as U any = refl
 
 wanted-as : (side : Side) (k : Kind) → wanted side k ≡ named (allowed side k)
 unfolding wanted_l wanted_u open_signs
-wanted-as L k = elim k [ ∅ ↦ refl | >0 ↦ refl | =0 ↦ refl | ≥0 ↦ refl | <0 ↦ refl | ≠0 ↦ refl | ≤0 ↦ refl | any ↦ refl ]
-wanted-as U k = elim k [ ∅ ↦ refl | >0 ↦ refl | =0 ↦ refl | ≥0 ↦ refl | <0 ↦ refl | ≠0 ↦ refl | ≤0 ↦ refl | any ↦ refl ]
+wanted-as L ∅ = refl
+wanted-as L >0 = refl
+wanted-as L =0 = refl
+wanted-as L ≥0 = refl
+wanted-as L <0 = refl
+wanted-as L ≠0 = refl
+wanted-as L ≤0 = refl
+wanted-as L any = refl
+wanted-as U ∅ = refl
+wanted-as U >0 = refl
+wanted-as U =0 = refl
+wanted-as U ≥0 = refl
+wanted-as U <0 = refl
+wanted-as U ≠0 = refl
+wanted-as U ≤0 = refl
+wanted-as U any = refl
 
 -- ---- The tests at one value, in the documents' words.
 

@@ -35,13 +35,21 @@ worst U = positive
 
 worst-first : (side : Side) (y : Sign) → worst side In sum_of_signs (worst side) y
 unfolding open_signs
-worst-first L y = elim y [ negative ↦ record { is = refl } | nought ↦ record { is = refl } | positive ↦ record { is = refl } ]
-worst-first U y = elim y [ negative ↦ record { is = refl } | nought ↦ record { is = refl } | positive ↦ record { is = refl } ]
+worst-first L negative = record { is = refl }
+worst-first L nought = record { is = refl }
+worst-first L positive = record { is = refl }
+worst-first U negative = record { is = refl }
+worst-first U nought = record { is = refl }
+worst-first U positive = record { is = refl }
 
 worst-second : (side : Side) (x : Sign) → worst side In sum_of_signs x (worst side)
 unfolding open_signs
-worst-second L x = elim x [ negative ↦ record { is = refl } | nought ↦ record { is = refl } | positive ↦ record { is = refl } ]
-worst-second U x = elim x [ negative ↦ record { is = refl } | nought ↦ record { is = refl } | positive ↦ record { is = refl } ]
+worst-second L negative = record { is = refl }
+worst-second L nought = record { is = refl }
+worst-second L positive = record { is = refl }
+worst-second U negative = record { is = refl }
+worst-second U nought = record { is = refl }
+worst-second U positive = record { is = refl }
 
 in-first : (side : Side) {a b : SignSet} → worst side In a → Signed b → worst side In sum a b
 unfolding sum
@@ -128,8 +136,22 @@ coefficient_at m p = value_by (one_at m) p
 
 asked-sums : (side : Side) (k : Kind) → inside (sum (named (asked side k)) (named (asked side k))) (named (asked side k)) ≡ true
 unfolding open_signs
-asked-sums L k = elim k [ ∅ ↦ refl | >0 ↦ refl | =0 ↦ refl | ≥0 ↦ refl | <0 ↦ refl | ≠0 ↦ refl | ≤0 ↦ refl | any ↦ refl ]
-asked-sums U k = elim k [ ∅ ↦ refl | >0 ↦ refl | =0 ↦ refl | ≥0 ↦ refl | <0 ↦ refl | ≠0 ↦ refl | ≤0 ↦ refl | any ↦ refl ]
+asked-sums L ∅ = refl
+asked-sums L >0 = refl
+asked-sums L =0 = refl
+asked-sums L ≥0 = refl
+asked-sums L <0 = refl
+asked-sums L ≠0 = refl
+asked-sums L ≤0 = refl
+asked-sums L any = refl
+asked-sums U ∅ = refl
+asked-sums U >0 = refl
+asked-sums U =0 = refl
+asked-sums U ≥0 = refl
+asked-sums U <0 = refl
+asked-sums U ≠0 = refl
+asked-sums U ≤0 = refl
+asked-sums U any = refl
 
 asked-zero : (side : Side) (k : Kind) → pos 0 ∈ named (asked side k)
 unfolding open_signs

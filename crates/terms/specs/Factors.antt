@@ -53,10 +53,14 @@ has-square t s = has-set_of (λ t. some_sign (λ x. has x s && has t (only (prod
 
 of-three : (n z p : Bool)
     → ((n && false) || (z && false) || (p && false) ≡ false) × ((n && false) || (z && true) || (p && false) ≡ z) × ((n && true) || (z && false) || (p && true) ≡ n || p)
-of-three true true p = elim p [ true ↦ (refl, refl, refl) | false ↦ (refl, refl, refl) ]
-of-three true false p = elim p [ true ↦ (refl, refl, refl) | false ↦ (refl, refl, refl) ]
-of-three false true p = elim p [ true ↦ (refl, refl, refl) | false ↦ (refl, refl, refl) ]
-of-three false false p = elim p [ true ↦ (refl, refl, refl) | false ↦ (refl, refl, refl) ]
+of-three true true true = (refl, refl, refl)
+of-three true true false = (refl, refl, refl)
+of-three true false true = (refl, refl, refl)
+of-three true false false = (refl, refl, refl)
+of-three false true true = (refl, refl, refl)
+of-three false true false = (refl, refl, refl)
+of-three false false true = (refl, refl, refl)
+of-three false false false = (refl, refl, refl)
 
 square-negative : (s : SignSet) → has negative (square s) ≡ false
 unfolding some_sign only has product_of_signs

@@ -80,8 +80,12 @@ has-barred true (suc (suc (suc (suc (suc (suc (suc (suc s)))))))) h e = absurd (
 -- added to any number they are left
 stays-second : {x : Sign} → Outer x → (y : Sign) → x In sum_of_signs y x
 unfolding open_signs
-stays-second below y = elim y [ negative ↦ record { is = refl } | nought ↦ record { is = refl } | positive ↦ record { is = refl } ]
-stays-second above y = elim y [ negative ↦ record { is = refl } | nought ↦ record { is = refl } | positive ↦ record { is = refl } ]
+stays-second below negative = record { is = refl }
+stays-second below nought = record { is = refl }
+stays-second below positive = record { is = refl }
+stays-second above negative = record { is = refl }
+stays-second above nought = record { is = refl }
+stays-second above positive = record { is = refl }
 
 pub added-in-sum : {x : Sign} → Outer x → {a b : SignSet} → HasSign a → x In b → x In sum a b
 unfolding sum

@@ -195,8 +195,12 @@ pub data Outer : Sign → Type 0 where
 
 pub stays-first : {x : Sign} → Outer x → (y : Sign) → x In sum_of_signs x y
 unfolding open_signs
-stays-first below y = elim y [ negative ↦ record { is = refl } | nought ↦ record { is = refl } | positive ↦ record { is = refl } ]
-stays-first above y = elim y [ negative ↦ record { is = refl } | nought ↦ record { is = refl } | positive ↦ record { is = refl } ]
+stays-first below negative = record { is = refl }
+stays-first below nought = record { is = refl }
+stays-first below positive = record { is = refl }
+stays-first above negative = record { is = refl }
+stays-first above nought = record { is = refl }
+stays-first above positive = record { is = refl }
 
 stays-in-sum : {x : Sign} → Outer x → {a b : SignSet} → x In a → HasSign b → x In sum a b
 unfolding sum
