@@ -27,7 +27,7 @@ deduce-from-requires c κs =
       omega (arith, ready.forms.counts),
       (
         within (run-held (variable_slot s.args.i) ready.forms ready.places (omega (arith, ready.forms.variables)) p.0 p.1 (ready.variables s.args.i low)),
-        within (run-held (atom_slot s.args.t6.number j) ready.forms ready.places (omega arith) q.0 q.1 (ready.atoms j (omega (arith, c.before.before.before.before.loop-j.invariant.1)))),
+        within (run-held (atom_slot s.args.atoms.number j) ready.forms ready.places (omega arith) q.0 q.1 (ready.atoms j (omega (arith, c.before.before.before.before.loop-j.invariant.1)))),
       ),
     )
 

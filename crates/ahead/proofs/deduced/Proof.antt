@@ -26,11 +26,11 @@ sign-slot-requires-2 c κs =
 
 -- the signs of both slots
 signed : (c : tie.After-deduce-alone-arg) → let s = c.before.before.before.before.before.before.before.before.before.before.before.before.before.before.before.before in
-    BothSigned (table s) (sets_of s.args.board) c.before.before.before.sign_slot-2.new.1.1.1.0 (variable_slot s.args.i) (atom_slot s.args.t6.number s.args.j)
+    BothSigned (table s) (sets_of s.args.board) c.before.before.before.sign_slot-2.new.1.1.1.0 (variable_slot s.args.i) (atom_slot s.args.atoms.number s.args.j)
 signed c =
     let s = c.before.before.before.before.before.before.before.before.before.before.before.before.before.before.before.before in
     let (forms, (places, (low, listed))) = s.requires in
-    both-signed {t = table s} s.args.sign.now (variable_slot s.args.i) (atom_slot s.args.t6.number s.args.j) forms places (omega (arith, forms.variables)) (omega arith)
+    both-signed {t = table s} s.args.sign.now (variable_slot s.args.i) (atom_slot s.args.atoms.number s.args.j) forms places (omega (arith, forms.variables)) (omega arith)
     c.before.before.before.before.before.before.before.sign_slot.ensures c.before.before.before.sign_slot-2.ensures
 
 deduce-alone-requires : tie.Need-deduce_alone-requires
@@ -43,7 +43,7 @@ deduce-alone-requires c κs =
       omega (arith, forms.counts),
       (
         within (run-held {t = table s} (variable_slot s.args.i) forms both.places (omega (arith, forms.variables)) p.0 p.1 both.first),
-        within (run-held {t = table s} (atom_slot s.args.t6.number s.args.j) forms both.places (omega arith) q.0 q.1 both.second),
+        within (run-held {t = table s} (atom_slot s.args.atoms.number s.args.j) forms both.places (omega arith) q.0 q.1 both.second),
       ),
     )
 
@@ -55,11 +55,11 @@ returns c none =
     let q = c.before.before.before.before.before.before.before.before.before.before.places-q.ensures in
     let both = signed c.before in
     let own = run-held {t = table s} (variable_slot s.args.i) forms both.places (omega (arith, forms.variables)) p.0 p.1 both.first in
-    let its = run-held {t = table s} (atom_slot s.args.t6.number s.args.j) forms both.places (omega arith) q.0 q.1 both.second in
+    let its = run-held {t = table s} (atom_slot s.args.atoms.number s.args.j) forms both.places (omega arith) q.0 q.1 both.second in
     c.deduce_alone.ensures.on own.signed its.signed none
-    ∙ ap₂ (λ (x y : Polynomial). deduce_of (sets_of s.args.board) x (record { polynomial = y; set = get_or s.args.t6.set s.args.j 0 }))
+    ∙ ap₂ (λ (x y : Polynomial). deduce_of (sets_of s.args.board) x (record { polynomial = y; set = get_or s.args.atoms.set s.args.j 0 }))
     (run-form (table s) (variable_slot s.args.i) p.0 p.1 ∙ forms.each_variable s.args.i low)
-    (run-form (table s) (atom_slot s.args.t6.number s.args.j) q.0 q.1)
+    (run-form (table s) (atom_slot s.args.atoms.number s.args.j) q.0 q.1)
 
 pub deduced_spec : {M : Type 1} → statement M
 deduced_spec =

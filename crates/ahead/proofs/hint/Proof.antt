@@ -12,17 +12,17 @@ use Rattle.ahead.proofs.hint.Statement.{statement}
 use Rattle.ahead.proofs.hint.Tie as tie
 
 abbrev table : tie.Start → Table
-table s = lent_table s.args.coefficient s.args.monomial s.args.terms s.args.t5.variables
+table s = lent_table s.args.coefficient s.args.monomial s.args.terms s.args.board.variables
 
 deduced-requires : tie.Need-deduced-found-requires
 deduced-requires c κs =
     let s = c.before.before.before.before.before.before.before.before.before.before.before.before.before in
     (s.requires.0, (s.requires.1, (omega arith, omega (arith, c.before.before.before.before.before.before.before.before.find-j.ensures, c.before.before.before.before.before.before.before.many.ensures))))
 
-returns-5 : tie.Need-returns
+returns-5 : tie.Need-returns-then-board-i
 returns-5 c =
     let s = c.before.before.before.before.before.before.before.before.before.before.before.before.before.before.before.before.before in
-    let b = s.args.t5 in
+    let b = s.args.board in
     let j = c.before.before.before.before.before.before.before.before.before.before.before.before.find-j.result in
     let listed : j < many s.args.atoms.count = omega (arith, c.before.before.before.before.before.before.before.before.before.before.before.before.find-j.ensures, c.before.before.before.before.before.before.before.before.before.before.before.many.ensures) in
     let low : s.args.i < b.variables = omega (arith, c.before.before.before.before.before.before.before.before.before.before.before.before.before.if-board-i.false) in

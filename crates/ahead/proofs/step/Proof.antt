@@ -26,7 +26,7 @@ returns c =
     let (ready, (low, below)) = s.requires in
     let b = s.args.passed.board in
     let small : s.args.i < few b.variables = omega (arith, ready.forms.variables) in
-    let keeps = floor-keeps (table s) s.args.atoms b s.args.t7 s.args.i below small c.if-old-low.true in
+    let keeps = floor-keeps (table s) s.args.atoms b s.args.floor s.args.i below small c.if-old-low.true in
     record { variables = refl; sets = keeps; ready = ready; still = λ e. (e, sym keeps) }
 
 cut-down-requires : tie.Need-cut_down-new-requires
@@ -62,7 +62,7 @@ sign-list-requires c κs =
     let s = c.before.before.before.before.before.before.before.before.before.before.before.before.before.before.before.before.before in
     (form-slots {t = table s} s.requires.0.forms s.requires.0.places, s.requires.0.forms.variables)
 
-returns-3 : tie.Need-returns
+returns-3 : tie.Need-returns-then-old-low
 returns-3 c =
     let s = c.before.before.before.before.before.before.before.before.before.before.before.before.before.before.before.before.before.before.before.before in
     let b = s.args.passed.board in

@@ -32,7 +32,7 @@ next c =
     reads_on s.args.src.now (turn c.before.before) c.before.before.before.before.loop-left.sofar c.part.result s.requires.0
     c.before.before.before.before.loop-left.invariant.1 c.part.ensures
 
-add-sofar : tie.Need-overflow-add-sofar invariant-loop decreases-loop
+add-sofar : tie.Need-overflow_add-sofar invariant-loop decreases-loop
 add-sofar c =
     let a = c.before.before.before.before.before.before.args in
     record {

@@ -10,13 +10,13 @@ short c =
     let s = c.before.before.before.before.before in
     at_byte s.args.src.now s.args.at s.args.k c.within_eight.ensures
 
-add-result : tie.Need-overflow-add-result
+add-result : tie.Need-overflow_add-result
 add-result c =
     let first = c.before in
     let s = first.before.before.before.before.before in
     omega (arith, two-fit s.args.src.now s.args.at s.args.k s.requires.1 (omega arith) s.requires.0 first.within_eight-2.ensures c.within_eight-3.ensures)
 
-long : tie.Need-returns
+long : tie.Need-returns-then-src-lt8
 long c =
     let first = c.before in
     let s = first.before.before.before.before.before in

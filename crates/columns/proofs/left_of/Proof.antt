@@ -17,7 +17,7 @@ invariant-loop n p columns need₀ low₀ high₀ need low high = Asked columns 
 abbrev decreases-loop : tie.decreases-loop-need
 decreases-loop n p columns need₀ low₀ high₀ need low high = need
 
-cast-k : tie.Need-overflow-cast-k invariant-loop decreases-loop
+cast-k : tie.Need-overflow_cast-k invariant-loop decreases-loop
 cast-k c = let l = c.before.loop-need in let h = lowest-below 64 l.need (omega arith) l.invariant.small in search rules
 
 mul_low : tie.Need-overflow-mul-low invariant-loop decreases-loop
@@ -30,7 +30,7 @@ shared-slice-read-low-2 c =
     let e = c.before.before.before.before.before.requires in
     omega arith
 
-add-high : tie.Need-overflow-add-high invariant-loop decreases-loop
+add-high : tie.Need-overflow_add-high invariant-loop decreases-loop
 add-high c = let l = c.before.before.loop-need in let h = lowest-below 64 l.need (omega arith) l.invariant.small in search rules
 
 mul-high : tie.Need-overflow-mul-high invariant-loop decreases-loop
@@ -43,10 +43,10 @@ shared-slice-read-high-2 c =
     let e = c.before.before.before.before.before.before.requires in
     omega arith
 
-shl-need : tie.Need-overflow-shl-need invariant-loop decreases-loop
+shl-need : tie.Need-overflow_shl-need invariant-loop decreases-loop
 shl-need c = let l = c.before.before.before.loop-need in lowest-below 64 l.need (omega arith) l.invariant.small
 
-sub-need : tie.Need-overflow-sub-need invariant-loop decreases-loop
+sub-need : tie.Need-overflow_sub-need invariant-loop decreases-loop
 sub-need c =
     let l = c.before.before.before.loop-need in
     let h : 0 < l.need = omega arith in

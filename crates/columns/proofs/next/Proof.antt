@@ -7,10 +7,10 @@ use Rattle.columns.specs.Columns.{next_here, next-none, next-lowest}
 use Rattle.columns.proofs.next.Statement.{statement}
 use Rattle.columns.proofs.next.Tie as tie
 
-cast-result : tie.Need-overflow-cast-result
+cast-result : tie.Need-overflow_cast-result
 cast-result c = let d = c.before.before.args in let h = trailing_le 64 (d.word / 2 ^ d.j) in search rules
 
-add-result : tie.Need-overflow-add-result
+add-result : tie.Need-overflow_add-result
 add-result c = let d = c.before.before.args in let h = trailing_le 64 (d.word / 2 ^ d.j) in search rules
 
 pub next_spec : {M : Type 1} → statement M

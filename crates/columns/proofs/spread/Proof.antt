@@ -17,10 +17,10 @@ invariant-loop word from j columns₀ own rest₀ columns rest = Spreading colum
 abbrev decreases-loop : tie.decreases-loop-rest
 decreases-loop word from j columns₀ own rest₀ columns rest = rest
 
-cast-k : tie.Need-overflow-cast-k invariant-loop decreases-loop
+cast-k : tie.Need-overflow_cast-k invariant-loop decreases-loop
 cast-k c = let l = c.before.loop-rest in let h = lowest-below 64 l.rest (omega arith) l.invariant.small in search rules
 
-add-column : tie.Need-overflow-add-column invariant-loop decreases-loop
+add-column : tie.Need-overflow_add-column invariant-loop decreases-loop
 add-column c = let l = c.before.loop-rest in let h = lowest-below 64 l.rest (omega arith) l.invariant.small in search rules
 
 mul-column : tie.Need-overflow-mul-column invariant-loop decreases-loop
@@ -33,16 +33,16 @@ slice-read-column c =
     let e : length l.columns ≡ 130 = l.invariant.more.same_length ∙ c.before.before.before.requires.1.1 in
     omega arith
 
-add-columns : tie.Need-overflow-add-columns invariant-loop decreases-loop
+add-columns : tie.Need-overflow_add-columns invariant-loop decreases-loop
 add-columns c = let l = c.before.before.loop-rest in let h = lowest-below 64 l.rest (omega arith) l.invariant.small in search rules
 
 mul-columns : tie.Need-overflow-mul-columns invariant-loop decreases-loop
 mul-columns c = let l = c.before.before.loop-rest in let h = lowest-below 64 l.rest (omega arith) l.invariant.small in search rules
 
-shl-rest : tie.Need-overflow-shl-rest invariant-loop decreases-loop
+shl-rest : tie.Need-overflow_shl-rest invariant-loop decreases-loop
 shl-rest c = let l = c.before.before.loop-rest in lowest-below 64 l.rest (omega arith) l.invariant.small
 
-sub-rest : tie.Need-overflow-sub-rest invariant-loop decreases-loop
+sub-rest : tie.Need-overflow_sub-rest invariant-loop decreases-loop
 sub-rest c =
     let l = c.before.before.loop-rest in
     let h : 0 < l.rest = omega arith in

@@ -9,7 +9,7 @@ use Rattle.evaluate.specs.Walk.{atom-says, in-slot, slot-inside}
 use Rattle.evaluate.proofs.atom.Statement.{statement}
 use Rattle.evaluate.proofs.atom.Tie as tie
 
-cast-count : tie.Need-overflow-cast-count
+cast-count : tie.Need-overflow_cast-count
 cast-count c = let s = c.before.before.before in omega (arith, s.requires.0.few (s.args.token / 8))
 
 behind-requires : tie.Need-behind-to-requires

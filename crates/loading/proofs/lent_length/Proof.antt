@@ -30,7 +30,7 @@ returns-3 c =
     high.ensures.1 low.ensures.1 in
     lent-all a.area.now (λ five. omega (arith, five, said, c.if-all-said.true))
 
-returns-4 : tie.Need-returns
+returns-4 : tie.Need-returns-then-all-lt5
 returns-4 c =
     let low = c.before.before.wide-2 in
     let high = c.before.before.before.before.wide in
@@ -40,10 +40,10 @@ returns-4 c =
     high.ensures.1 low.ensures.1 in
     lent-said a.area.now _ said (omega (arith, c.before.if-said-lt5.false)) (omega (arith, c.if-all-said.false))
 
-mul-said : tie.Need-overflow-mul-said
+mul-said : tie.Need-overflow_mul-said
 mul-said c = omega (arith, c.wide.ensures.1)
 
-add-said : tie.Need-overflow-add-said
+add-said : tie.Need-overflow_add-said
 add-said c = omega (arith, c.before.before.wide.ensures.1, c.wide-2.ensures.1)
 
 pub lent_length_spec : {M : Type 1} → statement M

@@ -24,7 +24,7 @@ loop-holds c =
       first-within a.area.now first.result (length a.block.now) first.ensures c.before.before.before.before.requires,
     )
 
-add-k : tie.Need-overflow-add-k invariant-loop decreases-loop
+add-k : tie.Need-overflow_add-k invariant-loop decreases-loop
 add-k c = let k = c.before.before.before.before in omega (arith, k.loop-k-test.true)
 
 loop-less : tie.Need-loop-k-smaller invariant-loop decreases-loop

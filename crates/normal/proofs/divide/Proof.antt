@@ -18,7 +18,7 @@ invariant-loop coefficient target₀ from to by divisor i₀ target i =
 abbrev decreases-loop : tie.decreases-loop-i
 decreases-loop coefficient target₀ from to by divisor i₀ target i = to - i
 
-div-target : tie.Need-nonzero-div-target invariant-loop decreases-loop
+div-target : tie.Need-nonzero_div-target invariant-loop decreases-loop
 div-target c =
     let a = c.before.before.before.args in
     (omega arith, quotient_fits (get_or a.coefficient.now c.before.before.loop-i.i (pos 0)) a.by c.c-1.given (omega arith))

@@ -7,13 +7,13 @@ use Rattle.normal.proofs.Numbers.{bounded-back, minus-fits, minus-back, negative
 use Rattle.normal.proofs.magnitude.Statement.{statement}
 use Rattle.normal.proofs.magnitude.Tie as tie
 
-cast-result : tie.Need-overflow-cast-result
+cast-result : tie.Need-overflow_cast-result
 cast-result c =
     let z = c.before.args.c in
     rw (minus-back z c.before.requires)
     (negative-turns z (rw (bounded-back z c.before.requires) at c.if-c-lt0.true), record { fits = rw (magnitude-negated z) (omega arith) })
 
-cast-result-2 : tie.Need-overflow-cast-result-2
+cast-result-2 : tie.Need-overflow_cast-result-2
 cast-result-2 c =
     let z = c.before.args.c in
     let b = bounded-back z c.before.requires in

@@ -23,7 +23,7 @@ returns-2 c =
     let turn = read.before in
     first-beyond turn.before.before.before.requires.0 turn.before.loop-i.invariant turn.loop-i-test.true read.get-pair.ensures c.before.if-variable-least.false c.if-n-variable.true
 
-add-exponents : tie.Need-overflow-add-exponents invariant-loop decreases-loop
+add-exponents : tie.Need-overflow_add-exponents invariant-loop decreases-loop
 add-exponents c =
     let below = c.before.before in
     let read = below.before.before in

@@ -13,7 +13,7 @@ negated_fits : (m : ℕ) → m < 2147483648 → SFits w32 (neg_ℤ (pos m))
 negated_fits zero h = record { sfits = omega arith }
 negated_fits (suc m) h = record { sfits = omega arith }
 
-sub-result : tie.Need-overflow-sub-result
+sub-result : tie.Need-overflow_sub-result
 sub-result c =
     let s = c.before in
     rw (to_z-of_z w32 (pos s.args.magnitude) (record { sfits = s.requires })) (rw (+ℤ_idl (neg_ℤ (pos s.args.magnitude))) (negated_fits s.args.magnitude s.requires))

@@ -10,7 +10,7 @@ use Rattle.reasons.proofs.is_next.Statement.{statement}
 use Rattle.reasons.proofs.is_next.Tie as tie
 
 within : tie.Need-bounds-left-kept
-within c = let long : length c.before.before.args.t1.token ≡ 256 = search rules in omega (arith, long, c.before.before.requires)
+within c = let long : length c.before.before.args.left.token ≡ 256 = search rules in omega (arith, long, c.before.before.requires)
 
 returns : tie.Need-returns-then-kept-left
 returns c l h =
@@ -18,7 +18,7 @@ returns c l h =
     let low : kept < length l = omega (arith, h.size, c.before.before.before.if-kept-left.true) in
     ap₂ eqb c.before.before.place_of.ensures c.place_of-then-kept-left.ensures ∙ sym (next-is h low _)
 
-returns-2 : tie.Need-returns
+returns-2 : tie.Need-returns-then-kept-left
 returns-2 c l h = sym (none-next l c.before.args.kept _ (omega (arith, h.size, c.if-kept-left.false)))
 
 pub is_next_spec : {M : Type 1} → statement M

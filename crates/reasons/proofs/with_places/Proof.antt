@@ -25,7 +25,7 @@ decreases-loop kind set named end words₀ i₀ words i = end - i
 
 element-copy-out-place-of : tie.Need-bounds-named-i invariant-loop decreases-loop
 element-copy-out-place-of c =
-    let long : length c.before.before.args.t3.token ≡ 256 = search rules in
+    let long : length c.before.before.args.named.token ≡ 256 = search rules in
     omega (arith, long, c.before.before.requires)
 
 stored : tie.Need-loop-i-preserved-then-at-lt256 invariant-loop decreases-loop

@@ -15,7 +15,7 @@ small c =
     let least = subst (λ (o : Outcome). size_in o ≤ 2024782) chosen.outcome-in-Written-1.given.1 chosen.before.before.requires in
     record { fits = omega (arith, least) }
 
-sum : tie.Need-overflow-add-result
+sum : tie.Need-overflow_add-result
 unfolding size_in
 sum c =
     let chosen = c.before in

@@ -22,7 +22,7 @@ decreases-loop coefficient monomial terms variables list board atoms end carried
 loop-holds : tie.Need-loop-i-init invariant-loop decreases-loop
 loop-holds c =
     let s = c.before.before.before.before.before in
-    let places : length s.args.t5.set ≡ 64 = search rules in
+    let places : length s.args.list.set ≡ 64 = search rules in
     (omega arith, (c.many-end.ensures, carrying-first _ s.requires.1.1 places))
 
 carried-one-requires : tie.Need-carried_one-one-requires invariant-loop decreases-loop
@@ -37,7 +37,7 @@ carried-one-requires c κs =
 loop-again : tie.Need-loop-i-preserved invariant-loop decreases-loop
 loop-again c =
     let s = c.before.before.before.before.before.before.before.before.before.before in
-    let places : length s.args.t5.number ≡ 64 = search rules in
+    let places : length s.args.list.number ≡ 64 = search rules in
     let (most, (all, carrying)) = c.before.before.before.before.loop-i.invariant in
     let (set_is, next-is) = c.carried_one-one.ensures in
     (omega arith, (all, rw (set_is, next-is) (carrying-next carrying (omega arith) _ (sym c.before.which-holds.ensures.0) (omega arith))))

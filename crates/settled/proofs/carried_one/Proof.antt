@@ -13,8 +13,8 @@ use Rattle.settled.proofs.carried_one.Tie as tie
 more : (c : tie.In-Form) → c.before.before.args.next < 64
 more c = c.before.before.requires.1.1 (ap variable_of c.enum_told-1.given.1)
 
-low : (c : tie.In-Variable-2) → let s = c.before.before in c.holds-1.given.0.0 < s.args.t1.variables
-low c = let s = c.before.before in subst (λ h. Below s.args.t1.variables h) c.holds-1.given.1 s.requires.1.0
+low : (c : tie.In-Variable-2) → let s = c.before.before in c.holds-1.given.0.0 < s.args.board.variables
+low c = let s = c.before.before in subst (λ h. Below s.args.board.variables h) c.holds-1.given.1 s.requires.1.0
 
 returns : tie.Need-returns-in-Form
 unfolding carried_set carried_next
@@ -25,7 +25,7 @@ unfolding carried_set carried_next
 returns-2 c =
     let s = c.before.before.before.before in
     let l = low c.before.before in
-    rw c.before.before.holds-1.given.1 (sym (set_at s.args.t1.sets _ _ (omega (arith, s.requires.0))), refl)
+    rw c.before.before.holds-1.given.1 (sym (set_at s.args.board.sets _ _ (omega (arith, s.requires.0))), refl)
 
 pub carried_one_spec : {M : Type 1} → statement M
 carried_one_spec =

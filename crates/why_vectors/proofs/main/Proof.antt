@@ -4,10 +4,10 @@ use native.Mathlib.Omega.{arith}
 use Rattle.why_vectors.proofs.main.Statement.{statement}
 use Rattle.why_vectors.proofs.main.Tie as tie
 
-abbrev invariant-loop : tie.invariant-loop
+abbrev invariant-loop : tie.invariant-loop-turns
 invariant-loop room₀ turns₀ room turns = Unit {0}
 
-abbrev decreases-loop : tie.decreases-loop
+abbrev decreases-loop : tie.decreases-loop-turns
 decreases-loop room₀ turns₀ room turns = turns
 
 pub main_spec : {M : Type 1} → statement M

@@ -26,7 +26,7 @@ write-parts-requires c κs =
     let start = table.before.before.before.before.before.before in
     tree-ahead _ _ _ _ start.requires.1.writable table.write_table-tree.ensures table.write_table-tree.auto.0
 
-add-size : tie.Need-overflow-add-size
+add-size : tie.Need-overflow_add-size
 add-size c =
     let tree = c.before.before in
     let table = tree.before.before.before.before in

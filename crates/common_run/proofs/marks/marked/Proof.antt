@@ -7,10 +7,10 @@ use Rattle.common_run.proofs.Marking.{not-changed, marked-before, marked-now}
 use Rattle.common_run.proofs.marks.marked.Statement.{statement}
 use Rattle.common_run.proofs.marks.marked.Tie as tie
 
-returns-3 : tie.Need-returns
+returns-3 : tie.Need-returns-then-before-after
 returns-3 c =
     let s = c.before.before.before.before in
-    let sixty-four : length s.args.t1.first ≡ 64 = search rules in
+    let sixty-four : length s.args.marks.first ≡ 64 = search rules in
     marked-now _ _ _ _ _ (omega (arith, s.requires.0)) s.requires.1 (sym c.before.noted.ensures ∙ c.if-noted.false)
 
 pub marked_spec : {M : Type 1} → statement M

@@ -18,7 +18,7 @@ invariant-loop coefficient monomial terms number₀ polynomials i₀ number i =
 abbrev decreases-loop : tie.decreases-loop-i
 decreases-loop coefficient monomial terms number₀ polynomials i₀ number i = polynomials - i
 
-cast-number : tie.Need-overflow-cast-number invariant-loop decreases-loop
+cast-number : tie.Need-overflow_cast-number invariant-loop decreases-loop
 cast-number c =
     let a = c.before.before.before.before.before.before.args in
     record { fits = rw c.find.ensures (omega (arith, number-within a.coefficient.now a.monomial.now a.terms.now c.before.before.loop-i.i)) }

@@ -11,7 +11,7 @@ returns c =
     let f = c.ranges in
     rw (back f.a, back f.b, to_z-of_z w64 _ (widened f.a), to_z-of_z w64 _ (widened f.b)) (to_z-of_z w64 _ (product-fits f.a f.b))
 
-mul-result : tie.Need-overflow-mul-result
+mul-result : tie.Need-overflow_mul-result
 mul-result c =
     let f = c.ranges in
     rw (back f.a, back f.b, to_z-of_z w64 _ (widened f.a), to_z-of_z w64 _ (widened f.b)) (product-fits f.a f.b)

@@ -13,10 +13,10 @@ a-fits c = record { sfits = c.struct_told-1.given.0.1 }
 b-fits : (c : tie.After-struct_told-2-1) → SFits w32 c.before.before.before.before.args.e.b
 b-fits c = record { sfits = c.struct_told-2-1.given.1.0.1 }
 
-cast-a : tie.Need-overflow-cast-a
+cast-a : tie.Need-overflow_cast-a
 cast-a c = rw (to_z-of_z w32 _ (a-fits c)) (widened (a-fits c))
 
-cast-b : tie.Need-overflow-cast-b
+cast-b : tie.Need-overflow_cast-b
 cast-b c = rw (to_z-of_z w32 _ (b-fits c)) (widened (b-fits c))
 
 sub-t6 : tie.Need-overflow-sub-t6

@@ -16,13 +16,13 @@ below c = rw (wide_back c.before.args.c c.before.ranges.c) at c.if-wide-lt0.true
 abbrev not-below : (c : tie.Else-wide-lt0) → lt_z c.before.args.c (pos 0) ≡ false
 not-below c = rw (wide_back c.before.args.c c.before.ranges.c) at c.if-wide-lt0.false
 
-cast-result : tie.Need-overflow-cast-result
+cast-result : tie.Need-overflow_cast-result
 cast-result c =
     let z = c.before.args.c in
     let m = negative-magnitude z (below c) c.before.ranges.c.sfits in
     rw (minus-back z c.before.ranges.c) (negative-turns z (below c), record { fits = omega (arith, m.1) })
 
-mul-result : tie.Need-overflow-mul-result
+mul-result : tie.Need-overflow_mul-result
 mul-result c =
     let z = c.before.args.c in
     let m = negative-magnitude z (below c) c.before.ranges.c.sfits in
@@ -37,19 +37,19 @@ sub-result-2 c =
 returns : tie.Need-returns-then-wide-lt0
 returns c = let z = c.before.args.c in rw (minus-back z c.before.ranges.c) (negative-word z (below c))
 
-cast-result-2 : tie.Need-overflow-cast-result-2
+cast-result-2 : tie.Need-overflow_cast-result-2
 cast-result-2 c =
     let z = c.before.args.c in
     let m = whole-magnitude z (not-below c) c.before.ranges.c.sfits in
     rw (wide_back z c.before.ranges.c) (whole z (not-below c), record { fits = omega (arith, m) })
 
-mul-result-2 : tie.Need-overflow-mul-result-2
+mul-result-2 : tie.Need-overflow_mul-result-2
 mul-result-2 c =
     let z = c.before.args.c in
     let m = whole-magnitude z (not-below c) c.before.ranges.c.sfits in
     rw (wide_back z c.before.ranges.c) (record { fits = omega (arith, m) })
 
-returns-2 : tie.Need-returns
+returns-2 : tie.Need-returns-then-wide-lt0
 returns-2 c = let z = c.before.args.c in rw (wide_back z c.before.ranges.c) (whole_word z (not-below c))
 
 pub coefficient_word_spec : {M : Type 1} → statement M

@@ -11,7 +11,7 @@ returns c =
     let s = c.before.before.before in
     rw c.if-on.true (mark-kept s.args.word s.args.number s.requires _ (sym c.before.before.mark.ensures ∙ c.before.if-mark.true))
 
-sub-result : tie.Need-overflow-sub-result
+sub-result : tie.Need-overflow_sub-result
 sub-result c =
     let s = c.before.before.before in
     mark-there s.args.word s.args.number s.requires (sym c.before.before.mark.ensures ∙ c.before.if-mark.true)
@@ -21,7 +21,7 @@ returns-2 c =
     let s = c.before.before.before in
     rw c.if-on.false (mark-taken s.args.word s.args.number s.requires (sym c.before.before.mark.ensures ∙ c.before.if-mark.true))
 
-add-result : tie.Need-overflow-add-result
+add-result : tie.Need-overflow_add-result
 add-result c =
     let s = c.before.before.before in
     rw (mark-shifted s.args.word s.args.number s.requires) (record { fits = omega (arith, mark-small s.args.word s.args.number s.requires) })
@@ -31,7 +31,7 @@ returns-3 c =
     let s = c.before.before.before in
     rw c.if-on-2.true (mark-given s.args.word s.args.number s.requires (sym c.before.before.mark.ensures ∙ c.before.if-mark.false))
 
-returns-4 : tie.Need-returns
+returns-4 : tie.Need-returns-then-on
 returns-4 c =
     let s = c.before.before.before in
     rw c.if-on-2.false (mark-kept s.args.word s.args.number s.requires _ (sym c.before.before.mark.ensures ∙ c.before.if-mark.false))

@@ -25,7 +25,7 @@ loop-again : tie.Need-loop-i-preserved invariant-loop decreases-loop
 unfolding unless_variable
 loop-again c =
     let l = c.before.before.before.before.loop-i in
-    let list = c.before.before.before.before.before.before.args.t2 in
+    let list = c.before.before.before.before.before.before.args.list in
     let (all, (fit, so_far)) = l.invariant in
     let pushed = c.push-atoms.ensures in (
       all,
@@ -38,7 +38,7 @@ loop-again c =
 returns : tie.Need-returns invariant-loop decreases-loop
 returns c t =
     let l = c.before.loop-i in
-    let list = c.before.before.before.args.t2 in
+    let list = c.before.before.before.args.list in
     sym (append-nil (atoms_of t l.atoms)) ∙ ap (λ (r : List Atom). atoms_of t l.atoms ++ r) (sym (rest-nil t list l.i (omega arith))) ∙ l.invariant.1.1 t
 
 pub joined_spec : {M : Type 1} → statement M

@@ -27,23 +27,23 @@ held_at c =
     let s = c.before.before.before.before.before.before.before in
     let (ready, low) = s.requires in
     let p = c.places-run.ensures in
-    run-held {t = table s} (atom_slot s.args.t6.number s.args.i) ready.forms ready.places (omega arith) p.0 p.1 (ready.atoms s.args.i low)
+    run-held {t = table s} (atom_slot s.args.atoms.number s.args.i) ready.forms ready.places (omega arith) p.0 p.1 (ready.atoms s.args.i low)
 
 -- the sign by terms of the atom's polynomial
 by-is : (c : tie.After-by_terms-by) →
     let s = c.before.before.before.before.before.before.before.before in
-    c.by_terms-by.result.0 ≡ by_terms (sets_of s.args.board) (form_at (table s) (atom_slot s.args.t6.number s.args.i))
+    c.by_terms-by.result.0 ≡ by_terms (sets_of s.args.board) (form_at (table s) (atom_slot s.args.atoms.number s.args.i))
 by-is c =
     let s = c.before.before.before.before.before.before.before.before in
     let p = c.before.places-run.ensures in
-    by-terms-at (table s) (atom_slot s.args.t6.number s.args.i) c.by_terms-by.ensures p.0 p.1 (held_at c.before)
+    by-terms-at (table s) (atom_slot s.args.atoms.number s.args.i) c.by_terms-by.ensures p.0 p.1 (held_at c.before)
 
 cut-by-requires : tie.Need-cut_by-before-requires
 cut-by-requires c κs =
     let s = c.before.before.before.before.before.before.before.before.before in
     (s.requires.0, (omega (arith, s.requires.1), (omega arith, s.requires.0.atoms s.args.i s.requires.1)))
 
-cut-by-requires-2 : tie.Need-cut_by-requires
+cut-by-requires-2 : tie.Need-cut_by-before-requires
 cut-by-requires-2 c κs =
     let s = c.before.before.before.before.before.before.before.before.before.before in
     (s.requires.0, (omega (arith, c.before.before.before.before.before.before.many-n.ensures), (omega arith, s.requires.0.atoms s.args.i s.requires.1)))
@@ -52,7 +52,7 @@ returns : tie.Need-returns
 unfolding cut_atom
 returns c =
     rw (
-      c.cut_by.ensures,
+      c.cut_by-before.ensures,
       c.before.cut_by-before.ensures,
       c.before.before.intersect.ensures,
       by-is c.before.before.before,

@@ -64,7 +64,7 @@ deduce-from-requires c κs =
       omega (arith, ready.forms.counts),
       (
         within (run-held s.args.p ready.forms ready.places low p.0 p.1 signed),
-        within (run-held (atom_slot s.args.t6.number i) ready.forms ready.places (omega arith) q.0 q.1 (ready.atoms i (omega arith))),
+        within (run-held (atom_slot s.args.atoms.number i) ready.forms ready.places (omega arith) q.0 q.1 (ready.atoms i (omega arith))),
       ),
     )
 
@@ -94,7 +94,7 @@ cut_on c v board stands =
 
 -- the board of the call
 stands : (c : tie.Else-any_empty invariant-loop decreases-loop) → let s = c.before.before.before.before.before in
-    Stands (table s) (sets_of s.args.board) s.args.t6 s.args.sign.now s.args.p
+    Stands (table s) (sets_of s.args.board) s.args.atoms s.args.sign.now s.args.p
 stands c =
     let s = c.before.before.before.before.before in
     record { ready = s.requires.fact; own = s.requires.fact_2.0.1.1; none-empty = sym c.before.any_empty.ensures ∙ c.if-any_empty.false }
@@ -105,7 +105,7 @@ returns-3 c =
     let (low, part) = e.before.before.before.before.before.requires.fact_2.1 in
     cut-to-floor _ _ _ c.if-sofar-floor.true low (cut_on c.before.before.before _ _ (stands e)) part
 
-returns-4 : tie.Need-returns invariant-loop decreases-loop
+returns-4 : tie.Need-returns-then-from-to invariant-loop decreases-loop
 returns-4 c = sym (cut-end _ _ _ _ _ _ _ _ c.loop-i-test.false) ∙ c.before.loop-i.invariant _ _ (stands c.before.before.before)
 
 pub cut_down_spec : {M : Type 1} → statement M

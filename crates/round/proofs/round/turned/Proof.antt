@@ -18,16 +18,16 @@ use Rattle.round.proofs.round.turned.Statement.{statement}
 use Rattle.round.proofs.round.turned.Tie as tie
 
 abbrev table : tie.Start → Table
-table s = lent_table s.args.coefficient s.args.monomial s.args.terms s.args.t5.variables
+table s = lent_table s.args.coefficient s.args.monomial s.args.terms s.args.board.variables
 
 returns : tie.Need-returns-then-old-low
 returns c =
     let s = c.before.before.before.before.before.before in
-    let b = s.args.t5 in
+    let b = s.args.board in
     let low : s.args.i < few b.variables = omega (arith, s.requires.0.0.forms.variables, s.requires.0.1) in
     record {
       variables = refl;
-      sets = floor-keeps (table s) s.args.atoms b s.args.t8 s.args.i s.requires.1 low c.if-old-low.true;
+      sets = floor-keeps (table s) s.args.atoms b s.args.floor s.args.i s.requires.1 low c.if-old-low.true;
       ready = s.requires.0.0;
     }
 
@@ -45,7 +45,7 @@ cut-down-requires c κs =
 -- the set that the deductions leave is the book's
 cut-is : (c : tie.After-cut_down-new) →
     let s = c.before.before.before.before.before.before.before.before.before in
-    let b = s.args.t5 in
+    let b = s.args.board in
     c.cut_down-new.result.0
     ≡ cut_by (sets_of b) (variable b.variables s.args.i) (atoms_of (table s) s.args.atoms) (get_or b.sets s.args.i 0)
 cut-is c =
@@ -55,7 +55,7 @@ cut-is c =
 returns-2 : tie.Need-returns-then-new-old
 returns-2 c =
     let s = c.before.before.before.before.before.before.before.before.before.before.before in
-    let b = s.args.t5 in
+    let b = s.args.board in
     let low : s.args.i < few b.variables = omega (arith, s.requires.0.0.forms.variables, s.requires.0.1) in
     record {
       variables = refl;
@@ -63,10 +63,10 @@ returns-2 c =
       ready = s.requires.0.0;
     }
 
-returns-3 : tie.Need-returns
+returns-3 : tie.Need-returns-then-old-low
 returns-3 c =
     let s = c.before.before.before.before.before.before.before.before.before.before.before.before.before.before.before in
-    let b = s.args.t5 in
+    let b = s.args.board in
     let ready = s.requires.0.0 in
     let low : s.args.i < few b.variables = omega (arith, ready.forms.variables, s.requires.0.1) in
     let sixteen : length b.sets ≡ 16 = search rules in

@@ -37,7 +37,7 @@ decreases-loop coefficient monomial terms sign masks columns falls board atoms n
 abbrev table : tie.Start invariant-loop decreases-loop → Table
 table s = lent_table s.args.coefficient s.args.monomial s.args.terms s.args.board.variables
 
-places_of : (s : tie.Start invariant-loop decreases-loop) → length s.args.t9.set ≡ 64
+places_of : (s : tie.Start invariant-loop decreases-loop) → length s.args.atoms.set ≡ 64
 places_of s = search rules
 
 cut-by-pairs-requires : tie.Need-cut_by_pairs-cut-requires invariant-loop decreases-loop
@@ -45,7 +45,7 @@ cut-by-pairs-requires c κs =
     let s = c.before.before.before.before.before.before.before.before.before.before.before in
     let i = c.before.before.before.before.loop-i.i in
     let all = c.before.before.before.before.before.many-n.ensures in
-    let next : i < many s.args.t9.count = omega (arith, all) in
+    let next : i < many s.args.atoms.count = omega (arith, all) in
     let silence = c.silenced-rest.ensures.silenced in
     let (ready, filled) = s.requires.fact in
     ((silenced-ready silence ready, filled), ((omega arith, ready.atoms i next), silenced-words silence s.requires.words))
@@ -53,7 +53,7 @@ cut-by-pairs-requires c κs =
 -- what the pairs of the others leave of the atom's set
 cut-is : (c : tie.After-cut_by_pairs-cut invariant-loop decreases-loop) →
     let s = c.before.before.before.before.before.before.before.before.before.before.before.before in
-    let a = s.args.t9 in
+    let a = s.args.atoms in
     let i = c.before.before.before.before.before.loop-i.i in
     c.cut_by_pairs-cut.result.0 ≡
     cut_in false (get_or a.set i 0) (tries (sets_of s.args.board) (form_at (table s) (atom_slot a.number i)) (others_at (table s) a i))
@@ -61,13 +61,13 @@ cut-is c =
     let s = c.before.before.before.before.before.before.before.before.before.before.before.before in
     let i = c.before.before.before.before.before.loop-i.i in
     c.cut_by_pairs-cut.ensures
-    ∙ ap (cut_in false (get_or s.args.t9.set i 0)) (tries-quieted (c.before.silenced-rest.ensures.quieted (table s)) (sets_of s.args.board) _)
+    ∙ ap (cut_in false (get_or s.args.atoms.set i 0)) (tries-quieted (c.before.silenced-rest.ensures.quieted (table s)) (sets_of s.args.board) _)
 
 returns : tie.Need-returns-then-cut-set invariant-loop decreases-loop
 unfolding when_found
 returns c =
     let s = c.before.before.before.before.before.before.before.before.before.before.before.before.before.before in
-    let a = s.args.t9 in
+    let a = s.args.atoms in
     let l = c.before.before.before.before.before.before.before.loop-i in
     let all = c.before.before.before.before.before.before.before.before.many-n.ensures in
     let next : l.i < many a.count = omega (arith, all) in
@@ -84,16 +84,16 @@ returns c =
 loop-again : tie.Need-loop-i-preserved invariant-loop decreases-loop
 loop-again c =
     let s = c.before.before.before.before.before.before.before.before.before.before.before.before.before.before in
-    let a = s.args.t9 in
+    let a = s.args.atoms in
     let l = c.before.before.before.before.before.before.before.loop-i in
     let here : first_of (table s) s.args.board a l.i ≡ none =
     found_none (get_or a.set l.i 0) _ (cut-is c.before.before) c.if-cut-set.false in
     below_more (λ (j : ℕ). first_of (table s) s.args.board a j ≡ none) l.i l.invariant here
 
-returns-2 : tie.Need-returns invariant-loop decreases-loop
+returns-2 : tie.Need-returns-then-cut-set invariant-loop decreases-loop
 returns-2 c =
     let s = c.before.before.before.before.before.before.before.before in
-    let a = s.args.t9 in
+    let a = s.args.atoms in
     let l = c.before.loop-i in
     let all = c.before.before.many-n.ensures in
     let h : many a.count ≤ l.i = omega (arith, all) in

@@ -36,7 +36,7 @@ loop-again c =
       all,
       (
         stored.auto.0 ∙ words,
-        more-masked s.args.terms.now s.args.t5.number l.masks l.i (omega arith) words
+        more-masked s.args.terms.now s.args.atoms.number l.masks l.i (omega arith) words
             c.before.before.before.before.mask_of_slot-mask.ensures stored.ensures so_far,
       ),
     )

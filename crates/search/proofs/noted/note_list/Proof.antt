@@ -31,7 +31,7 @@ loop-again c =
     let l = c.before.before.before.before.before.before.before.loop-i in
     let (all, (words, so_far)) = l.invariant in
     let after = c.before.before.note.new.1.1.1.0 in
-    let set = get_or s.args.t1.set in
+    let set = get_or s.args.atoms.set in
     let took = subst (λ (q : Mask). Took l.columns l.i q (set l.i 0) after) c.before.before.before.before.mask_at-mask.ensures
     c.before.before.note.ensures in (
       all,

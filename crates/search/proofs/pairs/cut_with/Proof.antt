@@ -39,7 +39,7 @@ abbrev table : tie.Start invariant-loop decreases-loop → Table
 table s = lent_table s.args.coefficient s.args.monomial s.args.terms s.args.board.variables
 
 -- the board of the call
-stands : (s : tie.Start invariant-loop decreases-loop) → Stands (table s) (sets_of s.args.board) s.args.t8 s.args.sign.now s.args.p
+stands : (s : tie.Start invariant-loop decreases-loop) → Stands (table s) (sets_of s.args.board) s.args.atoms s.args.sign.now s.args.p
 stands s = record { ready = s.requires.fact.0; own = s.requires.fact_2.0.1.0; filled = s.requires.fact.1 }
 
 -- the place before the loop
@@ -84,11 +84,11 @@ cut-by-sifted-pair-requires c κs =
     let ready = s.pre.0.0 in
     let (low, (signed, at)) = s.pre.1.0 in
     let (masked, ((own, noted), falling)) = s.pre.1.1 in
-    let slot = atom_slot s.args.t8.number in
+    let slot = atom_slot s.args.atoms.number in
     let i = s.args.i in
     let j = d.loop-j.j in
     let all = d.before.before.before.before.before.before.before.before.many-n.ensures in
-    let next : j < many s.args.t8.count = omega (arith, all) in
+    let next : j < many s.args.atoms.count = omega (arith, all) in
     let p = d.before.before.before.before.before.before.before.places-run.ensures in
     let q1 = d.before.before.before.before.places-q1.ensures in
     let q2 = c.before.places-q2.ensures in (
@@ -146,8 +146,8 @@ returns c =
     let s = start d in
     let l = d.loop-j in
     let all = d.before.before.before.before.before.before.before.before.many-n.ensures in
-    let h : l.j < many s.args.t8.count = omega (arith, all, c.before.before.before.before.before.before.before.loop-j-test.true) in
-    walk-stop s.args.all l.sofar.0 _ _ (l.invariant.1 _ _ (stands s)) (with-step (table s) s.args.t8 _ _ l.j _ h)
+    let h : l.j < many s.args.atoms.count = omega (arith, all, c.before.before.before.before.before.before.before.loop-j-test.true) in
+    walk-stop s.args.all l.sofar.0 _ _ (l.invariant.1 _ _ (stands s)) (with-step (table s) s.args.atoms _ _ l.j _ h)
     (cut-is c.before.before _ _ (stands s)) (sym c.before.stops.ensures ∙ c.if-stops.true)
 
 add-next-2 : tie.Need-overflow-add-next-2 invariant-loop decreases-loop
@@ -185,13 +185,13 @@ loop-again c =
           (cut-is c.before.before.before.before v board k) (sym c.before.before.before.stops.ensures ∙ c.before.before.if-stops.false),
     )
 
-returns-2 : tie.Need-returns invariant-loop decreases-loop
+returns-2 : tie.Need-returns-then-stops invariant-loop decreases-loop
 returns-2 c =
     let d = c.before in
     let s = start d in
     let all = d.before.before.before.before.before.before.before.before.many-n.ensures in
-    let h : many s.args.t8.count ≤ d.loop-j.j = omega (arith, all) in
-    walk_end s.args.all (d.loop-j.invariant.1 _ _ (stands s)) (with-end (table s) s.args.t8 _ _ _ _ h)
+    let h : many s.args.atoms.count ≤ d.loop-j.j = omega (arith, all) in
+    walk_end s.args.all (d.loop-j.invariant.1 _ _ (stands s)) (with-end (table s) s.args.atoms _ _ _ _ h)
 
 pub cut_with_spec : {M : Type 1} → statement M
 cut_with_spec =

@@ -17,13 +17,13 @@ use Rattle.search.proofs.variables.cut_variable.Statement.{statement}
 use Rattle.search.proofs.variables.cut_variable.Tie as tie
 
 abbrev table : tie.Start → Table
-table s = lent_table s.args.coefficient s.args.monomial s.args.terms s.args.t8.variables
+table s = lent_table s.args.coefficient s.args.monomial s.args.terms s.args.board.variables
 
 returns : tie.Need-returns-then-set-low
 returns c =
     let s = c.before.before.before.before.before.before.before.before in
-    let b = s.args.t8 in
-    let f = s.args.t10 in
+    let b = s.args.board in
+    let f = s.args.floor in
     let i = s.args.i in
     let low : i < few b.variables = omega (arith, s.requires.fact.0.forms.variables, s.requires.fact_2.1.1) in
     let same = floor-set b f s.requires.fact.0.forms.variables s.requires.fact_2.0.1 i s.requires.fact_2.1.1 c.if-set-low.true in
@@ -37,7 +37,7 @@ cut-by-pairs-requires c κs =
     let own = s.requires.fact.0.variables s.args.i s.requires.fact_2.1.1 in
     (s.requires.fact, ((omega (arith, s.requires.fact.0.forms.variables, s.requires.fact_2.1.1), own), s.requires.fact_2.1.0))
 
-returns-2 : tie.Need-returns
+returns-2 : tie.Need-returns-then-set-low
 returns-2 c =
     let s = c.before.before.before.before.before.before.before.before.before in
     c.cut_by_pairs.ensures ∙ rw (s.requires.fact.0.forms.each_variable s.args.i s.requires.fact_2.1.1)

@@ -34,9 +34,9 @@ abbrev decreases-loop : tie.decreases-loop-i
 decreases-loop coefficient monomial terms sign masks columns falls atoms floor board n i₀ i = n - i
 
 abbrev table : tie.Start invariant-loop decreases-loop → Table
-table s = lent_table s.args.coefficient s.args.monomial s.args.terms s.args.t8.variables
+table s = lent_table s.args.coefficient s.args.monomial s.args.terms s.args.board.variables
 
-places_of : (s : tie.Start invariant-loop decreases-loop) → length s.args.t8.sets ≡ 16
+places_of : (s : tie.Start invariant-loop decreases-loop) → length s.args.board.sets ≡ 16
 places_of s = search rules
 
 cut-variable-requires : tie.Need-cut_variable-cut-requires invariant-loop decreases-loop
@@ -48,7 +48,7 @@ returns : tie.Need-returns-then-cut-set invariant-loop decreases-loop
 unfolding when_found
 returns c =
     let s = c.before.before.before.before.before.before.before.before.before.before.before in
-    let b = s.args.t8 in
+    let b = s.args.board in
     let l = c.before.before.before.before.before.loop-i in
     let atoms = atoms_of (table s) s.args.atoms in
     let findings = tries (sets_of b) (variable b.variables l.i) atoms in
@@ -70,7 +70,7 @@ returns c =
 loop-again : tie.Need-loop-i-preserved invariant-loop decreases-loop
 loop-again c =
     let s = c.before.before.before.before.before.before.before.before.before.before.before in
-    let b = s.args.t8 in
+    let b = s.args.board in
     let l = c.before.before.before.before.before.loop-i in
     let atoms = atoms_of (table s) s.args.atoms in
     let findings = tries (sets_of b) (variable b.variables l.i) atoms in
@@ -80,10 +80,10 @@ loop-again c =
     rw (set_at b.sets l.i (few b.variables) low) (found_none (get_or b.sets l.i 0) findings cut c.if-cut-set.false) in
     below_more (λ (j : ℕ). first_of (table s) b s.args.atoms j ≡ none) l.i l.invariant here
 
-returns-2 : tie.Need-returns invariant-loop decreases-loop
+returns-2 : tie.Need-returns-then-cut-set invariant-loop decreases-loop
 returns-2 c =
     let s = c.before.before.before.before.before.before.before in
-    let b = s.args.t8 in
+    let b = s.args.board in
     let l = c.before.loop-i in
     let h : b.variables ≤ l.i = omega arith in
     board-nothing (table s) b s.args.atoms (λ j low. l.invariant j (omega arith))

@@ -18,9 +18,9 @@ decreases-loop number list end others₀ next₀ i₀ others next i = end - i
 loop-holds : tie.Need-loop-i-init invariant-loop decreases-loop
 loop-holds c =
     let s = c.before in
-    let numbers : length s.args.t1.number ≡ 64 = search rules in
-    let sets : length s.args.t1.set ≡ 64 = search rules in
-    (omega arith, (c.many-end.ensures, others-first s.args.t1 s.args.number numbers sets))
+    let numbers : length s.args.list.number ≡ 64 = search rules in
+    let sets : length s.args.list.set ≡ 64 = search rules in
+    (omega arith, (c.many-end.ensures, others-first s.args.list s.args.number numbers sets))
 
 -- there is room: no more are stored than passed
 room : (c : tie.Then-number-k invariant-loop decreases-loop) → let l = c.before.before.before.before.loop-i in l.next < 64

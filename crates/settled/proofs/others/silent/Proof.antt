@@ -17,8 +17,8 @@ decreases-loop number list quiet₀ i₀ quiet i = i
 loop-holds : tie.Need-loop-i-init invariant-loop decreases-loop
 loop-holds c =
     let s = c.before in
-    let places : length s.args.t1.set ≡ 64 = search rules in
-    (omega arith, silent-last s.args.t1 s.args.number places c.many-i.ensures)
+    let places : length s.args.list.set ≡ 64 = search rules in
+    (omega arith, silent-last s.args.list s.args.number places c.many-i.ensures)
 
 loop-again : tie.Need-loop-i-preserved-then-number-k invariant-loop decreases-loop
 loop-again c =

@@ -35,7 +35,7 @@ goes-requires c κs =
     let s = c.before.before.before.before.before.before.before.before.before.before.before.before.before in
     let (ready, from) = s.requires.fact in
     let l = c.before.before.before.before.before.loop-i in
-    let afresh = afresh-others s.args.t9 (atoms_of (table s) l.auto.atoms) from (omega (arith, l.invariant.1.0)) l.invariant.1.1.1.0 (c.joined-others.ensures (table s)) in
+    let afresh = afresh-others s.args.list (atoms_of (table s) l.auto.atoms) from (omega (arith, l.invariant.1.0)) l.invariant.1.1.1.0 (c.joined-others.ensures (table s)) in
     ((ready, (from.variables, omega arith)), ((s.requires.fact_2.0.atoms l.i (omega arith), afresh), s.requires.fact_2.1))
 
 fresh-rounds-requires : tie.Need-fresh_rounds-rounds-requires invariant-loop decreases-loop
@@ -43,12 +43,12 @@ fresh-rounds-requires c κs =
     let s = c.before.before.before.before.before.before.before.before.before.before.before.before.before.before.before in
     let (ready, from) = s.requires.fact in
     let l = c.before.before.before.before.before.before.before.loop-i in
-    (ready.forms, afresh-others s.args.t9 (atoms_of (table s) l.auto.atoms) from (omega (arith, l.invariant.1.0)) l.invariant.1.1.1.0 (c.before.before.joined-others.ensures (table s)))
+    (ready.forms, afresh-others s.args.list (atoms_of (table s) l.auto.atoms) from (omega (arith, l.invariant.1.0)) l.invariant.1.1.1.0 (c.before.before.joined-others.ensures (table s)))
 
 loop-again : tie.Need-loop-i-preserved invariant-loop decreases-loop
 loop-again c =
     let s = c.before.before.before.before.before.before.before.before.before.before.before.before.before.before.before.before.before in
-    let a = s.args.t9 in
+    let a = s.args.list in
     let l = c.before.before.before.before.before.before.before.before.before.loop-i in
     let atom : Atom = atom_at (table s) a.number a.set l.i in
     let stays : Bool = stays_by s.args.variables (state_of (table s) s.args.state) atom in

@@ -34,14 +34,14 @@ loop-holds c = (
 -- with one variable more
 more : (c : tie.After-set-1 invariant-loop decreases-loop) →
     let l = c.before.before.loop-i in
-    let sets = c.before.before.before.before.args.t1.sets in
+    let sets = c.before.before.before.before.args.b.sets in
     let s = get_or sets (l.i + 1 - 1) 0 in
     Words sets c.before.before.before.few-n.result (l.i + 1) (16 * l.all + 1) (16 * l.negative + s / 4 % 2) (16 * l.zero + s / 2 % 2) (16 * l.positive + s % 2)
 unfolding bit
 more c =
     let l = c.before.before.loop-i in
     let w = l.invariant.1 in
-    let sets = c.before.before.before.before.args.t1.sets in
+    let sets = c.before.before.before.before.args.b.sets in
     let n = c.before.before.before.few-n.result in
     let h : l.i < n = omega arith in
     let here : l.i + 1 - 1 ≡ l.i = omega arith in
@@ -56,12 +56,12 @@ more c =
 -- each word within 64 bits
 fits : (c : tie.After-set-1 invariant-loop decreases-loop) →
     let l = c.before.before.loop-i in
-    let s = get_or c.before.before.before.before.args.t1.sets (l.i + 1 - 1) 0 in
+    let s = get_or c.before.before.before.before.args.b.sets (l.i + 1 - 1) 0 in
     (16 * l.all + 1 < 18446744073709551616) × ((16 * l.negative + s / 4 % 2 < 18446744073709551616)
     × ((16 * l.zero + s / 2 % 2 < 18446744073709551616) × (16 * l.positive + s % 2 < 18446744073709551616)))
 fits c =
     let w = more c in
-    let sets = c.before.before.before.before.args.t1.sets in
+    let sets = c.before.before.before.before.args.b.sets in
     let n = c.before.before.before.few-n.result in
     let h : n ≤ 16 = omega (arith, c.before.before.loop-i.invariant.0) in (
       built-fits (λ s. true) sets n h w.all-built,

@@ -7,7 +7,7 @@ use Rattle.two_atoms.proofs.Sums.{widened, product-back, plus-fits}
 use Rattle.two_atoms.proofs.sum.plus.Statement.{statement}
 use Rattle.two_atoms.proofs.sum.plus.Tie as tie
 
-add-result : tie.Need-overflow-add-result
+add-result : tie.Need-overflow_add-result
 add-result c =
     let f = c.before.ranges in
     rw (back f.a, to_z-of_z w64 _ (widened f.a), product-back f.u f.b c.cross.ensures) (plus-fits f.a f.u f.b)

@@ -15,7 +15,7 @@ few e h = subst (λ (o : Outcome). Few o) e h
 cast-result-2 : tie.Need-overflow-cast-result-2
 cast-result-2 c = omega (arith, few c.before.outcome-in-Explained-1.given.1 c.before.before.before.requires)
 
-add-result : tie.Need-overflow-add-result
+add-result : tie.Need-overflow_add-result
 add-result c = omega (arith, few c.before.outcome-in-Explained-1.given.1 c.before.before.before.requires)
 
 returns : tie.Need-returns-in-Refused

@@ -21,7 +21,7 @@ returns c bytes taken =
     tells-refusal c.refuse.result (refuses-19 taken s.args.room (sym c.before.before.and_of_atoms.ensures
     ∙ not-true _ c.before.if-not-and_of_atoms.true)) c.refuse.ensures
 
-sub-atoms : tie.Need-overflow-sub-atoms
+sub-atoms : tie.Need-overflow_sub-atoms
 sub-atoms c =
     let s = c.before.before.before.before.before.before.before in
     omega (
@@ -49,7 +49,7 @@ records-of-requires c κs =
           ∙ not-false _ c.before.before.before.if-not-and_of_atoms.false;
     }
 
-returns-3 : tie.Need-returns
+returns-3 : tie.Need-returns-then-not-and_of_atoms
 returns-3 c bytes taken =
     let here = c.before.before in
     let s = here.before.before.before.before.before.before.before.before.before.before in

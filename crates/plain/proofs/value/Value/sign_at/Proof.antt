@@ -9,24 +9,24 @@ use Rattle.plain.proofs.Numbers.{fits, widened, wide, back, held-c, held-d, wide
 use Rattle.plain.proofs.value.Value.sign_at.Statement.{statement}
 use Rattle.plain.proofs.value.Value.sign_at.Tie as tie
 
-cast-ad : tie.Need-overflow-cast-ad
+cast-ad : tie.Need-overflow_cast-ad
 cast-ad c = rw (to_z-of_z w32 _ c.ranges.a) (widened c.ranges.a)
 
-mul-ad : tie.Need-overflow-mul-ad
+mul-ad : tie.Need-overflow_mul-ad
 mul-ad c =
     let s = c.before.before in
     rw (wide s.ranges.a, back s.args.self.d (wider (held-d s.requires.held))) (fits (product-in s.args.a s.args.self.d s.requires.small_pair.first (held-d s.requires.held) (omega arith)))
 
-sub-cb : tie.Need-overflow-sub-cb
+sub-cb : tie.Need-overflow_sub-cb
 sub-cb c =
     let s = c.before.before.before.before in
     let h = held-c s.requires.held in
     rw (back s.args.self.c (wider h)) (fits (minus-in s.args.self.c (wider h)))
 
-cast-cb : tie.Need-overflow-cast-cb
+cast-cb : tie.Need-overflow_cast-cb
 cast-cb c = let s = c.before.before.before.before in rw (to_z-of_z w32 _ s.ranges.b) (widened s.ranges.b)
 
-mul-cb : tie.Need-overflow-mul-cb
+mul-cb : tie.Need-overflow_mul-cb
 mul-cb c =
     let s = c.before.before.before.before in
     let h = held-c s.requires.held in
