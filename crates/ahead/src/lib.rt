@@ -8,7 +8,7 @@ ghost use Rattle.std.specs.Prelude.{◌≡◌, ◌+◌, ◌<◌, ◌≤◌, leng
 ghost use Rattle.terms.specs.View.{sets_of};
 ghost use Rattle.table.specs.Table.{Forms, atom_at, atoms_of, many as many_of};
 ghost use Rattle.rules.specs.Polynomial.{variable};
-ghost use Rattle.rules.specs.Deduce.{any_empty_of as any_empty_of, deduce as deduce_of};
+ghost use Rattle.rules.specs.Deduce.{any_empty as any_empty_of, deduce as deduce_of};
 ghost use Rattle.turn_laws.specs.AfterTurns.{Floor};
 ghost use Rattle.round.specs.Views.{lent_table};
 ghost use Rattle.round.specs.Signing.{Ready};

@@ -90,7 +90,7 @@ pub are-bytes : (bytes : List ℕ) → T (are_bytes bytes) → AllBytes bytes
 are-bytes [] tested = record { below = λ i. lit< tt }
 are-bytes (byte ∷ bytes) tested =
     let others = are-bytes bytes (and_r (ltb byte 256) (are_bytes bytes) tested) in
-    record { below = λ i. elim i [ zero ↦ ltb→lt byte 256 (and_l (ltb byte 256) (are_bytes bytes) tested) | suc k ↦ others.below k ] }
+    record { below = λ i. elim i as (λ k. get_or (byte ∷ bytes) k 0 < 256) [ zero ↦ ltb→lt byte 256 (and_l (ltb byte 256) (are_bytes bytes) tested) | suc k ↦ others.below k ] }
 
 -- Eight bits for a byte.
 pub length-unpack : (bytes : List ℕ) → length (unpack bytes) ≡ 8 * length bytes

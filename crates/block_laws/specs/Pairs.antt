@@ -57,7 +57,7 @@ tested-within n least (suc count) bits rise above =
       below = ltb-true _ _ both.1;
       not_zero = ltb-true _ _ exponents.0;
       four_bits = read_below 4 (drop 4 bits);
-    }) (tested-within n _ count _ least_first.1 exponents.1)
+    }) (tested-within n (suc (value (take 4 bits))) count (drop 4 (drop 4 bits)) least_first.1 exponents.1)
 
 -- ---- Their bits.
 

@@ -138,6 +138,7 @@ above-round {n} {st} {su} {low} t =
 -- What pairs find of a variable leaves no less either.
 board-above : {n : ℕ} {atoms : List Atom} {board : Board} {i : ℕ} {low l m : List SignSet} → Wider low l
     → ((j : ℕ) → j < length low → Every (PartOf (get_or low j full)) (tries board (variable n (i + j)) atoms)) → BoardFound n atoms board i l m → Wider low m
+board-above {n = n} {atoms = atoms} {board = board} {i = i} {m = m} no_sets h x7 = elim x7 [ ]
 board-above {i = i} (sets p w) h (found_here {s = s} c) =
     let here : i + 0 ≡ i = omega arith in sets (first-keeps s p (rw here at (h 0 (omega arith))) c) w
 board-above {i = i} (sets p w) h (found_later c) =

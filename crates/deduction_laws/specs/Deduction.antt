@@ -120,6 +120,7 @@ module _ (v : ℕ → ℤ) where
   -- And > 0 (for U: < 0), if some monomial is strict there.
   strong : (side : Side) (t : Fraction) {xs : List Row} → Every (Fitting v) xs → Holds side xs t → StrictAt xs t → combined_rows t xs ∈ turned side 1
   unfolding combined_rows combined_row total
+  strong side t every_none _ x6 = elim x6 [ ]
   strong side t (every {a = x} {l = xs} f fs) (one_row h i) (this_row e n) =
       added side strictly weakly t x xs (strong-row side t x (v x.monomial) e n f h) (weak side t fs i)
   strong side t (every {a = x} {l = xs} f fs) (one_row h i) (later_row s) =

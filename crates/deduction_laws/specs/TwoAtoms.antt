@@ -209,7 +209,7 @@ module _ (v : ℕ → ℤ) (board : Board) (fits : (m : ℕ) → v m ∈ monomia
 pub cut-sound : {z : ℤ} {s : SignSet} → z ∈ s → {l : List SignSet} → Every (λ (f : SignSet). z ∈ f) l → z ∈ cut_by_all s l
 unfolding cut_by_all
 cut-sound h every_none = h
-cut-sound h (every k ks) = cut-sound (∈-intersect h k) ks
+cut-sound {z = z} {s = s} h (every {a = a} {l = l} k ks) = cut-sound {z = z} {s = intersect s a} (∈-intersect h k) ks
 
 -- And so is one that is cut by the first that changes it.
 pub first-sound : {z : ℤ} {s c : SignSet} → z ∈ s → {l : List SignSet} → Every (λ (f : SignSet). z ∈ f) l → first_cut s l ≡ some c → z ∈ c

@@ -47,6 +47,7 @@ polynomials l = map (λ (a : Atom). a.polynomial) l
 
 not_among : (p : Polynomial) {l : List Atom} → Every (Other p) l → Member p (polynomials l) → ⊥
 unfolding polynomials
+not_among p every_none x3 = elim x3 [ ]
 not_among p (every h hs) (here e) = never_both (subst (λ (q : Polynomial). same p q ≡ true) e (same-itself p)) h.differs
 not_among p (every h hs) (later m) = not_among p hs m
 

@@ -65,7 +65,7 @@ unless-later none q m = later m
 unless-later (some c) q m = m
 
 -- What was there and is no constant is left.
-pub without-keeps : {l : List Polynomial} {p : Polynomial} → constant p ≡ none → Member p l → Member p (without_constants l)
+pub without-keeps : {p : Polynomial} {l : List Polynomial} → constant p ≡ none → Member p l → Member p (without_constants l)
 unfolding without_constants unless_constant
 without-keeps e (here {x} d) = rw (ap constant (sym d) ∙ e) (here d)
 without-keeps e (later {x} m) = unless-later (constant x) x (without-keeps e m)

@@ -179,7 +179,8 @@ module _ {Form : ℕ → Polynomial → Type 0} where
   remove_implied-formed : (n : ℕ) {kept l : List Placed} → Every (FormedAt Form) kept → Every (FormedAt Form) l → Every (FormedAt Form) (remove_implied n kept l)
   unfolding remove_implied
   remove_implied-formed n k every_none = k
-  remove_implied-formed n {kept} k (every {a} {l = later} h hs) = remove_implied-formed n (kept_unless-formed (implied n (plains (kept ++ later)) (plain a)) h k) hs
+  remove_implied-formed n {kept} k (every {a} {l = later} h hs) =
+      remove_implied-formed n {kept = kept_unless (implied n (plains (kept ++ later)) (plain a)) a kept} (kept_unless-formed (implied n (plains (kept ++ later)) (plain a)) h k) hs
 
   -- ---- The steps in a row, the way back.
 

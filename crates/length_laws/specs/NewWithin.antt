@@ -23,6 +23,7 @@ use Rattle.length_laws.specs.NeverLonger.{simplified-formed, used-of-table, used
 -- ---- The table.
 
 form-within : {n : ℕ} {table : List Polynomial} {p : Polynomial} → TableWithin n table → Member p (forms_of table) → PolynomialWithin n p
+form-within {n = n} {p = p} no_polynomials x3 = elim x3 [ ]
 form-within {n} (polynomials {p = q} h hs) (here e) = subst (PolynomialWithin n) (sym e) (normal_form-within q h)
 form-within (polynomials h hs) (later m) = form-within hs m
 

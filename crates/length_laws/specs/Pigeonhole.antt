@@ -19,6 +19,7 @@ pub data Distinct {A : Type 0} : List A → Type 0 where
 
 -- What every element has, a member has.
 pub every-member : {A : Type 0} {P : A → Type 0} {l : List A} {a : A} → Every P l → Member a l → P a
+every-member {A = A} {P = P} {a = a} every_none x3 = elim x3 [ ]
 every-member {P = P} (every h hs) (here e) = subst P (sym e) h
 every-member (every h hs) (later m) = every-member hs m
 

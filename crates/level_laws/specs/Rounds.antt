@@ -209,7 +209,7 @@ module _ {sign : Polynomial → Sign} {n : ℕ} (ok : Respects sign n) where
   all_keep : {x : Sign} {s : SignSet} {fs : List SignSet} → x In s → Every (λ (f : SignSet). x In f) fs → x In cut_by_all s fs
   unfolding cut_by_all
   all_keep h every_none = h
-  all_keep h (every k ks) = all_keep (in-intersect h k) ks
+  all_keep {x = x} {s = s} h (every {a = a} {l = l} k ks) = all_keep {x = x} {s = intersect s a} (in-intersect h k) ks
 
   -- What a right state says of a polynomial has its sign.
   pub says_in-right : (st : State) (p : Polynomial) → Right sign n st → sign p In says_in n st p

@@ -120,6 +120,7 @@ weak-coefficient o m (t ∷ ts) each = wider (∈-sum (weak-part o m t (each t (
 strict-coefficient : {x : Sign} → Outer x → (t : Term) → sign_of t.coefficient ≡ x → (p : Polynomial) → Member t p
     → ((u : Term) → Member u p → Other (mirror_of_sign x) t.monomial u) → coefficient_at t.monomial p ∈ only x
 unfolding value_by one
+strict-coefficient {x = x} o t e [] x3 each = elim x3 [ ]
 strict-coefficient {x} o t e (u ∷ us) (here f) each = wider (∈-sum
     (subst (λ (u : Term). u.coefficient *ℤ one_at t.monomial u.monomial ∈ only x) f
     (by_equal (ap (λ (b : Bool). t.coefficient *ℤ cond b (pos 1) (pos 0)) (eq-eqb t.monomial t.monomial refl) ∙ *ℤ-one t.coefficient)
@@ -211,7 +212,7 @@ module _ (side : Side) (board : Board) (p : Polynomial) (asks : (m : ℕ) → co
 
   no-weight : (m : ℕ) (s : SignSet) → weigh (against side) nought m s ≡ 0
   unfolding weigh when weight_of open_signs
-  no-weight m s = elim side [ L ↦ by (has nought s) | U ↦ by (has nought s) ]
+  no-weight m s = elim side as (λ (at : Side). weigh (against at) nought m s ≡ 0) [ L ↦ by (has nought s) | U ↦ by (has nought s) ]
     where
       by : (b : Bool) → when b 0 ≡ 0
       by true = refl

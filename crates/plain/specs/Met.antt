@@ -72,6 +72,7 @@ root-twin a (negsuc b) M t u h = (
 
 row-twin : (xs : List Row) (t u : Fraction) → Twin (marks xs) t u → (x : Row) → Member x xs → sign_of (combined t x.a x.b) ≡ sign_of (combined u x.a x.b)
 unfolding marks
+row-twin [] t u h x x4 = elim x4 [ ]
 row-twin (y ∷ ys) t u h x (here e) = subst (λ (x : Row). sign_of (combined t x.a x.b) ≡ sign_of (combined u x.a x.b)) (sym e)
     (root-twin y.a y.b (marks ys) t u h).0
 row-twin (y ∷ ys) t u h x (later m) = row-twin ys t u (root-twin y.a y.b (marks ys) t u h).1 x m
@@ -221,7 +222,7 @@ pub data RootOf (r : Fraction) : List Row → Type 0 where
 all-joined : {In : Fraction → Type 0} {f : End} (xs : List Row) {near : End} → Next In f near → Next (λ r. In r ⊎ RootOf r xs) f (nearest f near xs)
 unfolding nearest
 all-joined [] n = fewer (λ r o. ⊎_elim (λ i. i) (λ h. elim h [ ]) o) n
-all-joined {In} {f} (x ∷ xs) n = fewer (λ r o. ⊎_elim (λ i. inl (inl i)) (λ h. by r h) o) (all-joined xs (joined n (end_at x.a x.b)))
+all-joined {In} {f} (x ∷ xs) n = fewer (λ r o. ⊎_elim (λ i. inl (inl i)) (λ h. by r h) o) (all-joined {In = λ r. In r ⊎ (end_at x.a x.b ≡ at r)} xs (joined n (end_at x.a x.b)))
   where
     by : (r : Fraction) → RootOf r (x ∷ xs) → (In r ⊎ (end_at x.a x.b ≡ at r)) ⊎ RootOf r xs
     by r (this e) = inl (inr e)

@@ -130,6 +130,7 @@ roots-keep (x ∷ xs) M r m = roots-keep xs (with_root x.a x.b M) r (root-keeps 
 
 covered : (xs : List Row) (M : List Fraction) (x : Row) → Member x xs → Covers (with_roots M xs) x.a x.b
 unfolding with_roots
+covered [] M x x3 = elim x3 [ ]
 covered (y ∷ ys) M x (here e) = subst (λ (x : Row). Covers (with_roots (with_root y.a y.b M) ys) x.a x.b) (sym e)
     (covers_more (roots-keep ys (with_root y.a y.b M)) (covers-root y.a y.b M))
 covered (y ∷ ys) M x (later m) = covered ys (with_root y.a y.b M) x m

@@ -154,6 +154,7 @@ module _ (xs : List Row) (t u : Fraction) (w : Alike xs t u) where
 
 some-by : (f : Fraction → Bool) {t : Fraction} {ts : List Fraction} → Member t ts → f t ≡ true → some f ts ≡ true
 unfolding some
+some-by f {t = t} {ts = []} x5 h = elim x5 [ ]
 some-by f {ts = u ∷ ts} (here e) h = or-first (some f ts) (subst (λ (t : Fraction). f t ≡ true) e h)
 some-by f {ts = u ∷ ts} (later m) h = or-second (f u) (some-by f m h)
 

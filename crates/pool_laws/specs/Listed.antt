@@ -22,7 +22,7 @@ use Rattle.length_laws.specs.FormsUsed.{without-every, without-keeps}
 use Rattle.pool_laws.specs.Known.{without-member, knows-member}
 use Rattle.pool_laws.specs.Together.{together-second, together-cases}
 
-map-member : {A B : Type 0} (f : A → B) {l : List A} {a : A} → Member a l → Member (f a) (map f l)
+map-member : {A B : Type 0} (f : A → B) {a : A} {l : List A} → Member a l → Member (f a) (map f l)
 map-member f (here e) = here (ap f e)
 map-member f (later m) = later (map-member f m)
 

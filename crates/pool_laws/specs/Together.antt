@@ -37,7 +37,7 @@ equally-long d e h k = omega (arith, no_longer d h, no_longer e k)
 
 -- ---- One form added unless it is known.
 
-append-first : {A : Type 0} {l : List A} (m : List A) {a : A} → Member a l → Member a (l ++ m)
+append-first : {A : Type 0} {a : A} {l : List A} (m : List A) → Member a l → Member a (l ++ m)
 append-first m (here e) = here e
 append-first m (later k) = later (append-first m k)
 
@@ -75,7 +75,7 @@ unfolding together
 together-first [] k = k
 together-first {forms} (p ∷ ps) k = together-first ps (added-old (knows forms p) p k)
 
-pub together-second : (forms : List Polynomial) {ps : List Polynomial} {q : Polynomial} → Member q ps → Member q (together forms ps)
+pub together-second : {q : Polynomial} (forms : List Polynomial) {ps : List Polynomial} → Member q ps → Member q (together forms ps)
 unfolding together
 together-second forms (here {x = p} {xs = ps} e) = together-first ps
     (subst (λ (r : Polynomial). Member r (added_unless (knows forms p) p forms)) (sym e) (added_new (knows forms p) p forms refl))

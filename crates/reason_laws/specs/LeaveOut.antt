@@ -40,6 +40,7 @@ module _ {A : Type 0} where
   -- Out of a list with one more at its end: that one, or one before it.
   without-last : (P : List A → Type 0) (l : List A) (c : A) → P l → ((k : List A) → Without l k → P (k ++ (c ∷ [])))
       → {m : List A} → Without (l ++ (c ∷ [])) m → P m
+  without-last P [] c last before (a_later_one {m = m} w) = elim w [ ]
   without-last P [] c last before this_one = last
   without-last P (b ∷ l) c last before this_one = before l this_one
   without-last P (b ∷ l) c last before (a_later_one w) =
@@ -58,7 +59,7 @@ module _ {A : Type 0} where
     unfolding leave_out_from
     suffices-from kept [] e = rw (append-nil kept) at e
     suffices-from kept (c ∷ later) e =
-        suffices-from _ later (gone-or-kept (enough (kept ++ later)) c kept later (λ l. enough l ≡ true) (λ k. k) e)
+        suffices-from (kept_unless (enough (kept ++ later)) c kept) later (gone-or-kept (enough (kept ++ later)) c kept later (λ l. enough l ≡ true) (λ k. k) e)
 
     pub leave_out-suffices : (l : List A) → enough l ≡ true → enough (leave_out enough l) ≡ true
     unfolding leave_out

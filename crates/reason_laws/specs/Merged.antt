@@ -64,7 +64,7 @@ join_normal-empty (some z) c l e = by-truth (has (sign_of z) c.set)
 pub join_all-empty : (l given : List Placed) → Empty l → Empty (join_all l given)
 unfolding join_all
 join_all-empty l [] e = e
-join_all-empty l (c ∷ later) e = join_all-empty _ later (join_normal-empty (constant c.polynomial) c l e)
+join_all-empty l (c ∷ later) e = join_all-empty (join_normal (constant c.polynomial) c l) later (join_normal-empty (constant c.polynomial) c l e)
 
 -- Full sets are not empty.
 pub not_full-empty : (l : List Placed) → Empty l → Empty (not_full l)

@@ -25,7 +25,8 @@ leave_out-from : {A : Type 0} {P : A → Type 0} (enough : List A → Bool) {kep
     → Every P (leave_out_from enough kept rest)
 unfolding leave_out_from
 leave_out-from enough hs every_none = hs
-leave_out-from enough hs (every {a = c} k ks) = leave_out-from enough (kept-every _ c k hs) ks
+leave_out-from {A = A} {P = P} enough {kept = kept} hs (every {a = c} {l = l} k ks) =
+    leave_out-from enough {kept = kept_unless (enough (kept ++ l)) c kept} (kept-every (enough (kept ++ l)) c k hs) ks
 
 pub leave_out-every : {A : Type 0} {P : A → Type 0} (enough : List A → Bool) {l : List A} → Every P l → Every P (leave_out enough l)
 unfolding leave_out

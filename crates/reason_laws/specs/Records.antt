@@ -4,7 +4,7 @@ use Rattle.std.specs.Prelude.{◌≡◌, refl, Bool, true, false, List, [], ◌�
 use Rattle.std.proofs.Common.{sym, ap, ap₂, ◌∙◌, subst, arith, eqb-true, eq-eqb}
 use Rattle.rules.specs.Signs.{SignSet, full}
 use Rattle.rules.specs.Polynomial.{Polynomial, Atom, normal}
-use Rattle.rules.specs.Level.{Placed, with_set, placed_at, normal_placed}
+use Rattle.rules.specs.Level.{Placed, with_set, placed_at, normal_placed, kept_unless, implied, plains, plain}
 use Rattle.sign_laws.specs.Booleans.{never_true}
 use Rattle.sign_laws.specs.Lists.{Every, every_none, every}
 use Rattle.rules.specs.Reasons.{clauses_from, Fate, stays, goes, Told, told_from}
@@ -25,7 +25,8 @@ pub told-among : (n : ℕ) (kept : List Placed) {given l : List Placed} → Amon
 unfolding told_from
 told-among n kept none_among = nothing_told
 told-among n kept (not_among f) = not_told (told-among n kept f)
-told-among n kept (is_among p q f) = is_told p q (told-among n _ f)
+told-among n kept (is_among {c = c} {d = d} {given = given} {l = l} p q f) =
+    is_told p q (told-among n (kept_unless (implied n (plains (kept ++ l)) (plain d)) d kept) f)
 
 -- ---- Places rise.
 

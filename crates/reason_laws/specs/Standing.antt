@@ -8,7 +8,7 @@ use Rattle.rules.specs.Signs.{full, sign_of, has}
 use Rattle.rules.specs.Polynomial.{Polynomial, Atom, same, constant}
 use Rattle.rules.specs.Deduce.{any_empty}
 use Rattle.rules.specs.Rounds.{State, sets_of, carried}
-use Rattle.rules.specs.Level.{Placed, plain, plains, normal_placed, Tidied, broken, tidied, merged_if, merge_into, merge_constant, merge_normal, merge, carry}
+use Rattle.rules.specs.Level.{Placed, plain, plains, normal_placed, Tidied, broken, tidied, merged_if, merge_into, merge_constant, merge_normal, merge, carry, kept_unless, implied}
 use Rattle.sign_laws.specs.Booleans.{never_both}
 use Rattle.sign_laws.specs.Lists.{Every, every_none, every}
 use Rattle.level_laws.specs.Same.{same-itself}
@@ -104,7 +104,8 @@ module _ {all : List Placed} where
   told-stands : (n : ℕ) (kept : List Placed) {l : List Placed} → Every (Stands all) l → Every (ToldStands all) (told_from n kept l)
   unfolding told_from
   told-stands n kept every_none = every_none
-  told-stands n kept (every h hs) = every (record { here = h.here }) (told-stands n _ hs)
+  told-stands n kept (every {a = a} {l = l} h hs) =
+      every (record { here = h.here }) (told-stands n (kept_unless (implied n (plains (kept ++ l)) (plain a)) a kept) hs)
 
 -- And so does all that is told.
 pub all-stand : (n : ℕ) (l : List Atom) (st : State) → any_empty (sets_of (plains (merged_list l))) ≡ false

@@ -10,7 +10,7 @@ use Rattle.rules.specs.Signs.{full}
 use Rattle.rules.specs.Polynomial.{Polynomial, Atom, same}
 use Rattle.rules.specs.Deduce.{any_empty}
 use Rattle.rules.specs.Rounds.{State, sets_of, carried}
-use Rattle.rules.specs.Level.{Placed, plains, carry}
+use Rattle.rules.specs.Level.{Placed, plains, carry, kept_unless, implied, plain}
 use Rattle.sign_laws.specs.Booleans.{never_both}
 use Rattle.sign_laws.specs.Lists.{Every, every_none, every, every-wider}
 use Rattle.level_laws.specs.Same.{same-equal}
@@ -51,7 +51,7 @@ carry-at (c ∷ cut) (at_later h) = at_later (carry-at cut h)
 told_of : {i : ℕ} (n : ℕ) (kept : List Placed) {l : List Placed} → At i l → IsTold i (told_from n kept l)
 unfolding told_from
 told_of n kept (at_first e) = told_first e
-told_of n kept (at_later h) = told_after (told_of n _ h)
+told_of {i = i} n kept (at_later {c = c} {l = l} h) = told_after (told_of n (kept_unless (implied n (plains (kept ++ l)) (plain c)) c kept) h)
 
 -- The first clause of a polynomial is full, or stands in the list without the full ones.
 data Found (p : Polynomial) (i : ℕ) (l : List Placed) : Type 0 where
@@ -117,6 +117,7 @@ sorted-later {all} {t} {told} (every {a = c} h hs) (every k ks) = every (by-sort
     by-sort (one_told m) = one_told (later m)
 
 none_told : {i : ℕ} {told : List Told} → Every (ToldAt (suc i)) told → IsTold i told → ⊥
+none_told {i = i} every_none x3 = elim x3 [ ]
 none_told {i} (every {a = t} h hs) (told_first e) = different e h.at_least
   where
     different : t.clause.place ≡ i → suc i ≤ t.clause.place → ⊥

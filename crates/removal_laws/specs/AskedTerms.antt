@@ -155,8 +155,22 @@ asked-sums U any = refl
 
 asked-zero : (side : Side) (k : Kind) → pos 0 ∈ named (asked side k)
 unfolding open_signs
-asked-zero L k = by_sign nought refl (elim k [ ∅ ↦ refl | >0 ↦ refl | =0 ↦ refl | ≥0 ↦ refl | <0 ↦ refl | ≠0 ↦ refl | ≤0 ↦ refl | any ↦ refl ])
-asked-zero U k = by_sign nought refl (elim k [ ∅ ↦ refl | >0 ↦ refl | =0 ↦ refl | ≥0 ↦ refl | <0 ↦ refl | ≠0 ↦ refl | ≤0 ↦ refl | any ↦ refl ])
+asked-zero L ∅ = by_sign nought refl refl
+asked-zero L >0 = by_sign nought refl refl
+asked-zero L =0 = by_sign nought refl refl
+asked-zero L ≥0 = by_sign nought refl refl
+asked-zero L <0 = by_sign nought refl refl
+asked-zero L ≠0 = by_sign nought refl refl
+asked-zero L ≤0 = by_sign nought refl refl
+asked-zero L any = by_sign nought refl refl
+asked-zero U ∅ = by_sign nought refl refl
+asked-zero U >0 = by_sign nought refl refl
+asked-zero U =0 = by_sign nought refl refl
+asked-zero U ≥0 = by_sign nought refl refl
+asked-zero U <0 = by_sign nought refl refl
+asked-zero U ≠0 = by_sign nought refl refl
+asked-zero U ≤0 = by_sign nought refl refl
+asked-zero U any = by_sign nought refl refl
 
 -- Where each coefficient is as asked, so is that of each monomial.
 coefficient-asked : (side : Side) (board : Board) (p : Polynomial) → all_asked side board p ≡ true → (m : ℕ)

@@ -39,6 +39,8 @@ module _ {board wide : Board} (w : Wider board wide) where
 
   sets-wider : (n : ℕ) {atoms fewer : List Atom} → Fewer atoms fewer → Every Filled atoms → (i k : ℕ) {l t m : List SignSet} → Wider l t → length l ≤ k
       → search_board n atoms board i k l ≡ none → BoardFound n fewer wide i t m → Wider l m
+  sets-wider n {atoms = atoms} {fewer = fewer} f h i zero {m = m} no_sets b e c = elim c [ ]
+  sets-wider n {atoms = atoms} {fewer = fewer} f h i (suc k) {m = m} no_sets b e c = elim c [ ]
   sets-wider n f h i zero (sets p v) b e c = absurd (omega arith)
   sets-wider n {atoms} f h i (suc k) (sets {s} {board = l} p v) b e (found_here c) =
       sets (first-wider (variable n i) f h p (board-none n atoms board i k s l e).0 c) v
@@ -47,6 +49,7 @@ module _ {board wide : Board} (w : Wider board wide) where
 
   atoms-wider : {before fewer l t m : List Atom} → Fewer before fewer → Every Filled before → Fewer l t → Every Filled l → search_atoms board before l ≡ none
       → AtomsFound wide fewer t m → Fewer l m
+  atoms-wider {before = before} {fewer = fewer} {m = m} f h no_atoms _ e c = elim c [ ]
   atoms-wider {before} f h (left_out {a} {atoms = l} g) (every k ks) e c =
       left_out (atoms-wider (last-left-out a f) (every_append h (every k every_none)) g ks (atoms-none board before a l e).1 c)
   atoms-wider {before} f h (kept {a} {b} {atoms = l} v g) (every k ks) e (found_this {cut = cut} c) =

@@ -21,7 +21,8 @@ set-within : (xs : List ℕ) (v i j k : ℕ) → j < k → i + j < length xs →
 unfolding numbers_from
 set-within xs v i j zero h l = absurd (omega arith)
 set-within xs v i zero (suc k) h l =
-    rw (add-zero i, get_or-set_same xs i v 0 (omega (arith, add-zero i))) (ap (λ (t : List ℕ). v ∷ t) (set_before xs i v (suc i) k (omega arith)))
+    let e : i + 0 ≡ i = omega arith in
+    rw (e, get_or-set_same xs i v 0 (omega arith)) (ap (λ (t : List ℕ). v ∷ t) (set_before xs i v (suc i) k (omega arith)))
 set-within xs v i (suc j) (suc k) h l =
     let e : i + suc j ≡ suc i + j = omega arith in
     rw (e, get_or-set_other xs (suc i + j) i v 0 (λ (q : i ≡ suc i + j). omega arith))

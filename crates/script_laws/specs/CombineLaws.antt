@@ -311,6 +311,7 @@ module _ {A : Type 0} where
 
   pub chosen-leads : (cs : List (Choice A)) {t : List ℕ} {a : A} → tellable cs ≡ true → Chosen cs t a → Leads (one_of cs) t a
   unfolding one_of tellable
+  chosen-leads [] {t = t} {a = a} told x'' = elim x'' [ ]
   chosen-leads (c ∷ cs) told (this u e way) =
       leads-left (choices-apart c.allowed c.beginning c.further cs (and_first (differs_from_all c.beginning cs) (tellable cs) told))
       (leads-given e (said c.beginning way))

@@ -209,6 +209,7 @@ module _ (n limit : ℕ) where
       by-choice : {t : List ℕ} {m : ℕ}
           → Chosen (choice true (bytes ")") (give (h * 16 ^ g)) ∷ choice (any_may n limit (h * 16 ^ g)) (bytes " ") (letters n limit (after_factor n limit k) g h) ∷ []) t m
           → ((u : List ℕ) → Leads (letters n limit (after_factor n limit k) g h) u m → More g h u m) → After g h t m
+      by-choice {m = m} (other (other x14)) further = elim x14 [ ]
       by-choice (this u e w) further = here-after g h inside small (given-here g h w)
       by-choice {m = m} (other (this u e w)) further = more-after g h m u (further u w)
 

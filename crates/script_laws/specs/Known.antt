@@ -43,12 +43,13 @@ unfolding knows
 known_member [] p e = absurd (false≢true e)
 known_member (q ∷ qs) p e = or_cases (same p q) (knows qs p) e (λ h. here (same-equal p q h)) (λ h. later (known_member qs p h))
 
-member-known : {known : List Polynomial} {p : Polynomial} → Member p known → knows known p ≡ true
+member-known : {p : Polynomial} {known : List Polynomial} → Member p known → knows known p ≡ true
 unfolding knows
 member-known {p = p} (here {x = q} {xs = qs} e) = or-first (knows qs p) (subst (λ (r : Polynomial). same p r ≡ true) e (same-itself p))
 member-known {p = p} (later {x = q} m) = or-second (same p q) (member-known m)
 
 every_in : {P : Polynomial → Type 0} {known : List Polynomial} {p : Polynomial} → Every P known → Member p known → P p
+every_in {P = P} {p = p} every_none x3 = elim x3 [ ]
 every_in {P} (every h hs) (here e) = subst P (sym e) h
 every_in (every h hs) (later m) = every_in hs m
 

@@ -105,6 +105,7 @@ module _ (n : ℕ) (product-reads : (limit : ℕ) → 1 ≤ limit → limit < be
     reads-product e = let two : 1 < above = ltb-true 1 above e in product-reads (above - 1) (omega arith) (omega arith)
 
     next-back : {t : List ℕ} {ts : Polynomial} → NumberOr 41 no-digit-41 constant_of product_choice t ts → Back t ts
+    next-back {t = t} {ts = ts} (is-other (other x6)) = elim x6 [ ]
     next-back {t} (is_number c h text result) = subst (Back t) result (constant-back c h text)
     next-back (is-other (this u e way)) = product-back (read-then (reads-product e) _ way)
 
@@ -170,6 +171,7 @@ module _ (n : ℕ) (product-reads : (limit : ℕ) → 1 ≤ limit → limit < be
     end_back arrived = none-back (suc k) above just
 
     chosen-back : {t : List ℕ} {ts : Polynomial} → Chosen end_or_next t ts → OthersBack (suc k) above t ts
+    chosen-back {t = t} {ts = ts} (other (other x10)) = elim x10 [ ]
     chosen-back (this u e way) = end_back way
     chosen-back (other (this u {a = ts} e way)) = let (below, same) = next.back u ts way in some_back k above ts below same
 

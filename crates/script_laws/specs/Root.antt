@@ -88,6 +88,7 @@ module _ (before₁ : ℕ) where
   false-back arrived = (root_false, refl)
 
   constant-back : {t : List ℕ} {tree : Node Atom} → Chosen constants t tree → RootBack t tree
+  constant-back {t = t} {tree = tree} (other (other x10)) = elim x10 [ ]
   constant-back (this u e way) = true-back way
   constant-back (other (this u e way)) = false-back way
 

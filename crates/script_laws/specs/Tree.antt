@@ -146,6 +146,7 @@ module _ (n d parent : ℕ) (one : List Polynomial → ℕ → Reader (Node Atom
     kid-back some (passed x h u way) = rest_back some x h (read-then (later x h) _ way)
 
     chosen-back : {t : List ℕ} {kids : Parts Atom} → Chosen end_or_kid t kids → LaterBack (suc k) known room t kids
+    chosen-back {t = t} {kids = kids} (other (other x10)) = elim x10 [ ]
     chosen-back (this u e way) = end_back (suc k) known room table way
     chosen-back (other (this u e way)) = kid-back (ltb-true 0 room e) (read-then reads-one _ way)
 
@@ -417,6 +418,7 @@ module _ (n : ℕ) (Reads-Known : (known : List Polynomial) → Table n known �
 
     choice-back : {t : List ℕ} {x : Node Atom} → Chosen node_choices t x → NodeBack t x
     unfolding atom_with opening
+    choice-back {t = t} (other (other (other (other (other (other (other (other x41)))))))) = elim x41 [ ]
     choice-back (this u e way) = atom-read 1 (omega arith) (omega arith) way
     choice-back (other (this u e way)) = atom-read 2 (omega arith) (omega arith) way
     choice-back (other (other (this u e way))) = atom-read 3 (omega arith) (omega arith) way

@@ -122,7 +122,7 @@ pairs-hold {n} {st} s w i h =
 part-all : {x s : SignSet} {fs : List SignSet} → PartOf x s → Every (PartOf x) fs → PartOf x (cut_by_all s fs)
 unfolding cut_by_all
 part-all p every_none = p
-part-all p (every h hs) = part-all (record { each = λ y k. in-intersect (p.each y k) (h.each y k) }) hs
+part-all {x = x} {s = s} p (every {a = a} {l = l} h hs) = part-all {s = intersect s a} (record { each = λ y k. in-intersect (p.each y k) (h.each y k) }) hs
 
 -- So what they leave of a variable's set is no narrower than the settled set.
 pub pairs-wider : {n : ℕ} {st su : State} → Settled n st → WiderState st su → (i : ℕ) → i < n
