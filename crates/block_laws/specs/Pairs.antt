@@ -1,4 +1,5 @@
 -- 02, #109: the pairs of a monomial. A monomial's pairs rise and give it back; pairs that rise are those of their monomial; and their bits.
+use Rattle.rules.specs.Bits.{value}
 use Rattle.std.specs.Prelude.{Bool, true, List, [], ◌∷◌, ◌++◌, ◌≡◌, refl, ℕ, zero, suc, ◌+◌, ◌-◌, ◌*◌, ◌/◌, ◌%◌, ◌^◌, ◌≤◌, ◌<◌, length, drop}
 use Rattle.std.proofs.Math.Bool.{and-eq-true_iff}
 use Rattle.std.proofs.Common.{append_assoc, sym, ap, ◌∙◌, pow-suc, mod-lt, mod-eq_of_lt, mul_comm, mul_assoc, mul-le-mul_right, arith, length-append, length-drop, pow-add, pow_pos, pow_mono, drop_at, drop-drop, lt-ltb, le-leb, ltb-true, leb-true}

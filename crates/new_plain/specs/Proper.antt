@@ -110,10 +110,13 @@ module _ (n : ℕ) where
           every (part-proper h inside-atom own.bits own.some) (more cut c k)
       by-which none w cut (one-more p f t) (every k ks) more = every (part-proper h f k.bits k.some) (more _ t ks)
 
-filled-atoms : {l : List Atom} → Every Filled (sets_of l) → Every (λ (a : Atom). Filled a.set) l
+filled-list : (l : List Atom) → Every Filled (sets_of l) → Every (λ (a : Atom). Filled a.set) l
 unfolding sets_of
-filled-atoms {l = []} h = every_none
-filled-atoms {l = a ∷ l} (every h hs) = every h (filled-atoms hs)
+filled-list [] h = every_none
+filled-list (a ∷ l) h = every (every-first h) (filled-list l (every-rest h))
+
+filled-atoms : {l : List Atom} → Every Filled (sets_of l) → Every (λ (a : Atom). Filled a.set) l
+filled-atoms {l} h = filled-list l h
 
 filled_at : {board : Board} (i : ℕ) → i < length board → Every Filled board → Filled (get_or board i full)
 filled_at i h every_none = absurd (omega (arith, h))

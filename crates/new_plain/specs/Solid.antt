@@ -230,7 +230,8 @@ kept_unless-proper false h k = every_append k (every h every_none)
 remove_implied-proper : (n : ℕ) {kept l : List Placed} → AllProper kept → AllProper l → AllProper (remove_implied n kept l)
 unfolding remove_implied
 remove_implied-proper n k every_none = k
-remove_implied-proper n {kept} k (every {a} {l = later} h hs) = remove_implied-proper n (kept_unless-proper (implied n (plains (kept ++ later)) (plain a)) h k) hs
+remove_implied-proper n {kept} k (every {a} {l = later} h hs) =
+    remove_implied-proper n {kept = kept_unless (implied n (plains (kept ++ later)) (plain a)) a kept} (kept_unless-proper (implied n (plains (kept ++ later)) (plain a)) h k) hs
 
 -- ---- Step 6, and the steps in a row.
 

@@ -244,6 +244,7 @@ values-enough xs = record { for = λ t. by (listed xs) (listed-rising xs) (λ t 
     }
 
     by : (M : List Fraction) → Rising M → ((t u : Fraction) → Twin M t u → Alike xs t u) → (t : Fraction) → (u : Fraction) × Member u (filled M) × Alike xs t u
+    by [] rising same t = elim rising [ ]
     by (x ∷ us) (from k) same t = let s = stand-in x us k t in (s.value, s.listed, same t s.value s.twin)
 
 -- "Both engines are proved to give the same finding for all p, q and sets".

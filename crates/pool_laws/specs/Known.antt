@@ -13,7 +13,7 @@ use Rattle.level_laws.specs.Same.{same-equal, same-itself}
 use Rattle.length_laws.specs.Pigeonhole.{Distinct, distinct-added}
 
 -- What is a member is known.
-pub member-knows : {table : List Polynomial} {p : Polynomial} → Member p table → knows table p ≡ true
+pub member-knows : {p : Polynomial} {table : List Polynomial} → Member p table → knows table p ≡ true
 unfolding knows
 member-knows {p = p} (here {x} {xs} e) = or-first (knows xs p) (ap (same p) (sym e) ∙ same-itself p)
 member-knows {p = p} (later {x} m) = or-second (same p x) (member-knows m)

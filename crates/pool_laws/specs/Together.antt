@@ -73,7 +73,7 @@ together-distinct {forms} (p ∷ ps) d = together-distinct ps (added_unless-dist
 pub together-first : {forms : List Polynomial} (ps : List Polynomial) {q : Polynomial} → Member q forms → Member q (together forms ps)
 unfolding together
 together-first [] k = k
-together-first {forms} (p ∷ ps) k = together-first ps (added-old (knows forms p) p k)
+together-first {forms} (p ∷ ps) k = together-first {forms = added_unless (knows forms p) p forms} ps (added-old (knows forms p) p k)
 
 pub together-second : {q : Polynomial} (forms : List Polynomial) {ps : List Polynomial} → Member q ps → Member q (together forms ps)
 unfolding together

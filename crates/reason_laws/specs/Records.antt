@@ -1,5 +1,6 @@
 -- The records against what is told of the merged list, place by place: the kept and narrowed ones are exactly the atoms and places of the answer,
 -- and each removed one names atoms that just imply it.
+use mathlib.Core.List.{◌++◌}
 use Rattle.std.specs.Prelude.{◌≡◌, refl, Bool, true, false, List, [], ◌∷◌, ℕ, suc, ◌≤◌, eqb}
 use Rattle.std.proofs.Common.{sym, ap, ap₂, ◌∙◌, subst, arith, eqb-true, eq-eqb}
 use Rattle.rules.specs.Signs.{SignSet, full}

@@ -67,8 +67,8 @@ turns-wider : (n : ℕ) {atoms fewer : List Atom} → Fewer atoms fewer → LowA
     → (i k : ℕ) → Wider (turns n atoms board i k) (turns n fewer wide i k)
 unfolding turns turn
 turns-wider n f h w low i zero = w
-turns-wider n {atoms} f h {board} w low i (suc k) =
-    turns-wider n f h (set-wider w i (cut_by-wider w low (variable n i) f h (get_d_wider w i))) (turn_low n atoms board i low) (suc i) k
+turns-wider n {atoms} {fewer} f h {board} {wide} w low i (suc k) =
+    turns-wider n f h {board = turn n atoms board i} {wide = turn n fewer wide i} (set-wider w i (cut_by-wider w low (variable n i) f h (get_d_wider w i))) (turn_low n atoms board i low) (suc i) k
 
 pub cut_atom-wider : {board wide : Board} → Wider board wide → LowBoard board → {others fewer : List Atom} → Fewer others fewer → LowAtoms others
     → {a b : Atom} → WiderAtom a b → WiderAtom (cut_atom board others a) (cut_atom wide fewer b)

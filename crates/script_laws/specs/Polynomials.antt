@@ -272,6 +272,7 @@ module _ (n : ℕ) (product-reads : (limit : ℕ) → 1 ≤ limit → limit < be
     second_back (passed t h u way) = space-back t h (say-leads (bytes " ") way)
 
     polynomial-back : {t : List ℕ} {p : Polynomial} → NumberOr 32 no-digit-32 constant_of product_or_sum t p → PolynomialBack t p
+    polynomial-back {t = t} {p = p} (is-other (other (other x11))) = elim x11 [ ]
     polynomial-back {t} (is_number c h text result) = subst (PolynomialBack t) result (alone-back c h text)
     polynomial-back (is-other (this u e way)) = first_back (read-then whole-product _ way)
     polynomial-back (is-other (other (this u e way))) = second_back (read-then whole-product _ way)

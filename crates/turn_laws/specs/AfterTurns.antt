@@ -6,7 +6,7 @@ use Rattle.std.proofs.Common.{sym, ap, ◌∙◌, subst, arith, lit<, get_or-set
 use Rattle.std.proofs.Math.Decide.{dec_lt}
 use Rattle.std.proofs.Math.ListN.{length-set}
 use Rattle.std.proofs.lemmas.List.{set-get_or}
-use Rattle.rules.specs.Signs.{SignSet, empty, full}
+use Rattle.rules.specs.Signs.{SignSet, empty, full, intersect}
 use Rattle.rules.specs.Polynomial.{Atom, Board, variable}
 use Rattle.rules.specs.TwoAtoms.{tries, cut_by_all}
 use Rattle.rules.specs.Rounds.{cut_by, turn, turns, State, round, rounds, enough, Outcome, contradiction, settled}

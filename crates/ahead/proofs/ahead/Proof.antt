@@ -75,7 +75,7 @@ loop-again c =
     let before = l.invariant.1 in
     (r.auto.1.1.1.0 ∙ l.invariant.0, after-pass before (ahead-over _ _ _ before.variables r.ensures))
 
-returns-2 : tie.Need-returns-then-passed invariant-loop decreases-loop
+returns-2 : tie.Need-returns invariant-loop decreases-loop
 returns-2 c =
     let l = c.before.before.before.loop-made in
     let r = c.before.before.before.before.before.before.before.before.before.before.replay-reached.ensures in

@@ -19,7 +19,7 @@ deduced-requires c κs =
     let s = c.before.before.before.before.before.before.before.before.before.before.before.before.before in
     (s.requires.0, (s.requires.1, (omega arith, omega (arith, c.before.before.before.before.before.before.before.before.find-j.ensures, c.before.before.before.before.before.before.before.many.ensures))))
 
-returns-5 : tie.Need-returns-then-board-i
+returns-5 : tie.Need-returns
 returns-5 c =
     let s = c.before.before.before.before.before.before.before.before.before.before.before.before.before.before.before.before.before in
     let b = s.args.board in

@@ -62,7 +62,7 @@ sign-list-requires c κs =
     let s = c.before.before.before.before.before.before.before.before.before.before.before.before.before.before.before.before.before in
     (form-slots {t = table s} s.requires.0.forms s.requires.0.places, s.requires.0.forms.variables)
 
-returns-3 : tie.Need-returns-then-old-low
+returns-3 : tie.Need-returns
 returns-3 c =
     let s = c.before.before.before.before.before.before.before.before.before.before.before.before.before.before.before.before.before.before.before.before in
     let b = s.args.passed.board in

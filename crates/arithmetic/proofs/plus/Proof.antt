@@ -36,7 +36,7 @@ returns-4 c =
     let differing = signs.before in
     past-rest _ _ differing.before.both-fits.ensures (sym differing.differ.ensures ∙ signs.if-differ.false) limiting.limit-most.ensures first.if-most-x.false c.if-most-x-2.true
 
-returns-5 : tie.Need-returns-then-x-y
+returns-5 : tie.Need-returns
 returns-5 c =
     let first = c.before in
     let limiting = first.before in

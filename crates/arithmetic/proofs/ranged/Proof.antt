@@ -11,7 +11,7 @@ returns : tie.Need-returns-then-limit-magnitude
 unfolding meaning kept_if
 returns c = record { within = λ h. absurd (omega (arith, c.before.limit.ensures, c.if-limit-magnitude.true)); past = λ h. refl }
 
-returns-2 : tie.Need-returns-then-limit-magnitude
+returns-2 : tie.Need-returns
 unfolding meaning
 returns-2 c = record { within = λ h. refl; past = λ h. absurd (omega (arith, c.before.limit.ensures, c.if-limit-magnitude.false)) }
 

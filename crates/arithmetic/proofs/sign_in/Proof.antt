@@ -16,7 +16,7 @@ returns-2 : tie.Need-returns-then-number
 unfolding has only
 returns-2 c z is = ap (λ (s : Sign). has s c.before.before.before.args.set) (sym (sign-negative _ z is c.before.if-number-eq0.false c.if-number.true))
 
-returns-3 : tie.Need-returns-then-number-eq0
+returns-3 : tie.Need-returns
 unfolding has only
 returns-3 c z is = let set = c.before.before.before.args.set in
     ap (λ (n : ℕ). eqb (n % 2) 1) (sym (div-one set)) ∙ ap (λ (s : Sign). has s set) (sym (sign-positive _ z is c.before.if-number-eq0.false c.if-number.false))

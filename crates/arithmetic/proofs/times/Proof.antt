@@ -20,7 +20,7 @@ mul-t6 c =
     let differing = limiting.before in
     record { fits = product_small differing.before.before.args.v _ _ differing.differ-sign.ensures differing.before.if-magnitude-eq0.false limiting.limit.ensures tested.if-limit-magnitude.false }
 
-returns-3 : tie.Need-returns-then-magnitude-eq0
+returns-3 : tie.Need-returns
 returns-3 c =
     let tested = c.before in
     let limiting = tested.before.before in

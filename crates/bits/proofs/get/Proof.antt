@@ -16,7 +16,7 @@ add-result c =
     let s = first.before.before.before.before.before in
     omega (arith, two-fit s.args.src.now s.args.at s.args.k s.requires.1 (omega arith) s.requires.0 first.within_eight-2.ensures c.within_eight-3.ensures)
 
-long : tie.Need-returns-then-src-lt8
+long : tie.Need-returns
 long c =
     let first = c.before in
     let s = first.before.before.before.before.before in

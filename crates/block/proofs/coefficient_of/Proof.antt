@@ -8,7 +8,7 @@ use Rattle.block.proofs.coefficient_of.Tie as tie
 returns : tie.Need-returns-then-minus-eq0
 returns c = let a = c.before.args in plus-value a.magnitude c.before.requires ∙ signed-plus a.minus a.magnitude c.if-minus-eq0.true
 
-returns-2 : tie.Need-returns-then-minus-eq0
+returns-2 : tie.Need-returns
 returns-2 c = let a = c.before.args in minus-value a.magnitude c.before.requires ∙ signed-minus a.minus a.magnitude c.if-minus-eq0.false
 
 pub coefficient_of_spec : {M : Type 1} → statement M

@@ -19,20 +19,20 @@ read_head_spec =
     (λ c.
     let size = c.before in
     let edition = size.before.before.before in
-    other_length _ edition.before.if-src-lt5.false edition.get-edition.ensures size.before.before.if-edition-eq0.false size.before.if-edition-gt2.false size.get-edition.ensures
+    other_length _ edition.before.if-src-lt5.false edition.get-edition.ensures size.before.before.if-edition-eq0.false size.before.if-edition-gt2.false size.get.ensures
     c.if-get-src.true)
     (λ c κs. search rules)
     (λ c.
     let variables = c.before in
     let size = variables.before.before in
     let edition = size.before.before.before in
-    no-variables _ edition.before.if-src-lt5.false edition.get-edition.ensures size.before.before.if-edition-eq0.false size.before.if-edition-gt2.false size.get-edition.ensures
+    no-variables _ edition.before.if-src-lt5.false edition.get-edition.ensures size.before.before.if-edition-eq0.false size.before.if-edition-gt2.false size.get.ensures
     variables.before.if-get-src.false variables.get-variables.ensures c.if-variables-eq0.true)
     (λ c.
     let variables = c.before.before in
     let size = variables.before.before in
     let edition = size.before.before.before in
-    many-variables _ edition.before.if-src-lt5.false edition.get-edition.ensures size.before.before.if-edition-eq0.false size.before.if-edition-gt2.false size.get-edition.ensures
+    many-variables _ edition.before.if-src-lt5.false edition.get-edition.ensures size.before.before.if-edition-eq0.false size.before.if-edition-gt2.false size.get.ensures
     variables.before.if-get-src.false variables.get-variables.ensures c.before.if-variables-eq0.false c.if-variables-gt16.true)
     (λ c κs. search rules)
     (λ c.
@@ -40,7 +40,7 @@ read_head_spec =
     let variables = polynomials.before.before.before in
     let size = variables.before.before in
     let edition = size.before.before.before in
-    many-polynomials _ edition.before.if-src-lt5.false edition.get-edition.ensures size.before.before.if-edition-eq0.false size.before.if-edition-gt2.false size.get-edition.ensures
+    many-polynomials _ edition.before.if-src-lt5.false edition.get-edition.ensures size.before.before.if-edition-eq0.false size.before.if-edition-gt2.false size.get.ensures
     variables.before.if-get-src.false variables.get-variables.ensures polynomials.before.before.if-variables-eq0.false polynomials.before.if-variables-gt16.false
     polynomials.get-polynomials.ensures c.if-polynomials-gt64.true)
     (λ c κs. search rules)
@@ -50,7 +50,7 @@ read_head_spec =
     let variables = polynomials.before.before.before in
     let size = variables.before.before in
     let edition = size.before.before.before in
-    no-nodes _ edition.before.if-src-lt5.false edition.get-edition.ensures size.before.before.if-edition-eq0.false size.before.if-edition-gt2.false size.get-edition.ensures
+    no-nodes _ edition.before.if-src-lt5.false edition.get-edition.ensures size.before.before.if-edition-eq0.false size.before.if-edition-gt2.false size.get.ensures
     variables.before.if-get-src.false variables.get-variables.ensures polynomials.before.before.if-variables-eq0.false polynomials.before.if-variables-gt16.false
     polynomials.get-polynomials.ensures nodes.before.if-polynomials-gt64.false nodes.get-nodes.ensures c.if-nodes-eq0.true)
     (λ c.
@@ -59,6 +59,6 @@ read_head_spec =
     let variables = polynomials.before.before.before in
     let size = variables.before.before in
     let edition = size.before.before.before in
-    head_read _ edition.before.if-src-lt5.false edition.get-edition.ensures size.before.before.if-edition-eq0.false size.before.if-edition-gt2.false size.get-edition.ensures
+    head_read _ edition.before.if-src-lt5.false edition.get-edition.ensures size.before.before.if-edition-eq0.false size.before.if-edition-gt2.false size.get.ensures
     variables.before.if-get-src.false variables.get-variables.ensures polynomials.before.before.if-variables-eq0.false polynomials.before.if-variables-gt16.false
     polynomials.get-polynomials.ensures nodes.before.if-polynomials-gt64.false nodes.get-nodes.ensures c.if-nodes-eq0.false))

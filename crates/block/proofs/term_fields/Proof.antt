@@ -15,7 +15,7 @@ shifted n few = let small : 4 * n < 64 = omega arith in rw one-mul (mod-eq_of_lt
 rem-t16 : tie.Need-nonzero-rem-t16
 rem-t16 c = rw (shifted c.before.before.before.args.n c.before.if-n-gt6.false) (pow_pos (4 * c.before.before.before.args.n))
 
-returns-2 : tie.Need-returns-then-n-gt6
+returns-2 : tie.Need-returns
 returns-2 c =
     let s = c.before.before.before in
     let a = s.args in

@@ -12,7 +12,7 @@ use Rattle.columns.proofs.left_below.Tie as tie
 returns : tie.Need-returns-then-non_negative
 returns c = left-under (non_negative (kind c.before.before.before.before.before.before.before.before.args.set1)) c.left_of.ensures
 
-returns-2 : tie.Need-returns-then-non_negative
+returns-2 : tie.Need-returns
 returns-2 c =
     let d = c.before.before.before.args in
     left-none (λ (q2 : Mask) (set2 : SignSet). some_second (joined d.p (swapped d.q1)) q2 (kind set2))

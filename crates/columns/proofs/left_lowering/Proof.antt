@@ -19,7 +19,7 @@ returns c =
     left-none (λ (q2 : Mask) (set2 : SignSet). some_both (swapped d.p) d.q1 (kind d.set1) q2 (kind set2))
     (ap not (eq-eqb _ 0 c.if-set-eq0.true))
 
-returns-2 : tie.Need-returns-then-set-eq0
+returns-2 : tie.Need-returns
 returns-2 c =
     let d = c.before.before.before.before.before.args in
     let e = c.before.before.swapped-face.ensures in

@@ -15,7 +15,7 @@ returns c =
     let d = c.before.before.before.before.args in
     left-under (leb 2 d.set) (left_both d.columns.now d.p d.q1 d.set1 c.before.left_above.ensures c.left_below.ensures)
 
-returns-2 : tie.Need-returns-then-set-ge2
+returns-2 : tie.Need-returns
 returns-2 c =
     let d = c.before.before.args in
     left-none (λ (q2 : Mask) (set2 : SignSet). some_both d.p d.q1 (kind d.set1) q2 (kind set2)) (lt-leb 2 d.set (omega arith))

@@ -45,7 +45,7 @@ returns c block w =
     let a = (start writing).args in
     finishes-not (write_block (edition_of a.edition) block) a.output.now (omega (arith, c.if-output-size.true, size_is writing block w))
 
-returns-2 : tie.Need-returns-then-output-size
+returns-2 : tie.Need-returns
 returns-2 c block w =
     let writing = c.before.before.before.before.before.before.before in
     let a = (start writing).args in

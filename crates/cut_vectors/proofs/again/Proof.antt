@@ -22,7 +22,7 @@ same_length : tie.Need-shape_of-image invariant-loop decreases-loop
 same_length c = c.before.before.before.before.before.before.loop-k.invariant.0
 
 same-length-2 : tie.Need-shape_of-torn invariant-loop decreases-loop
-same-length-2 c = c.before.before.again_in-counted.auto.1.1.0 ∙ c.before.before.before.before.before.before.loop-k.invariant.1
+same-length-2 c = c.before.before.again_in.auto.1.1.0 ∙ c.before.before.before.before.before.before.loop-k.invariant.1
 
 pub again_spec : {M : Type 1} → statement M
 again_spec =

@@ -28,7 +28,7 @@ loop-again c =
     let h : l.i < c.before.before.before.before.few-n.result = omega arith in
     (omega arith, (l.invariant.1.0, sym (empty-later _ _ _ h c.if-set-eq0.false) ∙ l.invariant.1.1))
 
-returns-2 : tie.Need-returns-then-set-eq0 invariant-loop decreases-loop
+returns-2 : tie.Need-returns invariant-loop decreases-loop
 returns-2 c =
     let l = c.before.loop-i in
     let h : c.before.before.few-n.result ≤ l.i = omega arith in

@@ -11,7 +11,7 @@ returns-2 : tie.Need-returns-else-holds
 unfolding verdict_of
 returns-2 c = rw (c.before.if-fits.true, c.if-holds.false)
 
-returns-3 : tie.Need-returns-then-holds
+returns-3 : tie.Need-returns
 unfolding verdict_of
 returns-3 c = rw c.if-fits.false
 

@@ -83,7 +83,7 @@ without-implied-requires c κs =
     let left = left_by s.requires.0 joined merged behind ran c.before.before.if-ran.false in
     (s.requires.0, (row-long ran.lists, (omega (arith, later.size, few s.requires.0 joined merged behind), left)))
 
-returns-3 : tie.Need-returns-then-ran
+returns-3 : tie.Need-returns
 returns-3 c l h =
     let s = c.before.before.before.before.before.before.before.before.before.before.before.before.before.before.before.before.before.before in
     let joined = c.before.before.before.before.before.before.before.before.before.before.before.before.before.before.before.join_all-joined.ensures.1 l h in

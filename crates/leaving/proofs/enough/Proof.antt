@@ -48,7 +48,7 @@ unfolding enough_for enough_if
 returns c k l hk hl =
     rw c.before.if-question.true (c.excludes.ensures _ (appended k l _ _ hl.size (c.before.before.before.append-others.ensures.1 k l hk hl (omega (arith, hl.size)))))
 
-returns-2 : tie.Need-returns-then-question
+returns-2 : tie.Need-returns
 unfolding enough_for enough_if
 returns-2 c k l hk hl =
     rw c.before.if-question.false (c.implies.ensures _ (appended k l _ _ hl.size (c.before.before.before.append-others.ensures.1 k l hk hl (omega (arith, hl.size)))))

@@ -54,7 +54,7 @@ returns c l h =
     let s = c.before.before.before.before.before.before.before.before.before in
     implied-by-contradiction (table s) _ c.before.before.afresh-fresh.result.ran (c.before.before.afresh-fresh.ensures.outcome ∙ ap (run s.args.variables) (c.before.before.before.before.atoms_in-atoms.ensures.1 (table s) l h)) _ c.if-ran.true
 
-returns-2 : tie.Need-returns-then-ran
+returns-2 : tie.Need-returns
 unfolding atom_of
 returns-2 c l h =
     let s = c.before.before.before.before.before.before.before.before.before.before.before.before.before.before.before.before.before.before in

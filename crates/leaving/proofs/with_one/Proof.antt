@@ -8,7 +8,7 @@ use Rattle.leaving.proofs.with_one.Tie as tie
 returns : tie.Need-returns-then-at-list
 returns c k l hk hl = one-more k l _ hl (omega (arith, hl.size, c.before.before.if-at-list.true)) (c.push.ensures.1 k hk)
 
-returns-2 : tie.Need-returns-then-at-list
+returns-2 : tie.Need-returns
 returns-2 c k l hk hl = no_more k l c.if-at-list.false hl.size hk
 
 pub with_one_spec : {M : Type 1} → statement M

@@ -35,7 +35,7 @@ and-root c tree h = let n = held-and tree h c.before.before.if-root-eq1.true in 
 or-rule-requires : tie.Need-or_rule-found-requires
 or-rule-requires c κs = let pre = c.before.before.before.before.before.requires in let n = held-or pre.1.0 pre.1.1 c.before.if-root-eq0.false c.if-root-eq1.false in (pre.0, (n.kids, (n.rest, n.holds)))
 
-or-root : tie.Need-returns-then-root-eq0
+or-root : tie.Need-returns
 or-root c tree h = let n = held-or tree h c.before.before.before.if-root-eq0.false c.before.before.if-root-eq1.false in root-done n _ (c.before.or_rule-found.ensures n.kids n.rest n.holds)
 
 pub root_level_spec : {M : Type 1} → statement M

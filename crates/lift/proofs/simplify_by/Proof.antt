@@ -15,7 +15,7 @@ returns c =
       never-longer-answer (length a.output.now) a.input.now,
     )
 
-returns-2 : tie.Need-returns-then-output-input
+returns-2 : tie.Need-returns
 returns-2 c =
     let answering = c.before.before.before in
     let a = answering.before.before.before.before.before.before.args in (

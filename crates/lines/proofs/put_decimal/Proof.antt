@@ -48,12 +48,12 @@ room-three-2 c κs =
     let tested = c.before.before.before.before.before in
     omega (arith, ap length (three-digits tested.before.before.before.args.n tested.if-n-lt100.false))
 
-room-three-3 : tie.Need-put_digit-ones-requires
+room-three-3 : tie.Need-put_digit-requires-2
 room-three-3 c κs =
     let tested = c.before.before.before.before.before.before.before.before.before in
     omega (arith, ap length (three-digits tested.before.before.before.args.n tested.if-n-lt100.false))
 
-returns-three : tie.Need-returns-then-n-lt10
+returns-three : tie.Need-returns
 returns-three c =
     let third = c.before.before in
     let second = third.before.before.before.before in

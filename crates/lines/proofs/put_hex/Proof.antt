@@ -20,7 +20,7 @@ room-rest c κs =
     let tested = c.before.before.before.before.before.before.before in
     omega (arith, simp length-append at (ap length (hex-whole tested.before.before.before.args.block.now tested.if-block-eq0.false)))
 
-returns-2 : tie.Need-returns-then-block-eq0
+returns-2 : tie.Need-returns
 returns-2 c =
     let pair = c.before.before.before.before.before.before.before in
     let tested = pair.before.before.before in

@@ -13,7 +13,7 @@ unfolding hex_pair
 returns c =
     let second = c.before.before.before in
     let first = c.before.before.before.before.before.before.before in
-    wrote_as (wrote-both first.put_byte-second.ensures c.before.before.put_byte-second.ensures)
+    wrote_as (wrote-both first.put_byte-second.ensures c.before.before.put_byte.ensures)
     (ap₂ (λ (d e : ℕ). d ∷ e ∷ []) first.before.hex_digit.ensures second.hex_digit-2.ensures)
 
 pub put_pair_spec : {M : Type 1} → statement M

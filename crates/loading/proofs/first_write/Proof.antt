@@ -11,7 +11,7 @@ returns c = first-outside c.before.args.area.now (omega (arith, c.if-area-le3.tr
 returns-2 : tie.Need-returns-then-area
 returns-2 c = let a = c.before.before.before.args in first-left-out a.area.now c.if-area.true
 
-returns-3 : tie.Need-returns-then-area-le3
+returns-3 : tie.Need-returns
 returns-3 c = let a = c.before.before.before.args in first_made a.area.now (λ full. omega (arith, full, c.if-area.false))
 
 pub first_write_spec : {M : Type 1} → statement M

@@ -30,7 +30,7 @@ returns-3 c =
     high.ensures.1 low.ensures.1 in
     lent-all a.area.now (λ five. omega (arith, five, said, c.if-all-said.true))
 
-returns-4 : tie.Need-returns-then-all-lt5
+returns-4 : tie.Need-returns
 returns-4 c =
     let low = c.before.before.wide-2 in
     let high = c.before.before.before.before.wide in

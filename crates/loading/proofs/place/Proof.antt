@@ -19,7 +19,7 @@ returns-3 c =
     place-before a.size a.k (λ first. omega (arith, first, c.before.before.if-k-eq0.false)) (λ last. omega (arith, last, c.before.if-k-size.false))
     (omega (arith, c.if-k-le3.true))
 
-returns-4 : tie.Need-returns-then-k-eq0
+returns-4 : tie.Need-returns
 returns-4 c =
     let a = c.before.before.before.args in
     place-from a.size a.k (λ first. omega (arith, first, c.before.before.if-k-eq0.false)) (λ last. omega (arith, last, c.before.if-k-size.false))

@@ -16,7 +16,7 @@ returns-2 c =
     let a = placed.before.before.before.args in
     value-own a.block.now a.k placed.place-at.result (λ first. omega (arith, first, placed.before.if-k-eq0.false)) placed.place-at.ensures
 
-returns-3 : tie.Need-returns-then-k-eq0
+returns-3 : tie.Need-returns
 returns-3 c =
     let placed = c.before in
     let a = placed.before.before.before.args in

@@ -14,7 +14,7 @@ returns-2 : tie.Need-returns-then-c-gt0
 returns-2 c = weighed-above c.before.before.before.when_positive-above.ensures c.before.before.when_negative-below.ensures
     (sign_above _ (rw (to_z-of_z w32 _ c.before.before.before.before.ranges.c) at c.if-c-gt0.true))
 
-returns-3 : tie.Need-returns-then-c-lt0
+returns-3 : tie.Need-returns
 returns-3 c =
     let b = to_z-of_z w32 _ c.before.before.before.before.ranges.c in
     weighed-none (sign-neither _ (rw b at c.before.if-c-lt0.false) (rw b at c.if-c-gt0.false))

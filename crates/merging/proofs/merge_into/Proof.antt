@@ -21,7 +21,7 @@ found c = (
   λ t l forms h.
       let loop = c.before.before.before.before.before.before.before.before.loop-i in
       into-found forms h (loop.invariant.1 t l forms h) (omega (arith, h.size, c.before.before.before.before.before.before.before.loop-i-test.true)) _ _ _
-      (sym c.before.before.before.before.before.slot_of-number.ensures ∙ c.before.before.before.before.if-slot_of-number.true ∙ c.before.before.before.before.before.before.before.before.before.slot_of-number.ensures)
+      (sym c.before.before.before.before.before.slot_of.ensures ∙ c.before.before.before.before.if-slot_of-number.true ∙ c.before.before.before.before.before.before.before.before.before.slot_of-number.ensures)
       (rw (c.before.before.before.set_of.ensures, c.before.before.set_of-then-slot_of-number.ensures) at c.before.intersect-set.ensures) c.with_set.ensures refl refl,
 )
 
@@ -31,10 +31,10 @@ again c =
       omega (arith, c.before.before.before.loop-i-test.true),
       λ t l forms h.
           into-turn forms h (loop.invariant.1 t l forms h) (omega (arith, h.size, c.before.before.before.loop-i-test.true))
-          (λ e. c.if-slot_of-number.false (c.before.slot_of-number.ensures ∙ e ∙ sym c.before.before.before.before.before.slot_of-number.ensures)),
+          (λ e. c.if-slot_of-number.false (c.before.slot_of.ensures ∙ e ∙ sym c.before.before.before.before.before.slot_of-number.ensures)),
     )
 
-pushed : tie.Need-returns-then-slot_of-number invariant-loop decreases-loop
+pushed : tie.Need-returns invariant-loop decreases-loop
 pushed c = (
   omega (arith, c.push.ensures.0),
   λ t l forms h.

@@ -8,7 +8,7 @@ returns : tie.Need-returns-then-inside
 unfolding truth_if
 returns c = rw (sym c.before.before.set_of.ensures, sym c.before.inside.ensures, c.if-inside.true)
 
-returns-2 : tie.Need-returns-then-inside
+returns-2 : tie.Need-returns
 unfolding truth_if
 returns-2 c = rw (sym c.before.before.set_of.ensures, sym c.before.inside.ensures, c.if-inside.false)
 

@@ -48,7 +48,7 @@ returns : tie.Need-returns-then-common-eq0 invariant-loop decreases-loop
 unfolding content
 returns c = or-one-none c.before.before.loop-i.common c.if-common-eq0.true ∙ ap or_one (found c.before)
 
-returns-2 : tie.Need-returns-then-common-eq0 invariant-loop decreases-loop
+returns-2 : tie.Need-returns invariant-loop decreases-loop
 unfolding content
 returns-2 c = or-one-some c.before.before.loop-i.common c.if-common-eq0.false ∙ ap or_one (found c.before)
 

@@ -55,7 +55,7 @@ returns c =
     let turns = sym c.before.before.before.if-first_is_negative.true ∙ test d in
     (turns, c.before.negate.ensures ∙ rw (← turns) (ap (λ (l : List ℤ). negated_run l (given d).args.from (given d).args.to) (divided-is d)))
 
-returns-2 : tie.Need-returns-then-first_is_negative
+returns-2 : tie.Need-returns
 unfolding normal_run turned_run
 returns-2 c = let turns = sym c.if-first_is_negative.false ∙ test c.before in (turns, rw (← turns) (divided-is c.before))
 

@@ -23,7 +23,7 @@ seen-requires c κs =
       second_small = c.before.small-2.ensures.yes (not-false _ c.if-not-small-2.false);
     }
 
-returns-4 : tie.Need-returns-then-k-eq0
+returns-4 : tie.Need-returns
 returns-4 c =
     let first = c.before.before.before.before.before.before in
     record { on = λ s t h. c.finding.ensures ∙ ap finding_from (c.before.seen.ensures.on s t) ∙ finding-met _ _ ∙ deduced _ _ _ _ first.if-k-eq0.false h }

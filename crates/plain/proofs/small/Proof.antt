@@ -37,7 +37,7 @@ loop-again c =
     let l = c.before.before.before.loop-i in
     (omega (arith, l.invariant.0), more-small l.invariant.1 (is-small (c-fits c.before) (rw (back (c-fits c.before)) at c.if-c-ltminus2147483647.false)))
 
-returns-2 : tie.Need-returns-then-c-ltminus2147483647 invariant-loop decreases-loop
+returns-2 : tie.Need-returns invariant-loop decreases-loop
 returns-2 c =
     let l = c.before.loop-i in
     record { yes = λ e. record { each = λ k h m. l.invariant.1.each k h (omega arith) }; no = λ e. absurd (true≢false e) }

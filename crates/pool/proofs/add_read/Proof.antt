@@ -30,7 +30,7 @@ fill-requires c κs =
     let h = c.before.before.before.before.before.before.before.before.before.forms_of-count.ensures in
     (s.requires.0, below-32 s.args.number _ (sym c.before.before.before.before.before.before.before.before.before.before.before.before.before.before.before.before.before.before.is_open.ensures ∙ not-false _ c.before.before.before.before.before.before.before.before.before.before.before.before.before.before.before.before.before.if-not-is_open.false), h.room, h.slots, h.most)
 
-returns-3 : tie.Need-returns-then-not-is_open
+returns-3 : tie.Need-returns
 unfolding block_from
 returns-3 c =
     let s = c.before.before.before.before.before.before.before.before.before.before.before.before.before.before.before.before.before.before.before.before.before.before.before.before.before.before in

@@ -13,7 +13,7 @@ returns c =
     let a = c.before.args in
     sym (ap (λ (b : Bool). b || eqb a.n a.variables) (sym (no-mark a.present) ∙ eq-eqb (a.present % 4294967296) 0 c.if-present-eq0.true))
 
-returns-2 : tie.Need-returns-then-present-eq0
+returns-2 : tie.Need-returns
 returns-2 c =
     let a = c.before.args in
     sym (ap (λ (b : Bool). b || eqb a.n a.variables) (sym (no-mark a.present) ∙ ne_eqb (a.present % 4294967296) 0 c.if-present-eq0.false))

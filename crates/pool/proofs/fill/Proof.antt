@@ -14,7 +14,7 @@ returns c =
     filled-full a.pool.now a.number a.variables (forms_in a.coefficient.now a.monomial.now a.terms.now (numbers_from a.order.now 0 a.count))
     (omega (arith, c.if-used-fresh-gt128.true, c.before.used.ensures.0, c.before.before.before.new_forms-fresh.ensures.0))
 
-returns-2 : tie.Need-returns-then-used-fresh-gt128
+returns-2 : tie.Need-returns
 returns-2 c =
     let a = c.before.before.before.before.before.before.before.before.before.before.before.before.before.before.before.args in
     let forms = forms_in a.coefficient.now a.monomial.now a.terms.now (numbers_from a.order.now 0 a.count) in

@@ -14,7 +14,7 @@ returns c =
     ap not c.mark.ensures
     ∙ sym (ap (λ (b : Bool). b && not (get_or (marks 32 a.present) a.number false)) (lt-ltb a.number 32 c.before.if-number-lt32.true))
 
-returns-2 : tie.Need-returns-then-number-lt32
+returns-2 : tie.Need-returns
 returns-2 c =
     let a = c.before.args in
     sym (ap (λ (b : Bool). b && not (get_or (marks 32 a.present) a.number false)) (le-ltb a.number 32 c.if-number-lt32.false))

@@ -17,7 +17,7 @@ some (suc k) n e = refl
 returns : tie.Need-returns-then-left-eq0
 returns c = none _ _ c.if-left-eq0.true
 
-returns-2 : tie.Need-returns-then-left-eq0
+returns-2 : tie.Need-returns
 returns-2 c = some _ _ c.if-left-eq0.false
 
 pub kept_spec : {M : Type 1} → statement M

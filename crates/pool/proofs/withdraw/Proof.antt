@@ -22,7 +22,7 @@ unlist-all-requires : tie.Need-unlist_all-requires
 unlist-all-requires c κs =
     (c.before.before.before.before.before.before.if-pool-lt-POOL_WORDS.false, below-32 c.before.before.before.before.before.before.before.before.args.number _ (sym c.before.before.before.before.is_there.ensures ∙ not-false _ c.before.before.before.if-not-is_there.false))
 
-returns-3 : tie.Need-returns-then-pool-lt-POOL_WORDS
+returns-3 : tie.Need-returns
 returns-3 c =
     let a = c.before.before.before.before.before.before.before.before.before.before.before.before.args in
     gives_as (withdrawn-is a.number a.pool.now _ _ _ c.before.before.before.unlist_all.ensures c.before.before.before.before.before.with_mark-left.ensures c.kept.ensures)

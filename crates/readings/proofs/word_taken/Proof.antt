@@ -16,4 +16,4 @@ pub word_taken_spec : {M : Type 1} → statement M
 word_taken_spec =
     tie.close
     (tie.spec invariant-loop decreases-loop (λ c. refl) (λ c. omega arith) (λ c κs. tt) (λ c. omega arith) (λ c. omega arith) (λ c. c.before.taken-next.auto.1.1.0 ∙ c.before.before.before.before.before.loop-i.invariant)
-    (λ c κs. tt) (λ c. c.before.taken-next.auto.1.1.0 ∙ c.before.before.before.before.loop-i.invariant) (λ c. tt))
+    (λ c κs. tt) (λ c. c.before.taken.auto.1.1.0 ∙ c.before.before.before.before.loop-i.invariant) (λ c. tt))

@@ -28,7 +28,7 @@ found : tie.Need-returns-then-number-slot_of invariant-loop decreases-loop
 found c l h =
     let loop = c.before.before.before.before.before.loop-i in
     let low : loop.i < length l = omega (arith, h.size, c.before.before.before.before.loop-i-test.true) in
-    c.place_of.ensures ∙ sym (first_here h low _ (c.before.if-number-slot_of.true ∙ c.before.before.slot_of-number.ensures)) ∙ loop.invariant.1 l h
+    c.place_of.ensures ∙ sym (first_here h low _ (c.before.if-number-slot_of.true ∙ c.before.before.slot_of.ensures)) ∙ loop.invariant.1 l h
     ∙ ap (λ (number : ℕ). first_place number l (place c.before.before.before.before.before.before.before.args.token))
     c.before.before.before.before.before.before.slot_of-number.ensures
 
@@ -38,10 +38,10 @@ again c =
       omega arith,
       λ l h.
           let low : loop.i < length l = omega (arith, h.size, c.before.before.before.loop-i-test.true) in
-          sym (first_later h low _ (λ e. c.if-number-slot_of.false (e ∙ sym c.before.slot_of-number.ensures))) ∙ loop.invariant.1 l h,
+          sym (first_later h low _ (λ e. c.if-number-slot_of.false (e ∙ sym c.before.slot_of.ensures))) ∙ loop.invariant.1 l h,
     )
 
-none : tie.Need-returns-then-number-slot_of invariant-loop decreases-loop
+none : tie.Need-returns invariant-loop decreases-loop
 none c l h =
     let loop = c.before.before.loop-i in
     c.place_of-2.ensures ∙ sym (first-none c.before.before.before.slot_of-number.result _ l loop.i

@@ -18,7 +18,7 @@ returns c l h =
     let low : kept < length l = omega (arith, h.size, c.before.before.before.if-kept-left.true) in
     ap₂ eqb c.before.before.place_of.ensures c.place_of-then-kept-left.ensures ∙ sym (next-is h low _)
 
-returns-2 : tie.Need-returns-then-kept-left
+returns-2 : tie.Need-returns
 returns-2 c l h = sym (none-next l c.before.args.kept _ (omega (arith, h.size, c.if-kept-left.false)))
 
 pub is_next_spec : {M : Type 1} → statement M

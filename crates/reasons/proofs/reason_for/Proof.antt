@@ -14,7 +14,7 @@ returns-2 c l f low =
     merged-told s.requires.0 s.args.token c.before.before.before.first_place-first.ensures f c.before.before.before.before.if-fates.false
     (λ e. c.before.if-first-place_of.true (e ∙ sym c.before.before.place_of.ensures)) low c.without_places.ensures
 
-returns-3 : tie.Need-returns-then-fates
+returns-3 : tie.Need-returns
 returns-3 c l f low =
     let s = c.before.before.before.before.before.before.before in
     stepped-told s.requires.0 s.args.token c.before.before.before.first_place-first.ensures f c.before.before.before.before.if-fates.false

@@ -10,7 +10,7 @@ kept : tie.Need-returns-then-set-own
 unfolding made kept_or_narrowed
 kept c = rw (eq-eqb _ _ c.before.if-set-own.true) c.without_places.ensures
 
-narrowed : tie.Need-returns-then-set-own
+narrowed : tie.Need-returns
 unfolding made kept_or_narrowed
 narrowed c = rw (ne_eqb _ _ c.before.if-set-own.false) c.without_places-2.ensures
 

@@ -30,7 +30,7 @@ returns c l h =
     let loop = c.before.before.before.before.before.before.before.before.before in
     let w = loop.loop-i.invariant.1 in
     let same = sym loop.before.place_of-own.ensures ∙ c.before.before.before.before.if-own-place_of.true
-    ∙ c.before.before.before.before.before.place_of-own.ensures in
+    ∙ c.before.before.before.before.before.place_of.ensures in
     c.staying.ensures
     ∙ ap₂ (λ (set own : ℕ). made (kept_or_narrowed (eqb set own) set)) c.before.before.set_of.ensures c.before.set_of-then-stays.ensures
     ∙ ap made (tells-staying _ _ _ _ _ w c.before.before.before.before.before.before.before.before.loop-i-test.true
@@ -67,7 +67,7 @@ returns-2 c l h =
     let loop = c.before.before.before.before.before.before.before.before in
     let w = loop.loop-i.invariant.1 in
     let same = sym loop.before.place_of-own.ensures ∙ c.before.before.before.if-own-place_of.true
-    ∙ c.before.before.before.before.place_of-own.ensures in
+    ∙ c.before.before.before.before.place_of.ensures in
     c.going.ensures _ (c.before.others_of-others.ensures w.left-1 w.carrying w.rest_lists w.lists)
     ∙ ap made (tells-going _ _ _ _ _ w c.before.before.before.before.before.before.before.loop-i-test.true
     c.before.before.before.before.before.is_next-stays.ensures c.before.before.if-stays.false same h)
@@ -84,7 +84,7 @@ loop-again c =
       omega arith,
       one-stays _ _ _ _ _ loop.loop-i.invariant.1 c.before.before.before.before.before.loop-i-test.true
           c.before.before.before.is_next-stays.ensures c.if-stays-2.true
-          (λ e. c.before.if-own-place_of.false (loop.before.place_of-own.ensures ∙ e ∙ sym c.before.before.place_of-own.ensures)),
+          (λ e. c.before.if-own-place_of.false (loop.before.place_of-own.ensures ∙ e ∙ sym c.before.before.place_of.ensures)),
     )
 
 loop-again-2 : tie.Need-loop-i-preserved invariant-loop decreases-loop
@@ -93,11 +93,11 @@ loop-again-2 c =
       omega arith,
       one-goes _ _ _ _ _ loop.loop-i.invariant.1 c.before.before.before.before.before.loop-i-test.true
           c.before.before.before.is_next-stays.ensures c.if-stays-2.false
-          (λ e. c.before.if-own-place_of.false (loop.before.place_of-own.ensures ∙ e ∙ sym c.before.before.place_of-own.ensures)),
+          (λ e. c.before.if-own-place_of.false (loop.before.place_of-own.ensures ∙ e ∙ sym c.before.before.place_of.ensures)),
     )
 
 -- it is none of them
-returns-3 : tie.Need-returns-then-stays invariant-loop decreases-loop
+returns-3 : tie.Need-returns invariant-loop decreases-loop
 unfolding made words_of words_from
 returns-3 c l h = c.without_places.ensures ∙ ap made (tells_none _ _ _ _ _ c.before.before.loop-i.invariant.1 c.before.loop-i-test.false h)
 

@@ -44,7 +44,7 @@ turned-largest-requires c κs =
       (uncut-bounded _ _ _ start.ensures.0 s.args.list c.before.before.before.before.before.before.before.run-ran.ensures start.result start.ensures.1 (uncut c.before), omega arith),
     )
 
-returns-3 : tie.Need-returns-then-variables-many
+returns-3 : tie.Need-returns
 returns-3 c =
     let s = c.before.before.before.before.before.before.before.before.before.before.before in
     let start = c.before.before.before.before.start-first in

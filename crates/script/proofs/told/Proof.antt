@@ -10,12 +10,12 @@ too_long c block stands =
     let measuring = c.before.before in
     tells-long block _ (omega (arith, measured block (measuring.put_script-length.ensures block stands), c.if-text-length.true))
 
-fits : tie.Need-returns-then-text-length
+fits : tie.Need-returns
 fits c block stands =
     let writing = c.before.before in
     let tested = writing.before.before in
     let size = measured block (tested.before.before.put_script-length.ensures block stands) in
-    tells-script block _ size (omega (arith, size, tested.if-text-length.false)) (writing.put_script-length.ensures block stands)
+    tells-script block _ size (omega (arith, size, tested.if-text-length.false)) (writing.put_script.ensures block stands)
 
 pub told_spec : {M : Type 1} → statement M
 told_spec =

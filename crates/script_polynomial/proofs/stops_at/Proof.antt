@@ -8,7 +8,7 @@ use Rattle.script_polynomial.proofs.stops_at.Tie as tie
 longest-requires : tie.Need-longest-reach-requires
 longest-requires c κs = let s = c.before.before.before.before in (s.requires.1, some_read s.requires.0)
 
-returns-2 : tie.Need-returns-then-known-lt64
+returns-2 : tie.Need-returns
 returns-2 c = stops-full _ _ _ _ _ _ _ c.before.longest-reach.ensures c.before.before.if-known-lt64.false c.smaller_of.ensures
 
 pub stops_at_spec : {M : Type 1} → statement M

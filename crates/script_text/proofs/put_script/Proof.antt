@@ -52,4 +52,4 @@ put_script_spec =
     let names = begin.before.before.before.before.before in
     let logic = names.before.before.before.before in
     wrote-split (script-split stands) logic.put_bytes-declarations.ensures (wrote-split two_runs names.put_declarations-assertion.ensures
-    (wrote-split two_runs begin.put_bytes-tree.ensures (wrote-split two_runs (root.put_root-end.ensures block stands) end.put_bytes-declarations.ensures)))))
+    (wrote-split two_runs begin.put_bytes-tree.ensures (wrote-split two_runs (root.put_root-end.ensures block stands) end.put_bytes.ensures)))))

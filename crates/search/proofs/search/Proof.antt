@@ -55,7 +55,7 @@ returns c =
 abbrev with-atoms : State → Atoms → State
 with-atoms st a = record { board = st.board; atoms = a }
 
-returns-2 : tie.Need-returns-then-of_board
+returns-2 : tie.Need-returns
 returns-2 c =
     let s = c.before.before.before.before.before.before.before.before.before.before.before.before.before.before in
     let st = s.args.state in

@@ -35,7 +35,7 @@ returns c =
     c.cut_by_others.ensures
     ∙ says-by-pairs s.args.variables (state_of t s.args.state) (form_at t s.args.number) said
 
-returns-2 : tie.Need-returns-then-pairs_matter
+returns-2 : tie.Need-returns
 returns-2 c =
     let s = c.before.before.before.before.before.before.before.before.before.before.before in
     c.before.before.before.says_before_pairs-said.ensures ∙ sym (c.before.pairs_matter.ensures.idle c.if-pairs_matter.false s.requires.fact.0.1.1)

@@ -56,7 +56,7 @@ returns-2 c =
     ∙ ap (λ (x : SignSet). inside_of x s.args.bound.0)
     (says-by-pairs s.args.variables (state_of t s.args.state) (form_at t s.args.number) said.says_before_pairs-said.ensures)
 
-returns-3 : tie.Need-returns-then-inside
+returns-3 : tie.Need-returns
 returns-3 c =
     let s = c.before.before.before.before.before.before.before.before.before.before.before in
     let idle = c.before.pairs_matter.ensures.idle c.if-pairs_matter.false s.requires.fact_2.1 in

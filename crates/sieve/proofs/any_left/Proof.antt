@@ -17,7 +17,7 @@ any-try-requires c κs =
     let h = c.before.before.before.before.before.before.before.before.fill-n.ensures in
     record { first = h.firsts; second = h.seconds; third = h.thirds; signs = h.signs }
 
-returns-3 : tie.Need-returns-then-not-falls
+returns-3 : tie.Need-returns
 returns-3 c = none_left
     (omega (arith, c.before.before.before.before.before.before.before.before.before.before.before.before.before.before.if-set-ge8.false))
     c.before.before.before.before.before.before.before.before.before.fill-n.ensures c.any_try.ensures

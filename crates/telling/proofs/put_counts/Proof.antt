@@ -23,7 +23,7 @@ room-3 c κs =
     let digits = few c.before.before.before.before.before.before.before.before.before.before.args.counts in
     omega arith
 
-room-4 : tie.Need-put_number-second-requires
+room-4 : tie.Need-put_number-requires
 room-4 c κs =
     let digits = few c.before.before.before.before.before.before.before.before.before.before.before.before.before.before.args.counts in
     omega arith
@@ -36,7 +36,7 @@ returns c =
     let second = third.before.before.before.before in
     let first = second.before.before.before.before in
     wrote-both first.put_number-second.ensures
-    (wrote-both second.put_number-third.ensures (wrote-both third.put_number-last.ensures fourth.put_number-second.ensures))
+    (wrote-both second.put_number-third.ensures (wrote-both third.put_number-last.ensures fourth.put_number.ensures))
 
 pub put_counts_spec : {M : Type 1} → statement M
 put_counts_spec = tie.close (tie.spec room room-2 room-3 room-4 (λ c. search rules) returns)

@@ -33,7 +33,7 @@ room-newline c κs =
     let line = c.before.before.before.before.before.before.before.before.before.before.before.before.before in
     omega (arith, ap length line.make_answer-n.ensures.is, hex-long line.before.before.before.before.args.block.now)
 
-returns-2 : tie.Need-returns-then-text-n
+returns-2 : tie.Need-returns
 returns-2 c =
     let hex = c.before.before.before.before.before.before in
     let copy = hex.before.before.before.before in

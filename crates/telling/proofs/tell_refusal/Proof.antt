@@ -17,7 +17,7 @@ lends-line c =
 room : tie.Need-put_bytes-requires
 room c κs = omega (arith, ap length c.before.before.before.before.make_refusal-n.ensures.is)
 
-returns : tie.Need-returns-then-text-n
+returns : tie.Need-returns
 returns c =
     let line = c.before.before.before.before.before.before.before.make_refusal-n in
     told-all (omega arith) (wrote_as c.before.before.put_bytes.ensures line.ensures.is)

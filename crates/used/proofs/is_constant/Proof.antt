@@ -10,7 +10,7 @@ returns c n cs = let a = c.before.before.args in of-many n cs a.monomial.now a.t
 returns-2 : tie.Need-returns-then-count-eq0
 returns-2 c n cs = let a = c.before.before.before.args in of_none n cs a.monomial.now a.terms.now a.slot c.if-count-eq0.true
 
-returns-3 : tie.Need-returns-then-count-gt1
+returns-3 : tie.Need-returns
 returns-3 c n cs =
     let a = c.before.before.before.before.args in
     of_one n cs a.monomial.now a.terms.now a.slot c.before.before.if-count-gt1.false c.before.if-count-eq0.false

@@ -11,7 +11,7 @@ returns : tie.Need-returns-then-token-ge-JOIN
 unfolding renumbered atom_or
 returns c = rw (le-ltb c.before.args.token 16777216 c.if-token-ge-JOIN.true)
 
-returns-2 : tie.Need-returns-then-token-ge-JOIN
+returns-2 : tie.Need-returns
 unfolding renumbered atom_or
 returns-2 c = rw (lt-ltb c.before.before.args.token 16777216 c.before.if-token-ge-JOIN.false)
 

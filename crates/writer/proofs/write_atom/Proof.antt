@@ -27,4 +27,4 @@ write_atom_spec =
     let set = c.before.before in
     let number = set.before.before.before.before in
     wrote-both (atom-split _) number.before.before.before.before.write_field-kind.ensures (wrote-both two_runs number.write_field-number.ensures
-    set.write_field-kind.ensures)))
+    set.write_field.ensures)))

@@ -65,4 +65,4 @@ write_head_spec =
     let first = second.before.before.before.before in
     wrote-both (head-split _ _ _ _ _) first.before.before.before.before.write_field-start.ensures (wrote-both two_runs first.write_field-first.ensures
     (wrote-both two_runs second.write_field-second.ensures
-    (wrote-both two_runs third.write_field-third.ensures last.write_field-start.ensures)))))
+    (wrote-both two_runs third.write_field-third.ensures last.write_field.ensures)))))

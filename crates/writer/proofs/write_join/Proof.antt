@@ -16,4 +16,4 @@ write_join_spec =
           kind.write_field-next.auto.0,
     ))
     (λ c. search rules)
-    (λ c. wrote-both (join-split _ _) c.before.before.before.before.before.before.write_field-next.ensures c.before.before.write_field-next.ensures))
+    (λ c. wrote-both (join-split _ _) c.before.before.before.before.before.before.write_field-next.ensures c.before.before.write_field.ensures))

@@ -20,7 +20,7 @@ by-common-requires c κs =
     let (forms, (remain, known)) = s.requires.fact in
     ((forms, others-afresh remain), (omega (arith, s.requires.fact_2.0), without-it remain c.remade-made.ensures s.requires.fact_2.0 s.requires.fact_2.1))
 
-returns-2 : tie.Need-returns-then-not-open
+returns-2 : tie.Need-returns
 returns-2 c =
     let s = c.before.before.before.before.before.before.before.before in
     let (forms, (remain, known)) = s.requires.fact in

@@ -24,7 +24,7 @@ marking-run-requires c κs =
     let floored = floored-start s.requires.1.0.afresh begun.result started in
     (forms-over _ _ _ own s.requires.0, (above-over _ _ _ own above, floored-over _ _ _ own floored))
 
-returns-2 : tie.Need-returns-then-common
+returns-2 : tie.Need-returns
 returns-2 c =
     let s = c.before.before.before.before.before.before.before in
     let begun = c.before.before.start-begun in

@@ -7,7 +7,7 @@ use Rattle.common_run.proofs.Marking.{not-changed, marked-before, marked-now}
 use Rattle.common_run.proofs.marks.marked.Statement.{statement}
 use Rattle.common_run.proofs.marks.marked.Tie as tie
 
-returns-3 : tie.Need-returns-then-before-after
+returns-3 : tie.Need-returns
 returns-3 c =
     let s = c.before.before.before.before in
     let sixty-four : length s.args.marks.first ≡ 64 = search rules in

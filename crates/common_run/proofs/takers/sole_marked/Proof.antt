@@ -14,7 +14,7 @@ returns-2 c = sole-several _ _ _ c.if-by-gt64.true
 marked-requires : tie.Need-marked-requires
 marked-requires c κs = (omega (arith, c.if-by-gt64.false), c.before.before.requires)
 
-returns-3 : tie.Need-returns-then-by-eq0
+returns-3 : tie.Need-returns
 returns-3 c = sole-one _ _ _ c.before.before.if-by-eq0.false c.marked.ensures
 
 pub sole_marked_spec : {M : Type 1} → statement M

@@ -14,7 +14,7 @@ returns-2 c = its_own _ _ _ _ (omega arith) c.before.if-before-after.false
 returns-3 : tie.Need-returns-then-by-own
 returns-3 c = its_own _ _ _ _ (omega arith) c.before.before.if-before-after.false
 
-returns-4 : tie.Need-returns-then-before-after
+returns-4 : tie.Need-returns
 returns-4 c = of-several _ _ _ _ c.before.if-by-eq0.false (λ e. c.if-by-own.false (omega arith)) c.before.before.if-before-after.false
 
 pub taker_spec : {M : Type 1} → statement M

@@ -33,7 +33,7 @@ returns-2 c =
     let s = c.before.before.before.before.before.before.before.before.before.before.before in
     turn-idle (table s) s.args.atoms s.args.board refl s.args.i (place s) c.before.before.before.cut_marking-cut.ensures c.if-cut-old.true s.requires.0
 
-returns-3 : tie.Need-returns-then-old-low
+returns-3 : tie.Need-returns
 returns-3 c =
     let s = c.before.before.before.before.before.before.before.before.before.before.before.before.before.before.before in
     let ready = s.requires.0 in

@@ -8,7 +8,7 @@ use Rattle.common_run.proofs.without.mark_of.Tie as tie
 returns : tie.Need-returns-then-common
 returns c = record { whole = λ e. refl; fewer = λ e. absurd (false≢true (sym e ∙ c.before.before.if-common.true)) }
 
-returns-2 : tie.Need-returns-then-common
+returns-2 : tie.Need-returns
 returns-2 c = record { whole = λ e. absurd (false≢true (sym c.before.before.if-common.false ∙ e)); fewer = λ e. refl }
 
 pub mark_of_spec : {M : Type 1} → statement M

@@ -42,7 +42,7 @@ turned-largest-requires c κs =
     (forms-over _ _ _ own s.requires.0, (bounded-over _ _ _ own bounded, omega (arith, shared.ensures.0, s.requires.1.1.run.ran.most)))
 
 -- the rounds together
-returns-2 : tie.Need-returns-then-as_many
+returns-2 : tie.Need-returns
 returns-2 c =
     let s = c.before.before.before.before.before.before.before.before.before.before.before.before.before in
     let begun = c.before.before.before.before.before.before.start-begun in

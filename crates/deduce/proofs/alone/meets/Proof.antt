@@ -21,7 +21,7 @@ returns c = met-here _ _ _ _ (omega arith) c.if-its-m.true ∙ c.before.before.b
 loop-again : tie.Need-loop-i-preserved invariant-loop decreases-loop
 loop-again c = sym (met-later _ _ _ _ (omega arith) c.if-its-m.false) ∙ c.before.before.before.loop-i.invariant
 
-returns-2 : tie.Need-returns-then-its-m invariant-loop decreases-loop
+returns-2 : tie.Need-returns invariant-loop decreases-loop
 returns-2 c = sym (met-nowhere _ _ _ _ (omega arith)) ∙ c.before.loop-i.invariant
 
 pub meets_spec : {M : Type 1} → statement M

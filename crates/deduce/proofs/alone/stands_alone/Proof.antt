@@ -31,7 +31,7 @@ returns-3 c =
     let zero = is-zero {z = get_or s.coefficient.now s.p.from (pos 0)} (record { sfits = c.before.a-1.given }) c.if-a-eq0.true in
     simp (eq-eqb _ 1 d.before.before.before.if-p-i-ne1.false, asks, zero)
 
-returns-4 : tie.Need-returns-then-p-i-ne1
+returns-4 : tie.Need-returns
 unfolding stands_alone
 returns-4 c =
     let d = c.before.before.before.before in

@@ -109,7 +109,7 @@ returns-3 c =
     let none = (neither (has_t (interval_of r.l)) (has_t (interval_of r.u))).0 (sym c.before.has_t.ensures ∙ not-true _ c.if-not-has_t.true) in
     record { found = λ s t. finding-nothing _ (gathered_of r) _ none.0 none.1 ∙ ap (found_from _) (w.rest s t) }
 
-returns-4 : tie.Need-returns-then-a-eq0 invariant-loop decreases-loop
+returns-4 : tie.Need-returns invariant-loop decreases-loop
 returns-4 c =
     let l = c.before.before.before.before.before.loop-i in
     let a = c.before.before.before.before.before.before.before.before.args in

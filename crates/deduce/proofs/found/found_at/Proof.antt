@@ -55,7 +55,7 @@ returns-2 c =
     let start = d.before.before.before.before.before.before.before.before.before in
     last_none (walked d _ c.before.before.by-left.ensures) start.requires.within_2.1 (sym c.before.is_gone.ensures ∙ c.if-is_gone.true)
 
-returns-3 : tie.Need-returns-then-rules_out invariant-loop decreases-loop
+returns-3 : tie.Need-returns invariant-loop decreases-loop
 returns-3 c = last_done c.before.before.loop-i.invariant c.before.before.before.before.before.requires.within_2.1 (omega arith) (omega arith) c.found.ensures
 
 pub found_at_spec : {M : Type 1} → statement M

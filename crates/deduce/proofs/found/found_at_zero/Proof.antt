@@ -49,7 +49,7 @@ returns-2 c =
     zero-gone (walked c.before.before.before.before.before _ c.before.before.by-left.ensures) start.requires.zero
     (sym c.before.is_gone.ensures ∙ c.if-is_gone.true)
 
-returns-3 : tie.Need-returns-then-rules_out invariant-loop decreases-loop
+returns-3 : tie.Need-returns invariant-loop decreases-loop
 returns-3 c = zero-done c.before.before.loop-i.invariant c.before.before.before.before.requires.zero (omega arith) c.found.ensures
 
 pub found_at_zero_spec : {M : Type 1} → statement M

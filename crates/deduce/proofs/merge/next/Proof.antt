@@ -65,7 +65,7 @@ returns-4 c =
       magnitudes = λ m f g. rw a (f.each s.args.i (omega arith) (omega arith), omega arith);
     }
 
-returns-5 : tie.Need-returns-then-mine-its
+returns-5 : tie.Need-returns
 returns-5 c =
     let s = c.before.before.before in
     let cs = s.args.coefficient.now in

@@ -43,7 +43,7 @@ loop-again c =
           (sym c.before.same_form.ensures ∙ c.if-same_form.false)) ∙ l.invariant.1,
     )
 
-returns-2 : tie.Need-returns-then-same_form invariant-loop decreases-loop
+returns-2 : tie.Need-returns invariant-loop decreases-loop
 returns-2 c =
     let l = c.before.loop-j in
     let a = c.before.before.before.before.args in

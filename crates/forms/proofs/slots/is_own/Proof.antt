@@ -9,7 +9,7 @@ returns : tie.Need-returns-then-i-polynomials
 unfolding is_own
 returns c = rw (c.wide.ensures, lt-ltb _ _ c.before.before.if-i-polynomials.true)
 
-returns-2 : tie.Need-returns-then-i-polynomials
+returns-2 : tie.Need-returns
 unfolding is_own
 returns-2 c = rw (le-ltb _ _ c.if-i-polynomials.false)
 

@@ -22,7 +22,7 @@ same-terms-requires c κs =
     let few : c.wide.result ≤ 16 = rw c.wide.ensures (start.requires.0.few start.args.first) in
     omega arith
 
-returns-2 : tie.Need-returns-then-count-terms
+returns-2 : tie.Need-returns
 returns-2 c =
     let a = c.before.before.before.before.before.before.before.args in
     let count = c.before.wide.ensures in

@@ -10,7 +10,7 @@ use Rattle.forms.proofs.slots.same_term.Tie as tie
 returns : tie.Need-returns-then-monomial-first
 returns c = simp (ne_eqb _ _ c.if-monomial-first.true)
 
-returns-2 : tie.Need-returns-then-monomial-first
+returns-2 : tie.Need-returns
 returns-2 c =
     let a = c.before.before.before.before.before.args in
     let l = a.coefficient.now in

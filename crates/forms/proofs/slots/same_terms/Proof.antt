@@ -31,7 +31,7 @@ loop-again c =
     same-goes-on a.coefficient.now a.monomial.now a.first a.second l.i a.count (omega arith)
     (sym c.before.same_term.ensures ∙ not-false _ c.if-not-same_term.false) ∙ l.invariant
 
-returns-2 : tie.Need-returns-then-not-same_term invariant-loop decreases-loop
+returns-2 : tie.Need-returns invariant-loop decreases-loop
 returns-2 c =
     let l = c.before.loop-i in
     let a = c.before.before.before.args in

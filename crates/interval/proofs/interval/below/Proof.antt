@@ -16,7 +16,7 @@ returns-2 c =
     let s = c.before.before in
     rw (no_end s.args.c s.args.d (is-zero s.ranges.d c.if-d-eq0.true)) (sym (below_free _))
 
-returns-3 : tie.Need-returns-then-b-eq0
+returns-3 : tie.Need-returns
 returns-3 c =
     let s = c.before.before.before in
     let f = s.ranges in

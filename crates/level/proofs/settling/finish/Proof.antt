@@ -33,7 +33,7 @@ settle-requires c κs =
     let (forms, g) = c.before.before.before.before.before.before.before.before.before.before.before.before.before.before.requires in
     (forms, gathered-ready g (laid-down _ _ g.list g.stands.new (c.before.before.before.lay.ensures _ g.list _ g.lists g.stands.lists (omega (arith, g.stands.lists.size))) g.stands.lists.size) (c.before.before.before.lay.auto.0 ∙ long c.before.before.before.before.before.before.before.before.before.before.before.before.before.before) (wide c.before.before.before.before.before.before.before.before.before.before.before.before.before.before))
 
-goes : tie.Need-returns-then-walked
+goes : tie.Need-returns
 goes c l walk h s =
     finish-goes s l _ c.before.before.before.before.before.before.before.before.before.before.before.if-walked.false (omega (arith, h.size)) _
     (c.before.before.settle-stage.ensures (l ++ s.new-1) s.children (laid-down _ _ l s.new-1 (c.before.before.before.before.before.before.lay.ensures _ l _ h s.lists (omega (arith, s.lists.size))) s.lists.size) s.lies)

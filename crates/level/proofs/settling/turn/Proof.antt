@@ -81,7 +81,7 @@ without-implied-requires c κs =
     let g = c.before.before.before.before.before.before.before.before.before.before.before.before.before.before.before.before.before.carry-carrying.ensures f.list f.lists in
     (forms, (omega (arith, f.few, f.lists.size, c.before.before.before.before.before.before.before.before.before.before.before.before.before.before.before.before.before.carry-carrying.auto.1.1.1.1.0, c.before.before.before.before.before.before.before.before.before.before.before.before.before.before.before.before.before.before.before.before.before.before.tidy-kept.auto.1.1.1.1.0, ready.long), (omega (arith, f.few, g.same, g.lists.size), left_by f c.before.before.before.before.before.before.before.before.before.before.before.before.before.before.before.before.before.before.before.if-kept.false g c.before.before.before.before.before.before.before.before.before.before.before.before.before.before.if-carrying.false)))
 
-over : tie.Need-returns-then-kept
+over : tie.Need-returns
 over c l children h k =
     let f = c.before.before.before.before.before.before.before.before.before.before.before.before.before.before.before.before.before.before.before.before.before.before.before.before.before.tidy-kept.ensures l h in
     let g = c.before.before.before.before.before.before.before.before.before.before.before.before.before.before.before.before.before.before.before.before.carry-carrying.ensures f.list f.lists in

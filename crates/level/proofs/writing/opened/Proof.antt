@@ -11,7 +11,7 @@ use Rattle.level.proofs.writing.opened.Tie as tie
 one : tie.Need-returns-then-parts-eq1
 one c = (rw (eq-eqb _ _ c.if-parts-eq1.true) (record { is = refl; size = refl }), omega arith)
 
-more : tie.Need-returns-then-parts-eq1
+more : tie.Need-returns
 more c = (rw (ne_eqb _ _ c.if-parts-eq1.false) (stored c.before.args.out.now 0 _ c.before.requires.1 [] (record { is = refl; size = refl })), omega arith)
 
 pub opened_spec : {M : Type 1} → statement M

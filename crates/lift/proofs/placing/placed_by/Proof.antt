@@ -25,7 +25,7 @@ returns-2 c =
       places-tell a.input.now,
     )
 
-returns-3 : tie.Need-returns-then-output-input
+returns-3 : tie.Need-returns
 returns-3 c =
     let answering = c.before.before.before.before in
     let tested = answering.before.before.before in

@@ -10,7 +10,7 @@ use Rattle.masks.specs.Passes.{first-allows, first-refuses}
 use Rattle.masks.proofs.cutting.may_lower.Statement.{statement}
 use Rattle.masks.proofs.cutting.may_lower.Tie as tie
 
-returns-2 : tie.Need-returns-then-set-eq0
+returns-2 : tie.Need-returns
 returns-2 c =
     let d = c.before.before.before.args in
     first-allows refl (ap not (ne_eqb _ 0 c.before.before.if-set-eq0.false))

@@ -9,7 +9,7 @@ returns : tie.Need-returns-then-some_above
 unfolding some_both some_way
 returns c = first_holds _ c.before.some_above.ensures c.if-some_above.true
 
-returns-2 : tie.Need-returns-then-some_above
+returns-2 : tie.Need-returns
 unfolding some_both some_way
 returns-2 c = second-tells c.before.before.some_above.ensures c.before.if-some_above.false c.some_below.ensures
 

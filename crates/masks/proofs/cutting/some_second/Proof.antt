@@ -12,7 +12,7 @@ unfolding some_second some_way
 returns c = first_holds _ (c.before.both.ensures ∙ ap₂ ◌&&◌ c.before.before.before.before.non_positive.ensures
     (c.before.before.covered.ensures ∙ ap covered c.before.before.before.joined.ensures)) c.if-both.true
 
-returns-2 : tie.Need-returns-then-both
+returns-2 : tie.Need-returns
 unfolding some_second some_way
 returns-2 c =
     let d = c.before.before.before.before.before in

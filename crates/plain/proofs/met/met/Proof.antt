@@ -47,16 +47,16 @@ beside-requires c κs =
     let n = c.before.before in
     ((there n.before, n.before.before.before.before.before.requires.1), n.neighbour-near.ensures.small)
 
-tested-requires-2 : tie.Need-tested-more-requires
+tested-requires-2 : tie.Need-tested-requires
 tested-requires-2 c κs = (c.before.before.before.before.before.before.before.before.requires.0, c.beside.ensures.0)
 
-returns-2 : tie.Need-returns-then-b-eq0
+returns-2 : tie.Need-returns
 returns-2 c =
     let n = c.before.before.before.before in
     let s = n.before.before.before.before.before.args in
     let f = there n.before in
     let first = c.before.before.tested-more.ensures f.fraction (c.before.before.before.listed.ensures f.fraction f.is) in
-    let second = c.tested-more.ensures (beside f.fraction (end_of n.neighbour-near.result)) (c.before.beside.ensures.1 f.fraction f.is) in
+    let second = c.tested.ensures (beside f.fraction (end_of n.neighbour-near.result)) (c.before.beside.ensures.1 f.fraction f.is) in
     record { on = λ t u. one-met (kind s.set) _ s.seen f.fraction f.is (n.neighbour-near.ensures.on t u) (first.on t u) (second.on t u) }
 
 pub met_spec : {M : Type 1} → statement M

@@ -16,7 +16,7 @@ returns c =
     let wants = strict.before.before.before in
     record {
       l = rw (first.either.ensures, l.both-l.ensures, l.before.inside.ensures, wants.wanted-wants.ensures);
-      above = rw (third.before.either-2.ensures, third.before.before.both-l.ensures, l.both-l.ensures, l.before.inside.ensures, wants.wanted-wants.ensures, strict.strictly-strict.ensures, strict.before.before.is_strict.ensures);
+      above = rw (third.before.either-2.ensures, third.before.before.both.ensures, l.both-l.ensures, l.before.inside.ensures, wants.wanted-wants.ensures, strict.strictly-strict.ensures, strict.before.before.is_strict.ensures);
       u = rw (third.either-3.ensures, u.both-u.ensures, u.before.inside-2.ensures, u.before.before.mirror.ensures, wants.wanted-wants.ensures);
       below = rw (c.either-4.ensures, c.before.both-2.ensures, u.both-u.ensures, u.before.inside-2.ensures, u.before.before.mirror.ensures, wants.wanted-wants.ensures, strict.strictly-strict.ensures, strict.before.before.is_strict.ensures);
     }

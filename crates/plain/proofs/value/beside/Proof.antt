@@ -74,7 +74,7 @@ add-t9 c =
     rw (back x.d (term_in (listed-d (first d) (first_small d))), back y.d (term_in (listed-d (second e) (second_small e))))
     (fits (sum-in x.d y.d (listed-d (first d) (first_small d)) (listed-d (second e) (second_small e))))
 
-returns-2 : tie.Need-returns-then-b-eq0
+returns-2 : tie.Need-returns
 returns-2 c =
     let e = c.before.before.before.before.before.before.before.before in
     let d = e.before.before.before in

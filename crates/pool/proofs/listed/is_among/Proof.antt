@@ -27,7 +27,7 @@ loop-again c =
     let a = c.before.before.before.before.args in
     among_later a.order.now a.count a.slot l.i (omega arith) c.if-slot-order.false ∙ l.invariant
 
-returns-2 : tie.Need-returns-then-slot-order invariant-loop decreases-loop
+returns-2 : tie.Need-returns invariant-loop decreases-loop
 returns-2 c =
     let l = c.before.loop-i in
     let a = c.before.before.args in

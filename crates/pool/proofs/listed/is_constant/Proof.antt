@@ -14,7 +14,7 @@ returns-2 : tie.Need-returns-then-count-eq0
 unfolding constant_in
 returns-2 c = no_terms _ _ c.if-count-eq0.true
 
-returns-3 : tie.Need-returns-then-count-gt1
+returns-3 : tie.Need-returns
 unfolding constant_in
 returns-3 c = one-term _ _ (omega (arith, c.before.before.if-count-gt1.false)) c.before.if-count-eq0.false
 

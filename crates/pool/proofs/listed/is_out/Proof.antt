@@ -12,7 +12,7 @@ returns c =
     let a = c.before.before.before.before.before.args in
     sym (ap (λ (b : Bool). b || among (numbers_from a.order.now 0 a.count) a.slot) (sym c.before.is_constant.ensures ∙ c.if-is_constant.true))
 
-returns-2 : tie.Need-returns-then-is_constant
+returns-2 : tie.Need-returns
 returns-2 c =
     let a = c.before.before.before.before.before.before.args in
     c.is_among.ensures

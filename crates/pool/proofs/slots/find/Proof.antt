@@ -39,7 +39,7 @@ loop-again c =
           (sym c.before.stores.ensures ∙ c.if-stores.false) ∙ l.invariant.1,
     )
 
-returns-2 : tie.Need-returns-then-stores invariant-loop decreases-loop
+returns-2 : tie.Need-returns invariant-loop decreases-loop
 returns-2 c =
     let l = c.before.loop-slot in
     let a = c.before.before.before.before.args in

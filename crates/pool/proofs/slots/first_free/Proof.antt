@@ -31,7 +31,7 @@ loop-again c =
     let a = c.before.before.before.before.before.args in
     (omega arith, first_step is_free a.pool.now l.slot (omega arith) (sym c.before.is_free.ensures ∙ c.if-is_free.false) ∙ l.invariant.1)
 
-returns-2 : tie.Need-returns-then-is_free invariant-loop decreases-loop
+returns-2 : tie.Need-returns invariant-loop decreases-loop
 returns-2 c =
     let l = c.before.loop-slot in
     let a = c.before.before.before.args in

@@ -14,7 +14,7 @@ returns c =
     let found = c.before.find-slot.ensures in
     found ∙ placed-stored (terms_from a.coefficient.now a.monomial.now a.from a.count) a.pool.now (omega (arith, found, c.if-slot-lt128.true))
 
-returns-2 : tie.Need-returns-then-slot-lt128
+returns-2 : tie.Need-returns
 returns-2 c =
     let a = c.before.before.before.before.before.args in
     let found = c.before.before.find-slot.ensures in

@@ -18,7 +18,7 @@ returns c =
     sym (ap (λ (b : Bool). b && same_number a.coefficient (coefficient_of (get_or a.pool.now a.k 0)))
     (ne_eqb a.monomial (get_or a.pool.now (a.k + 16) 0) (λ e. c.if-monomial-word.true (e ∙ sym c.before.word.ensures))))
 
-returns-2 : tie.Need-returns-then-monomial-word
+returns-2 : tie.Need-returns
 returns-2 c =
     let s = c.before.before.before.before.before in
     let a = s.args in

@@ -40,7 +40,7 @@ loop-again c =
     (sym (read_back (get_or a.coefficient.now (a.from + l.i) (pos 0)) (record { sfits = c.before.before.before.c-1.given })))
     ∙ sym c.before.same_term.ensures ∙ not-false _ c.if-not-same_term.false) ∙ l.invariant
 
-returns-2 : tie.Need-returns-then-not-same_term invariant-loop decreases-loop
+returns-2 : tie.Need-returns invariant-loop decreases-loop
 returns-2 c =
     let l = c.before.loop-i in
     let a = c.before.before.before.before.args in

@@ -30,7 +30,7 @@ returns-2 c =
     ∙ other-count a.coefficient.now a.monomial.now a.pool.now a.from (slot_place a.slot + 2) a.count
     (few (get_or a.pool.now (slot_place a.slot + 1) 0)) (λ e. c.if-terms_of-count.true (c.before.terms_of.ensures ∙ sym e)))
 
-returns-3 : tie.Need-returns-then-is_free
+returns-3 : tie.Need-returns
 unfolding stores slot_at slot_of
 returns-3 c =
     let a = c.before.before.before.before.before.before.before.args in

@@ -16,7 +16,7 @@ place c =
 returns : tie.Need-returns-then-count-lt16
 returns c = omega (arith, place c.before)
 
-returns-2 : tie.Need-returns-then-count-lt16
+returns-2 : tie.Need-returns
 returns-2 c = omega (arith, place c.before)
 
 pub terms_of_spec : {M : Type 1} → statement M

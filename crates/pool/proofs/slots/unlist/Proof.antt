@@ -24,7 +24,7 @@ returns c =
     ∙ sym (ap (λ (b : Bool). either b (zeros a.pool.now a.at 34) (set a.pool.now a.at (row_word row)))
     (count_word row ∙ eq-eqb (row_word row) 0 (sym marking.with_mark-row.ensures ∙ c.before.before.before.before.if-row-eq0.true)))
 
-returns-2 : tie.Need-returns-then-row-eq0
+returns-2 : tie.Need-returns
 unfolding unlisted either
 returns-2 c =
     let a = c.before.before.before.before.args in

@@ -49,7 +49,7 @@ mul-result-2 c =
     let m = whole-magnitude z (not-below c) c.before.ranges.c.sfits in
     rw (wide_back z c.before.ranges.c) (record { fits = omega (arith, m) })
 
-returns-2 : tie.Need-returns-then-wide-lt0
+returns-2 : tie.Need-returns
 returns-2 c = let z = c.before.args.c in rw (wide_back z c.before.ranges.c) (whole_word z (not-below c))
 
 pub coefficient_word_spec : {M : Type 1} → statement M

@@ -31,7 +31,7 @@ returns-3 c =
     let s = c.before.before.before in
     rw c.if-on-2.true (mark-given s.args.word s.args.number s.requires (sym c.before.before.mark.ensures ∙ c.before.if-mark.false))
 
-returns-4 : tie.Need-returns-then-on
+returns-4 : tie.Need-returns
 returns-4 c =
     let s = c.before.before.before in
     rw c.if-on-2.false (mark-kept s.args.word s.args.number s.requires _ (sym c.before.before.mark.ensures ∙ c.before.if-mark.false))

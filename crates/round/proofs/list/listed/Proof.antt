@@ -35,7 +35,7 @@ loop-again c =
       ),
     )
 
-returns-2 : tie.Need-returns-then-number-k invariant-loop decreases-loop
+returns-2 : tie.Need-returns invariant-loop decreases-loop
 returns-2 c t forms = sym (listed-nowhere forms _ _ _ _ _ c.before.before.before.requires c.loop-i-test.false) ∙ c.before.loop-i.invariant.1.1 t forms
 
 pub listed_spec : {M : Type 1} → statement M

@@ -43,7 +43,7 @@ cut-by-requires c κs =
     let s = c.before.before.before.before.before.before.before.before.before in
     (s.requires.0, (omega (arith, s.requires.1), (omega arith, s.requires.0.atoms s.args.i s.requires.1)))
 
-cut-by-requires-2 : tie.Need-cut_by-before-requires
+cut-by-requires-2 : tie.Need-cut_by-requires
 cut-by-requires-2 c κs =
     let s = c.before.before.before.before.before.before.before.before.before.before in
     (s.requires.0, (omega (arith, c.before.before.before.before.before.before.many-n.ensures), (omega arith, s.requires.0.atoms s.args.i s.requires.1)))
@@ -52,7 +52,7 @@ returns : tie.Need-returns
 unfolding cut_atom
 returns c =
     rw (
-      c.cut_by-before.ensures,
+      c.cut_by.ensures,
       c.before.cut_by-before.ensures,
       c.before.before.intersect.ensures,
       by-is c.before.before.before,

@@ -105,7 +105,7 @@ returns-3 c =
     let (low, part) = e.before.before.before.before.before.requires.fact_2.1 in
     cut-to-floor _ _ _ c.if-sofar-floor.true low (cut_on c.before.before.before _ _ (stands e)) part
 
-returns-4 : tie.Need-returns-then-from-to invariant-loop decreases-loop
+returns-4 : tie.Need-returns invariant-loop decreases-loop
 returns-4 c = sym (cut-end _ _ _ _ _ _ _ _ c.loop-i-test.false) ∙ c.before.loop-i.invariant _ _ (stands c.before.before.before)
 
 pub cut_down_spec : {M : Type 1} → statement M

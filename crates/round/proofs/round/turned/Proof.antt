@@ -63,7 +63,7 @@ returns-2 c =
       ready = s.requires.0.0;
     }
 
-returns-3 : tie.Need-returns-then-old-low
+returns-3 : tie.Need-returns
 returns-3 c =
     let s = c.before.before.before.before.before.before.before.before.before.before.before.before.before.before.before in
     let b = s.args.board in

@@ -50,7 +50,7 @@ loop-again c =
     let l = c.before.before.before.loop-i in
     (omega arith, sym (another-variable _ _ l.i c.before.before.loop-i-test.true (tested c.before ∙ ne_eqb _ _ c.if-m-monomial.false)) ∙ l.invariant.1)
 
-returns-4 : tie.Need-returns-then-count-ne1 invariant-loop decreases-loop
+returns-4 : tie.Need-returns invariant-loop decreases-loop
 unfolding which_of
 returns-4 c =
     let l = c.before.loop-i in

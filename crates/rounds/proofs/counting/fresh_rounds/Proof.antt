@@ -21,7 +21,7 @@ turned-largest-requires c κs =
       (begins-bounded _ _ _ start.ensures.0 s.args.settled start.result s.args.others s.requires.1 start.ensures.1, omega arith),
     )
 
-returns-2 : tie.Need-returns-then-variables-many
+returns-2 : tie.Need-returns
 returns-2 c =
     let s = c.before.before.before.before.before.before.before in
     let start = c.before.before.start-first in

@@ -8,7 +8,7 @@ use Rattle.rounds.proofs.counting.spare.Tie as tie
 returns : tie.Need-returns-then-size-eq0
 returns c = let s = c.before.args.set in spare-is s 0 (omega (arith, size_is s, c.if-size-eq0.true))
 
-returns-2 : tie.Need-returns-then-size-eq0
+returns-2 : tie.Need-returns
 returns-2 c = let s = c.before.args.set in spare-is s ((s / 4 % 2) + (s / 2 % 2) + (s % 2) - 1) (omega (arith, size_is s))
 
 pub spare_spec : {M : Type 1} → statement M

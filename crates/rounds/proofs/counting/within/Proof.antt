@@ -32,7 +32,7 @@ below-is c = rw c.before.few-2.ensures at c.spares-below.ensures.0
 returns : tie.Need-returns-then-begun-above
 returns c e = omega (arith, c.if-begun-above.true, above-is c.before.before.before.before)
 
-returns-2 : tie.Need-returns-then-begun-above
+returns-2 : tie.Need-returns
 returns-2 c e =
     let s = c.before.before.before.before.before.before.before.before.before in
     let less = ltb-true (s.args.begun + c.before.before.before.before.spares-above.result) (s.args.largest + c.before.spares-below.result) e in

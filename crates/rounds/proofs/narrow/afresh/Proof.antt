@@ -15,7 +15,7 @@ rounds-requires c κs =
     let begin = c.before.before.before.settled_start-begin.ensures.narrowed in
     (forms-over _ _ _ (sym begin.variables) c.before.before.before.before.before.before.requires.0, narrowed_low begin)
 
-returns-2 : tie.Need-returns-then-begin
+returns-2 : tie.Need-returns
 returns-2 c =
     let begin = c.before.before.before.before.before.settled_start-begin.ensures.narrowed in
     run-narrowed begin (ended-over _ _ _ begin.variables c.before.rounds-end.ensures)

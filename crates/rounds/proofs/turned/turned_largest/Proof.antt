@@ -79,7 +79,7 @@ returns-3 c =
 loop-again : tie.Need-loop-left-preserved invariant-loop decreases-loop
 loop-again c = stand-on c.before.before.before.before.before.before.before.before.before.loop-left.invariant c.before.before.before.before.before.before.before.before.loop-left-test.true (onward c.before.before.before.before.before.before) (not-false _ c.before.before.before.if-not-onward.false)
 
-returns-4 : tie.Need-returns-then-within invariant-loop decreases-loop
+returns-4 : tie.Need-returns invariant-loop decreases-loop
 returns-4 c =
     let s = c.before.before.before.before.before.before.before.before.before.before.before.before.before.before in
     let last = stand-last c.before.before.loop-left.invariant (omega (arith, c.before.loop-left-test.false)) in

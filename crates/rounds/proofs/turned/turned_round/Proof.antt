@@ -52,7 +52,7 @@ search-board-requires c κs =
       (above.pairs _ above.afresh.boards, above.variables),
     )
 
-returns-2 : tie.Need-returns-then-not-same_sets
+returns-2 : tie.Need-returns
 returns-2 c =
     let s = c.before.before.before.before.before.before.before.before.before.before.before.before.before.before.before.before.before.before.before.before.before in
     let after = c.before.before.before.before.before.before.before.before.before.before.before.before.before.before.before.before.after_turns-next in

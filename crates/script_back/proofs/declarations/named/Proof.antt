@@ -22,7 +22,7 @@ returns c =
     let a = test.before.before.before.args in
     byte-said a.text.now a.at (97 + a.i) _ (omega arith) (sym test.before.byte_at.ensures ∙ test.if-byte_at-i.true) c.said.ensures
 
-returns-2 : tie.Need-returns-then-byte_at-i
+returns-2 : tie.Need-returns
 unfolding letter
 returns-2 c = let a = c.before.before.before.args in byte-stops a.text.now a.at (97 + a.i) _ (λ e. c.if-byte_at-i.false (c.before.byte_at.ensures ∙ e))
 

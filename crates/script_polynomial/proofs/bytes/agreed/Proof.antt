@@ -37,7 +37,7 @@ loop-again c =
     let next = byte-agrees a.text.now a.bytes.now a.at l.i (omega arith) (omega arith) c.if-text-at-2.false in
     (omega arith, omega arith, omega (arith, l.invariant.2, next))
 
-returns-3 : tie.Need-returns-then-text-at invariant-loop decreases-loop
+returns-3 : tie.Need-returns invariant-loop decreases-loop
 returns-3 c =
     let l = c.before.loop-i in
     let a = c.before.before.args in

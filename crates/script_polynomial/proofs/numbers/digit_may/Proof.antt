@@ -14,7 +14,7 @@ returns-2 : tie.Need-returns-then-byte-gt57
 unfolding digit_may
 returns-2 c = rw (le-leb 48 c.before.before.args.byte (omega arith), lt-leb c.before.before.args.byte 57 c.if-byte-gt57.true)
 
-returns-3 : tie.Need-returns-then-byte-lt48
+returns-3 : tie.Need-returns
 unfolding digit_may
 returns-3 c = rw (le-leb 48 c.before.before.args.byte (omega arith), le-leb c.before.before.args.byte 57 (omega arith))
 

@@ -12,7 +12,7 @@ read-digits-requires c κs =
     let here = byte_inside s.args.text.now s.args.at (omega (arith, c.before.before.byte_at-byte.ensures)) in
     (omega (arith, here), s.requires.1, record { not_zero = omega arith; at-most = omega arith })
 
-returns-3 : tie.Need-returns-then-byte-lt49
+returns-3 : tie.Need-returns
 returns-3 c =
     let byte = c.before.before.before in
     magnitude-on _ _ _ byte.byte_at-byte.ensures c.before.before.if-byte-lt49.false c.before.if-byte-gt57.false c.read_digits.ensures

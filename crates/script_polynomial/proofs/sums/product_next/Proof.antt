@@ -8,7 +8,7 @@ use Rattle.script_polynomial.proofs.sums.product_next.Tie as tie
 returns : tie.Need-returns-then-above-lt2
 returns c = rw (le-ltb 1 c.before.before.args.above (omega arith))
 
-returns-2 : tie.Need-returns-then-above-lt2
+returns-2 : tie.Need-returns
 returns-2 c = rw (lt-ltb 1 c.before.before.before.args.above (omega arith)) c.opens.ensures
 
 pub product_next_spec : {M : Type 1} → statement M

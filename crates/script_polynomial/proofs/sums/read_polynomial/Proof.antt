@@ -17,7 +17,7 @@ returns-2 c =
     by_product _ _ _ tested.before.before.before.opens.ensures tested.before.opens-2.ensures tested.if-opens-2.true _
     one.read_alone.ensures
 
-returns-3 : tie.Need-returns-then-opens
+returns-3 : tie.Need-returns
 returns-3 c =
     let one = c.before.before.before.before in
     let tested = one.before.before.before in

@@ -51,7 +51,7 @@ loop-again c =
           (sym c.before.same_slot.ensures ∙ c.if-same_slot.false)) ∙ l.invariant.1,
     )
 
-returns-2 : tie.Need-returns-then-same_slot invariant-loop decreases-loop
+returns-2 : tie.Need-returns invariant-loop decreases-loop
 returns-2 c =
     let l = c.before.loop-j in
     let a = c.before.before.before.before.before.args in

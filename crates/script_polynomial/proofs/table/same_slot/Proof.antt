@@ -18,7 +18,7 @@ same-terms-requires c κs =
     let same = sym c.before.wide.ensures ∙ c.if-wide-count.false in
     (rw same at s.requires.0, s.requires.2)
 
-returns-2 : tie.Need-returns-then-wide-count
+returns-2 : tie.Need-returns
 returns-2 c =
     let same = sym c.before.before.wide.ensures ∙ c.before.if-wide-count.false in
     rw same c.same_terms.ensures

@@ -7,7 +7,7 @@ use Rattle.forms.proofs.Numbers.{same_bits}
 use Rattle.script_polynomial.proofs.table.same_term.Statement.{statement}
 use Rattle.script_polynomial.proofs.table.same_term.Tie as tie
 
-returns-2 : tie.Need-returns-then-powers-i
+returns-2 : tie.Need-returns
 returns-2 c =
     let a = c.before.before.before.before.before.args in
     simp (eq-eqb _ _ c.before.before.if-powers-i.false)

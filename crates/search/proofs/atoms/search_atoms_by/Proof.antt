@@ -90,7 +90,7 @@ loop-again c =
     found_none (get_or a.set l.i 0) _ (cut-is c.before.before) c.if-cut-set.false in
     below_more (λ (j : ℕ). first_of (table s) s.args.board a j ≡ none) l.i l.invariant here
 
-returns-2 : tie.Need-returns-then-cut-set invariant-loop decreases-loop
+returns-2 : tie.Need-returns invariant-loop decreases-loop
 returns-2 c =
     let s = c.before.before.before.before.before.before.before.before in
     let a = s.args.atoms in

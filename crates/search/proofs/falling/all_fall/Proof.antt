@@ -31,7 +31,7 @@ loop-again c =
           (c.before.slot_falls.ensures (not-false c.before.slot_falls.result c.if-not-slot_falls.false)),
     )
 
-returns-2 : tie.Need-returns-then-not-slot_falls invariant-loop decreases-loop
+returns-2 : tie.Need-returns invariant-loop decreases-loop
 returns-2 c e =
     let l = c.before.loop-i in
     record { each = λ j h. l.invariant.1 j (omega (arith, h, l.invariant.0, c.loop-i-test.false)) }

@@ -81,7 +81,7 @@ loop-again c =
     walk-on s.args.all l.sofar.0 _ _ l.invariant (tries-step (table s) s.args.atoms _ _ l.i h)
     c.before.before.cut_with-cut.ensures (sym c.before.stops.ensures ∙ c.if-stops.false)
 
-returns-2 : tie.Need-returns-then-stops invariant-loop decreases-loop
+returns-2 : tie.Need-returns invariant-loop decreases-loop
 returns-2 c =
     let d = c.before in
     let s = start d in

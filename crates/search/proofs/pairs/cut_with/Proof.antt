@@ -185,7 +185,7 @@ loop-again c =
           (cut-is c.before.before.before.before v board k) (sym c.before.before.before.stops.ensures ∙ c.before.before.if-stops.false),
     )
 
-returns-2 : tie.Need-returns-then-stops invariant-loop decreases-loop
+returns-2 : tie.Need-returns invariant-loop decreases-loop
 returns-2 c =
     let d = c.before in
     let s = start d in

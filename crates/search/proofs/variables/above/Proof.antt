@@ -21,7 +21,7 @@ loop-again c =
     let l = c.before.before.before.before.loop-i in
     below_more (λ (j : ℕ). get_or a.t1.sets j 0 ≡ get_or a.t2.sets j 0) l.i l.invariant c.if-set-low.false
 
-returns-2 : tie.Need-returns-then-set-low invariant-loop decreases-loop
+returns-2 : tie.Need-returns invariant-loop decreases-loop
 returns-2 c e = record { each = λ j h. c.before.loop-i.invariant j (omega arith) }
 
 pub above_spec : {M : Type 1} → statement M

@@ -37,7 +37,7 @@ cut-by-pairs-requires c κs =
     let own = s.requires.fact.0.variables s.args.i s.requires.fact_2.1.1 in
     (s.requires.fact, ((omega (arith, s.requires.fact.0.forms.variables, s.requires.fact_2.1.1), own), s.requires.fact_2.1.0))
 
-returns-2 : tie.Need-returns-then-set-low
+returns-2 : tie.Need-returns
 returns-2 c =
     let s = c.before.before.before.before.before.before.before.before.before in
     c.cut_by_pairs.ensures ∙ rw (s.requires.fact.0.forms.each_variable s.args.i s.requires.fact_2.1.1)

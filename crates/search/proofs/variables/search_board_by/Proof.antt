@@ -80,7 +80,7 @@ loop-again c =
     rw (set_at b.sets l.i (few b.variables) low) (found_none (get_or b.sets l.i 0) findings cut c.if-cut-set.false) in
     below_more (λ (j : ℕ). first_of (table s) b s.args.atoms j ≡ none) l.i l.invariant here
 
-returns-2 : tie.Need-returns-then-cut-set invariant-loop decreases-loop
+returns-2 : tie.Need-returns invariant-loop decreases-loop
 returns-2 c =
     let s = c.before.before.before.before.before.before.before in
     let b = s.args.board in

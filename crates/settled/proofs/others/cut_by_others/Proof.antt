@@ -26,7 +26,7 @@ cut-by-pairs-requires c κs =
     let quiet = c.silent.ensures.silenced in
     ((ready-over _ _ _ (sym same) (silenced-ready quiet ready), filled), ((omega arith, own), silenced-words quiet words))
 
-returns-2 : tie.Need-returns-then-set-eq0
+returns-2 : tie.Need-returns
 returns-2 c =
     let s = c.before.before.before.before.before.before.before.before.before in
     let t = table s in

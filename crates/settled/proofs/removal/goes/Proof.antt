@@ -14,7 +14,7 @@ stays-requires c κs =
 returns : tie.Need-returns-then-stays
 returns c = rw (sym c.before.stays.ensures, c.if-stays.true)
 
-returns-2 : tie.Need-returns-then-stays
+returns-2 : tie.Need-returns
 returns-2 c = rw (sym c.before.before.stays.ensures, c.before.if-stays.false) c.implied.ensures
 
 pub goes_spec : {M : Type 1} → statement M

@@ -36,7 +36,7 @@ returns c =
     let r = c.before.before.before.before.afresh-fresh in
     c.inside.ensures ∙ implied-by-contradiction (table s) _ _ r.result.ran r.ensures.outcome c.before.if-ran.true
 
-returns-2 : tie.Need-returns-then-ran
+returns-2 : tie.Need-returns
 returns-2 c =
     let s = c.before.before.before.before.before.before.before.before.before.before.before.before.before.before.before.before.before in
     let r = c.before.before.before.before.before.before.before.before.before.before.before.before.before.before.afresh-fresh in

@@ -67,7 +67,7 @@ remove-counting-requires c κs =
     let (ready, listed) = signs-ready signs in
     ((ready, (start signs).requires.1), (listed, c.before.before.before.before.before.before.before.words_of-falls.ensures))
 
-returns-2 : tie.Need-returns-then-variables-many
+returns-2 : tie.Need-returns
 returns-2 c =
     let s = start c.before.before.before.before.before.before.before.before.before.before.before.before.before in
     (test-first s.pre.1 c.remove_counting.ensures.0, count-first s.args.list s.args.largest s.pre.1 c.remove_counting.ensures.1)

@@ -85,7 +85,7 @@ loop-again c =
       ),
     )
 
-returns-2 : tie.Need-returns-then-i-j invariant-loop decreases-loop
+returns-2 : tie.Need-returns invariant-loop decreases-loop
 returns-2 c =
     let l = c.before.loop-count in
     let (lengths, (merged, (few, each))) = l.invariant in

@@ -14,7 +14,7 @@ returns c = own (omega arith) c.before.before.if-its-top.true (to_z-of_z w32 _ (
 returns-2 : tie.Need-returns-then-i-to
 returns-2 c = other (λ l e. c.if-its-top.false e) refl refl refl
 
-returns-3 : tie.Need-returns-then-its-top
+returns-3 : tie.Need-returns
 returns-3 c = other (λ l e. omega (arith, l, c.if-i-to.false)) refl refl refl
 
 pub taken_spec : {M : Type 1} → statement M

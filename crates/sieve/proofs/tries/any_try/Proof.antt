@@ -4,7 +4,7 @@ use Rattle.sieve.proofs.Bars.{pair-passed, pair-passes}
 use Rattle.sieve.proofs.tries.any_try.Statement.{statement}
 use Rattle.sieve.proofs.tries.any_try.Tie as tie
 
-returns-2 : tie.Need-returns-then-some_test
+returns-2 : tie.Need-returns
 returns-2 c = pair-passed c.before.before.some_test.ensures c.before.if-some_test.false c.some_test-2.ensures
 
 pub any_try_spec : {M : Type 1} → statement M

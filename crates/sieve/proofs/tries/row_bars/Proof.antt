@@ -11,7 +11,7 @@ returns-2 c =
     c.before.before.before.cross-y.ensures
     c.before.if-y-x.false) c.can_be.ensures
 
-returns-3 : tie.Need-returns-then-y-x
+returns-3 : tie.Need-returns
 returns-3 c =
     let f = c.before.before.before.before.ranges in
     bars-above (sum-above f.a f.u f.b f.w f.c c.before.before.before.plus-x.ensures c.before.before.cross-y.ensures

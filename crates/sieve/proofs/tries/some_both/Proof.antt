@@ -18,7 +18,7 @@ loop-again c =
     both-on c.before.before.before.before.loop-i.invariant c.before.before.factor-u.ensures c.before.some_second-row.ensures
     (omega (arith, c.if-n-row.false))
 
-returns-2 : tie.Need-returns-then-n-row invariant-loop decreases-loop
+returns-2 : tie.Need-returns invariant-loop decreases-loop
 returns-2 c = both-ended c.before.loop-i.invariant (omega arith)
 
 some-second-requires : tie.Need-some_second-row-requires invariant-loop decreases-loop

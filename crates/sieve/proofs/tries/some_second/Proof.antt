@@ -20,7 +20,7 @@ loop-again c =
     second-on c.before.before.before.before.loop-j.invariant c.before.before.factor-w.ensures c.before.may_pass-row.ensures
     (omega (arith, c.if-n-row.false))
 
-returns-2 : tie.Need-returns-then-n-row invariant-loop decreases-loop
+returns-2 : tie.Need-returns invariant-loop decreases-loop
 returns-2 c = second_ended c.before.before.before.ranges.u c.before.loop-j.invariant (omega arith)
 
 pub some_second_spec : {M : Type 1} → statement M

@@ -9,7 +9,7 @@ use Rattle.sieve.proofs.tries.some_test.Tie as tie
 returns : tie.Need-returns-then-not-cuts
 returns c = test-cannot (un_not {b = c.before.before.args.cuts} c.if-not-cuts.true)
 
-returns-5 : tie.Need-returns-then-not-cuts
+returns-5 : tie.Need-returns
 returns-5 c =
     test-passed c.before.before.before.before.before.before.before.before.before.before.before.before.before.before.half-below1.ensures
     c.before.before.before.before.before.before.before.before.before.before.before.before.before.half-above1.ensures

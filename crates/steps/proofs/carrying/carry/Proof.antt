@@ -12,7 +12,7 @@ contradiction c l h =
     let atoms = c.before.before.before.atoms_in-atoms.ensures in
     contradicts l (atoms.0 ∙ h.size) (omega (arith, h.size, s.requires.1.1)) (atoms.1 _ l h) s.args.largest c.before.before.run_largest-ran.ensures c.if-ran.true _ h
 
-carries : tie.Need-returns-then-ran
+carries : tie.Need-returns
 carries c l h =
     let s = c.before.before.before.before.before.before.before.before.before.before.before.before.before in
     let atoms = c.before.before.before.before.before.before.before.before.atoms_in-atoms.ensures in

@@ -13,7 +13,7 @@ says-requires c κs =
 returns : tie.Need-returns
 returns c =
     cut-is _ _ c.before.before.before.before.before.before.before.before.before.before.before.before.before.before.before.args.token _ _ _ _ _ _ _ (rw c.before.before.before.before.before.before.before.before.before.slot_of.ensures at c.before.before.before.before.before.before.before.before.says-said.ensures) (rw c.before.before.before.before.before.before.before.set_of.ensures at c.before.before.before.before.before.before.complement-set.ensures) c.before.before.before.before.before.inside-implied.ensures
-    c.before.before.before.before.intersect-cut.ensures refl c.before.before.before.complement-set.ensures c.before.before.with_set-left.ensures
+    c.before.before.before.before.intersect-cut.ensures refl c.before.before.before.complement.ensures c.before.before.with_set-left.ensures
 
 pub cut_atom_spec : {M : Type 1} → statement M
 cut_atom_spec =

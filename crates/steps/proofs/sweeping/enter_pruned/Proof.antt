@@ -8,7 +8,7 @@ use Rattle.steps.proofs.sweeping.enter_pruned.Tie as tie
 dropped : tie.Need-returns-then-pruned
 dropped c k walk all l own rest s h place = child-dropped (rw (its-atoms place) at (c.before.prune-pruned.ensures.1 k all h (omega (arith, child-ends place)))) s c.if-pruned.true
 
-enters : tie.Need-returns-then-pruned
+enters : tie.Need-returns
 enters c k walk all l own rest s h place =
     child-enters (rw (its-atoms place) at (c.before.before.before.before.prune-pruned.ensures.1 k all h (omega (arith, child-ends place)))) c.before.before.before.if-pruned.false _ _
     (rw (its_own place) at (c.before.before.part-ors.ensures.1 k all h (omega (arith, child-ends place)))) (λ kids shows. c.add.ensures _ walk kids s shows)

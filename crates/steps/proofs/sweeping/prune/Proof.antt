@@ -59,7 +59,7 @@ gone c =
       ),
     )
 
-returns : tie.Need-returns-then-cut invariant-loop decreases-loop
+returns : tie.Need-returns invariant-loop decreases-loop
 returns c = (
   omega (arith, c.before.loop-i.invariant.0, c.before.loop-i.invariant.1.0),
   λ n l h k. prune-end (rw (part-done l c.before.loop-i.i _ c.loop-i-test.false) at (c.before.loop-i.invariant.1.1.1 n l h k)),

@@ -17,7 +17,7 @@ one c =
     rw (c.truth_of-then-exponents-eq0.ensures, c.before.sign_of.ensures, to_z-of_z w32 _ (record { sfits = c.before.before.c-1.given }))
     (truth-one c.before.before.before.before.before.before.before.before.before.before.before.requires _ _ c.before.before.before.before.before.before.before.before.slot_of-number.ensures c.before.before.before.before.before.before.if-count-gt1.false c.before.before.before.before.before.if-count-eq0.false _ c.before.before.before.if-exponents-eq0.true refl)
 
-variable : tie.Need-returns-then-count-gt1
+variable : tie.Need-returns
 variable c = truth-variable c.before.before.before.before.before.before.before.before.requires _ _ c.before.before.before.before.before.slot_of-number.ensures c.before.before.before.if-count-gt1.false c.before.before.if-count-eq0.false c.if-exponents-eq0.false
 
 pub if_constant_spec : {M : Type 1} → statement M

@@ -72,7 +72,7 @@ is_false c =
           c.enum_told-in-False-1.given.1,
     )
 
-returns : tie.Need-returns-in-False invariant-loop decreases-loop
+returns : tie.Need-returns invariant-loop decreases-loop
 returns c = (
   omega (arith, c.before.loop-i.invariant.0, c.before.loop-i.invariant.1.0),
   λ l h. merge-end (rw (rest-none l c.before.loop-i.i (omega (arith, h.size, c.loop-i-test.false))) at (c.before.loop-i.invariant.1.1.1.1 l h)),

@@ -27,7 +27,7 @@ found c =
         λ t l forms h.
             let (holds, passing) = loop.invariant.1.1.1 t l forms h in
             into-found forms holds passing (omega (arith, h.size, c.before.before.before.before.before.before.before.loop-i-test.true)) _ _ _
-            (sym c.before.before.before.before.before.slot_of-number.ensures ∙ c.before.before.before.before.if-slot_of-number.true ∙ c.before.before.before.before.before.before.before.before.before.slot_of-number.ensures)
+            (sym c.before.before.before.before.before.slot_of.ensures ∙ c.before.before.before.before.if-slot_of-number.true ∙ c.before.before.before.before.before.before.before.before.before.slot_of-number.ensures)
             (rw (c.before.before.before.set_of.ensures, c.before.before.set_of-then-slot_of-number.ensures) at c.before.intersect-set.ensures) c.with_set.ensures refl refl,
       ),
     )
@@ -44,13 +44,13 @@ again c =
               let (holds, passing) = loop.invariant.1.1.1 t l forms h in (
                 holds,
                 into-turn forms holds passing (omega (arith, h.size, c.before.before.before.loop-i-test.true))
-                    (λ e. c.if-slot_of-number.false (c.before.slot_of-number.ensures ∙ e ∙ sym c.before.before.before.before.before.slot_of-number.ensures)),
+                    (λ e. c.if-slot_of-number.false (c.before.slot_of.ensures ∙ e ∙ sym c.before.before.before.before.before.slot_of-number.ensures)),
               ),
         ),
       ),
     )
 
-pushed : tie.Need-returns-then-slot_of-number invariant-loop decreases-loop
+pushed : tie.Need-returns invariant-loop decreases-loop
 pushed c =
     let loop = c.before.loop-i in (
       omega arith,

@@ -11,7 +11,7 @@ broken c l h = let merged = c.before.before.before.merge-merged.ensures in tidy-
 without-full-requires : tie.Need-without_full-requires
 without-full-requires c κs = omega (arith, c.before.before.before.before.merge-merged.ensures.0, c.before.before.before.before.before.before.before.before.before.requires.1)
 
-goes : tie.Need-returns-then-merged
+goes : tie.Need-returns
 goes c l h =
     let merged = c.before.before.before.before.before.before.before.merge-merged.ensures in
     let m = merged.1 l h in

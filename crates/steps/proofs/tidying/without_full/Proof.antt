@@ -65,7 +65,7 @@ is-full c =
       ),
     )
 
-returns : tie.Need-returns-then-set invariant-loop decreases-loop
+returns : tie.Need-returns invariant-loop decreases-loop
 returns c t l h = keep-end (rw (rest-none l c.before.loop-i.i (omega (arith, h.size, c.loop-i-test.false))) at (c.before.loop-i.invariant.1.1.1.1 t l h))
 
 pub without_full_spec : {M : Type 1} → statement M

@@ -19,7 +19,7 @@ splices c t walk kids s h =
 joins : tie.Need-returns-then-end-eq0-2
 joins c t walk kids s h = goes-as (omega arith) (tells-atom h c.before.before.before.if-n-eq1.true c.before.before.if-end-eq0-2.true) (c.joined.ensures t walk s)
 
-stays : tie.Need-returns-then-end-eq0
+stays : tie.Need-returns
 stays c t walk kids s h =
     let f = tells_more h (omega arith)
     (λ z. ⊎_elim (λ w. (w.1.left, λ e. w.5.left (omega (arith, e, w.3.ensures.0, w.4.ensures.0)))) (λ w. absurd (w.left z)) c.before.before.if-n-eq0.branch)

@@ -19,7 +19,7 @@ returns-3 : tie.Need-returns-then-above-2
 returns-3 c = c.intersect-then-above-2.ensures ∙ ap (intersect _) c.before.mirrored-then-above-2.ensures
     ∙ second-test _ _ _ c.before.before.before.if-below.false c.before.before.if-above-2.true
 
-returns-4 : tie.Need-returns-then-above
+returns-4 : tie.Need-returns
 returns-4 c = no_test _ _ _ c.before.if-below.false c.if-above-2.false
 
 pub cut_by_tests_spec : {M : Type 1} → statement M

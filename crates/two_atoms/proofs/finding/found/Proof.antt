@@ -16,7 +16,7 @@ returns-2 c = found-weakly _ _ (sym c.before.before.before.before.inside.ensures
     (sym (c.before.either.ensures ∙ ap (λ (x : Bool). x || c.before.before.before.before.before.args.strict)
     c.before.before.inside-then-inside.ensures) ∙ c.if-either.false)
 
-returns-3 : tie.Need-returns-then-either
+returns-3 : tie.Need-returns
 returns-3 c = not_found _ _ (sym c.before.inside.ensures ∙ c.if-inside.false)
 
 pub found_spec : {M : Type 1} → statement M

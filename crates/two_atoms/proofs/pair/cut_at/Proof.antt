@@ -14,7 +14,7 @@ returns c =
     (at_tried {below = s.args.below} {above = s.args.above} s.args.i s.requires.1 c.before.before.factor.ensures
     c.before.factor-then-either.ensures c.cut_by_try.ensures)
 
-returns-2 : tie.Need-returns-then-either
+returns-2 : tie.Need-returns
 returns-2 c =
     let s = c.before.before.before.before.before.before in
     let none = (neither c.before.before.before.within.result c.before.before.within-2.result).0

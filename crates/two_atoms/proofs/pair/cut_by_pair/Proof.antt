@@ -6,7 +6,7 @@ use Rattle.two_atoms.proofs.Factors.{no-tries}
 use Rattle.two_atoms.proofs.pair.cut_by_pair.Statement.{statement}
 use Rattle.two_atoms.proofs.pair.cut_by_pair.Tie as tie
 
-returns-2 : tie.Need-returns-then-both
+returns-2 : tie.Need-returns
 returns-2 c =
     let s = c.before.before.before.before.before.before in
     no-tries s.args.all

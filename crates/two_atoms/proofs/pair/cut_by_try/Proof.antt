@@ -20,7 +20,7 @@ returns c =
     (c.before.before.either-strict.ensures ∙ ap₂ ◌||◌ c.before.before.before.before.is_strict.ensures
     c.before.before.before.is_strict-then-either.ensures) c.before.total-total.ensures c.cut_by_tests.ensures)
 
-returns-2 : tie.Need-returns-then-either
+returns-2 : tie.Need-returns
 returns-2 c =
     let s = c.before.before.before.before.before.before.before.before.before.before in
     rw (back s.ranges.u, back s.ranges.v) at

@@ -42,7 +42,7 @@ loop-again : tie.Need-loop-i-preserved invariant-loop decreases-loop
 loop-again c = walk-factors c.before.before.before.before.before.loop-i.invariant (omega arith) (tried_here c.before.before)
     (sym c.before.stops.ensures ∙ c.if-stops.false)
 
-returns-2 : tie.Need-returns-then-stops invariant-loop decreases-loop
+returns-2 : tie.Need-returns invariant-loop decreases-loop
 returns-2 c = record { on = λ {board}. end-factors c.before.loop-i.invariant (omega arith) board }
 
 pub cut_by_u_spec : {M : Type 1} → statement M

@@ -56,7 +56,7 @@ loop-again : tie.Need-loop-i-preserved invariant-loop decreases-loop
 loop-again c = walk-factors c.before.before.before.before.loop-i.invariant (omega arith) (tried_here c.before.before)
     (sym c.before.stops.ensures ∙ c.if-stops.false)
 
-returns-3 : tie.Need-returns-then-both invariant-loop decreases-loop
+returns-3 : tie.Need-returns invariant-loop decreases-loop
 returns-3 c =
     let s = c.before.before.before.before.before.before.before.before.before.before in
     by-v s.args.all s.ranges.u (end-factors c.before.loop-i.invariant (omega arith))

@@ -19,7 +19,7 @@ returns-3 : tie.Need-returns-then-never_positive
 returns-3 c = rw c.before.before.before.if-mirrored.false (allowed-below c.before.before.before.before.non_negative-negative.ensures
     c.before.before.before.before.before.non_positive-positive.ensures c.halves-then-never_positive.ensures)
 
-returns-4 : tie.Need-returns-then-never_negative
+returns-4 : tie.Need-returns
 returns-4 c =
     let s = c.before.before.before.before.before in
     rw c.before.before.if-mirrored.false (none_below no-indices (sym (rw (back s.ranges.u) at c.before.never_positive.ensures) ∙ c.if-never_positive.false))

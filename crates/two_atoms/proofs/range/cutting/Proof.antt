@@ -10,7 +10,7 @@ use Rattle.two_atoms.proofs.range.cutting.Tie as tie
 returns-2 : tie.Need-returns-then-uncut
 returns-2 c = spares-uncut (omega arith) (sym c.before.uncut.ensures ∙ c.if-uncut.true)
 
-returns-3 : tie.Need-returns-then-set-gt7
+returns-3 : tie.Need-returns
 returns-3 c =
     let s = c.before.before.before.before.before.before.before.before in
     rw (back s.ranges.u) at (spares-narrowed {x = s.args.pair} {s = s.args.set.0} (omega arith) c.before.allowed-range.ensures

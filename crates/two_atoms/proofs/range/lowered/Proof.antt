@@ -28,7 +28,7 @@ returns c =
 loop-again : tie.Need-loop-i-preserved invariant-loop decreases-loop
 loop-again c = lower-on c.before.before.before.loop-i.invariant (omega arith) (sym c.before.passes.ensures ∙ c.if-passes.false)
 
-returns-2 : tie.Need-returns-then-passes invariant-loop decreases-loop
+returns-2 : tie.Need-returns invariant-loop decreases-loop
 returns-2 c =
     let s = c.before.before in
     rw (to_z-of_z w64 s.args.x s.ranges.x, back s.ranges.b) at c.before.loop-i.invariant

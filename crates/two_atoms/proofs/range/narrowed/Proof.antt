@@ -46,7 +46,7 @@ loop-again c =
     (rw (to_z-of_z w64 r.result.x x, back b) at c.before.before.before.raised-from.ensures)
     (rw (to_z-of_z w64 r.result.x x, back b) at c.lowered-to.ensures)
 
-returns-2 : tie.Need-returns-then-to-from invariant-loop decreases-loop
+returns-2 : tie.Need-returns invariant-loop decreases-loop
 returns-2 c =
     let s = c.before.before.before.before.before in
     rw (back s.ranges.u) at (range-narrowed {x = s.args.pair} {range = s.args.range} c.before.loop-i.invariant)

@@ -50,7 +50,7 @@ loop-again c =
     let fits : SFits w64 r.result.c = record { sfits = c.before.struct_told-1.given.0.1 } in
     walk-sum c.before.before.before.before.loop-x.invariant r.ensures (is-zero {z = r.result.c} fits c.if-c-ne0.false)
 
-returns-2 : tie.Need-returns-then-c-ne0 invariant-loop decreases-loop
+returns-2 : tie.Need-returns invariant-loop decreases-loop
 returns-2 c =
     let s = c.before.before.before.before in
     rw (back s.ranges.u) at (led-none {ss = s.args.sign.now} c.before.loop-x.invariant (omega arith) (omega arith))

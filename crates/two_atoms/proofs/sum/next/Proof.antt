@@ -67,7 +67,7 @@ returns-4 c =
       less_left = omega arith;
     }
 
-returns-5 : tie.Need-returns-then-mine-its
+returns-5 : tie.Need-returns
 returns-5 c =
     let s = c.before.before.before.before.before.before.before in
     let cs = s.args.coefficient.now in

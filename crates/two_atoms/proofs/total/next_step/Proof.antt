@@ -39,7 +39,7 @@ returns-4 c =
     stepped no-long-number (record { sfits = c.before.before.b-1.given })
     (taken-second-alone s.args.k s.args.o led c.if-lead.false (omega arith)) (omega arith) (omega arith) (omega arith) (omega arith)
 
-returns-5 : tie.Need-returns-then-mine-its
+returns-5 : tie.Need-returns
 returns-5 c =
     let s = c.before.before.before.before.before in
     let led = rw (back s.ranges.u) at c.before.before.first-lead.ensures in

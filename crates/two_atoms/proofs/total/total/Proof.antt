@@ -55,7 +55,7 @@ returns c =
     rw (back s.ranges.u, back s.ranges.w) at (total-mixed {p = s.args.p} {q1 = s.args.q1} {q2 = s.args.q2} (walked c.before.before)
     (sym c.before.asks_zero.ensures ∙ c.if-asks_zero.true))
 
-returns-2 : tie.Need-returns-then-asks_zero invariant-loop decreases-loop
+returns-2 : tie.Need-returns invariant-loop decreases-loop
 returns-2 c =
     let s = c.before.before.before.before in
     rw (back s.ranges.u, back s.ranges.w) at (total-done {p = s.args.p} {q1 = s.args.q1} {q2 = s.args.q2} c.before.loop-i.invariant

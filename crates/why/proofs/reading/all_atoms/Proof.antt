@@ -26,7 +26,7 @@ loop-again c =
     let a = c.before.before.before.before.args in
     atom-passed a.token.now a.count c.before.before.before.before.requires l.i (omega arith) (omega arith) ∙ l.invariant
 
-returns-2 : tie.Need-returns-then-t-ge16777216 invariant-loop decreases-loop
+returns-2 : tie.Need-returns invariant-loop decreases-loop
 returns-2 c =
     let l = c.before.loop-i in
     let a = c.before.before.args in

@@ -11,7 +11,7 @@ use Rattle.why.proofs.reading.and_of_atoms.Tie as tie
 returns : tie.Need-returns-then-root-eq2
 returns c = let a = c.before.before.args in or-root a.root (take a.count a.token.now) c.if-root-eq2.true
 
-returns-2 : tie.Need-returns-then-root-eq2
+returns-2 : tie.Need-returns
 returns-2 c =
     let a = c.before.before.before.before.args in
     let l = take a.count a.token.now in

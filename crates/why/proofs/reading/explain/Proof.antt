@@ -49,7 +49,7 @@ records-of-requires c κs =
           ∙ not-false _ c.before.before.before.if-not-and_of_atoms.false;
     }
 
-returns-3 : tie.Need-returns-then-not-and_of_atoms
+returns-3 : tie.Need-returns
 returns-3 c bytes taken =
     let here = c.before.before in
     let s = here.before.before.before.before.before.before.before.before.before.before in

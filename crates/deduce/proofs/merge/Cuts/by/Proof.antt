@@ -47,7 +47,7 @@ returns-4 c =
     rw (
       c.before.before.cut_not_negative-l-in_default.ensures,
       c.cut_not_negative-u-in_default.ensures,
-      c.before.before.before.cut_not_positive-u.ensures,
+      c.before.before.before.cut_not_positive.ensures,
       c.before.cut_not_positive-in_default.ensures,
       c.before.before.before.before.before.before.before.by-vanishing.ensures,
     )

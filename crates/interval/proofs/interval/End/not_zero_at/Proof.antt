@@ -17,7 +17,7 @@ returns : tie.Need-returns-then-d-eq0
 unfolding not_zero_at
 returns c = let s = c.before.before.args.self in rw (no_end s.a s.b (is-zero (denominator-fits c.before) c.if-d-eq0.true))
 
-returns-2 : tie.Need-returns-then-d-eq0
+returns-2 : tie.Need-returns
 returns-2 c =
     let d = c.before.before.before in
     let s = d.before.args in

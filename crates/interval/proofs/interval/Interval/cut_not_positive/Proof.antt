@@ -28,7 +28,7 @@ returns-3 c =
     not-positive-void s.args.a s.args.b _ _ _ _ (rw (back f.b) at c.before.before.if-b-gt0.false) (rw (back f.b) at c.before.if-b-lt0.false)
     (ap (λ (x : Bool). v || x) (rw (back f.a) at c.if-a-gt0.true) ∙ or-true v)
 
-returns-4 : tie.Need-returns-then-b-gt0
+returns-4 : tie.Need-returns
 returns-4 c =
     let s = c.before.before.before.before.before in
     let f = s.ranges in

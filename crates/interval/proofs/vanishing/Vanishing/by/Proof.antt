@@ -36,7 +36,7 @@ returns-3 c =
       (rw (back (a-fits s), back (b-fits s)) at (sym c.before.both_zero.ensures ∙ c.if-both_zero.true)),
     )
 
-returns-4 : tie.Need-returns-then-self
+returns-4 : tie.Need-returns
 unfolding vanish_row counted
 returns-4 c =
     let s = c.before.before.before.before.before.before in

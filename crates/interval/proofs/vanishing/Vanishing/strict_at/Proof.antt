@@ -29,7 +29,7 @@ returns-2 c f e =
     let zero = zero-everywhere f v.a v.b (rw (back (a-fits s), back (b-fits s)) at (sym c.before.both_zero.ensures ∙ c.if-both_zero.true)) in
     simp (c.before.before.if-self.false, (is-zero (combined f v.a v.b)).1 zero)
 
-returns-3 : tie.Need-returns-then-self
+returns-3 : tie.Need-returns
 unfolding strict_where not_zero_at
 returns-3 c f e =
     let s = c.before.before.before.before in
