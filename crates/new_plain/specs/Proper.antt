@@ -113,7 +113,7 @@ module _ (n : ℕ) where
 filled-list : (l : List Atom) → Every Filled (sets_of l) → Every (λ (a : Atom). Filled a.set) l
 unfolding sets_of
 filled-list [] h = every_none
-filled-list (a ∷ l) h = every (every-first h) (filled-list l (every-rest h))
+filled-list (a ∷ l) (every h hs) = every h (filled-list l hs)
 
 filled-atoms : {l : List Atom} → Every Filled (sets_of l) → Every (λ (a : Atom). Filled a.set) l
 filled-atoms {l} h = filled-list l h

@@ -68,7 +68,7 @@ returns-3 c =
     let b = s.args.passed.board in
     let ready = s.requires.0 in
     let low : s.args.i < few b.variables = omega (arith, ready.forms.variables) in
-    let sixteen = s.well-formed.1.1.1.1.0.1.1.0.1.1.1.0.1.0.1 in
+    let sixteen = s.well_formed.1.1.1.1.0.1.1.0.1.1.1.0.1.0.1 in
     let within : s.args.i < length b.sets = below_field ℕ b.sets s.args.i 16 sixteen (omega (arith, ready.forms.variables)) in
     record {
       variables = refl;

@@ -17,8 +17,8 @@ seen-requires c κs =
     let d = c.before.before.before in
     let s = d.before.before.before.before in
     record {
-      first = s.requires.within;
-      second = s.requires.within_2;
+      first = s.requires.0;
+      second = s.requires.1;
       first_small = d.small.ensures.yes (not-false _ c.before.before.if-not-small.false);
       second_small = c.before.small-2.ensures.yes (not-false _ c.if-not-small-2.false);
     }

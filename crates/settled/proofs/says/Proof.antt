@@ -15,15 +15,15 @@ table s = lent_table s.args.coefficient s.args.monomial s.args.terms s.args.vari
 says-before-pairs-requires : tie.Need-says_before_pairs-said-requires
 says-before-pairs-requires c κs =
     let s = c.before.before.before.before.before.before.before in
-    let (forms, (same, low)) = s.requires.forms in
-    let ((places, (signed, settled)), words) = s.requires.fact in
+    let (forms, (same, low)) = s.requires.0 in
+    let ((places, (signed, settled)), words) = s.requires.1 in
     ((table-ready s.args.state.atoms forms places signed, (same, low)), signed s.args.number (omega arith))
 
 cut-by-others-requires : tie.Need-cut_by_others-requires
 cut-by-others-requires c κs =
     let s = c.before.before.before.before.before.before.before.before.before.before.before in
-    let (forms, (same, low)) = s.requires.forms in
-    let ((places, (signed, settled)), words) = s.requires.fact in
+    let (forms, (same, low)) = s.requires.0 in
+    let ((places, (signed, settled)), words) = s.requires.1 in
     let ready = table-ready s.args.state.atoms forms places signed in
     ((ready, (same, low)), ((signed s.args.number (omega arith), settled-board settled), words))
 
@@ -38,7 +38,7 @@ returns c =
 returns-2 : tie.Need-returns
 returns-2 c =
     let s = c.before.before.before.before.before.before.before.before.before.before.before in
-    c.before.before.before.says_before_pairs-said.ensures ∙ sym (c.before.pairs_matter.ensures.idle c.if-pairs_matter.false s.requires.fact.0.1.1)
+    c.before.before.before.says_before_pairs-said.ensures ∙ sym (c.before.pairs_matter.ensures.idle c.if-pairs_matter.false s.requires.1.0.1.1)
 
 pub says_spec : {M : Type 1} → statement M
 says_spec =

@@ -25,21 +25,21 @@ held_at : (c : tie.After-places-run) →
     Held (sets_of a.state.board) a.coefficient.now a.monomial.now a.sign.now run.from run.to
 held_at c =
     let s = c.before.before.before.before.before.before.before.before in
-    let ready = s.requires.fact.0 in
+    let ready = s.requires.0.0 in
     let p = c.places-run.ensures in
-    run-held {t = table s} s.args.number ready.forms ready.places (omega (arith, s.requires.fact.1.1)) p.0 p.1 s.requires.signed_slot
+    run-held {t = table s} s.args.number ready.forms ready.places (omega (arith, s.requires.0.1.1)) p.0 p.1 s.requires.1
 
 held-requires : tie.Need-held-requires
 held-requires c κs =
     let s = c.before.before.before.before.before.before.before.before.before in
-    let (same, low) = s.requires.fact.1 in
-    (low, (omega (arith, s.requires.fact.0.forms.variables), below-over (sym same) c.before.before.which-holds.result c.before.before.which-holds.ensures.1))
+    let (same, low) = s.requires.0.1 in
+    (low, (omega (arith, s.requires.0.0.forms.variables), below-over (sym same) c.before.before.which-holds.result c.before.before.which-holds.ensures.1))
 
 cut-by-requires : tie.Need-cut_by-requires
 cut-by-requires c κs =
     let s = c.before.before.before.before.before.before.before.before.before.before.before in
-    let (same, low) = s.requires.fact.1 in
-    (ready-over _ _ _ (sym same) s.requires.fact.0, (omega (arith, c.before.before.before.before.before.many-end.ensures), (omega arith, s.requires.signed_slot)))
+    let (same, low) = s.requires.0.1 in
+    (ready-over _ _ _ (sym same) s.requires.0.0, (omega (arith, c.before.before.before.before.before.many-end.ensures), (omega arith, s.requires.1)))
 
 returns : tie.Need-returns
 unfolding says_before_pairs
@@ -50,8 +50,8 @@ returns c =
     let which = c.before.before.before.before.before.which-holds in
     let places = c.before.before.before.before.places-run.ensures in
     let by = by-terms-at (table s) number c.before.before.before.by_terms-by.ensures places.0 places.1 (held_at c.before.before.before.before) in
-    let held = c.before.before.held.ensures (table s) s.requires.fact.0.forms in
-    cut-by-over _ _ _ s.requires.fact.1.0 (sets_of s.args.state.board) number s.args.state.atoms _ _ _ c.cut_by.ensures
+    let held = c.before.before.held.ensures (table s) s.requires.0.0.forms in
+    cut-by-over _ _ _ s.requires.0.1.0 (sets_of s.args.state.board) number s.args.state.atoms _ _ _ c.cut_by.ensures
     ∙ rw (c.before.intersect-own.ensures, held, which.ensures.0, by, many.ensures, sub-zero)
 
 pub says_before_pairs_spec : {M : Type 1} → statement M

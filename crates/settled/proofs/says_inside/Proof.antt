@@ -16,7 +16,7 @@ abbrev table : tie.Start → Table
 table s = lent_table s.args.coefficient s.args.monomial s.args.terms s.args.variables
 
 says-before-pairs-requires : tie.Need-says_before_pairs-said-requires
-says-before-pairs-requires c κs = let s = c.before.before.before.before.before in (s.requires.fact, s.requires.fact_2.0)
+says-before-pairs-requires c κs = let s = c.before.before.before.before.before in (s.requires.0, s.requires.1.0)
 
 -- it lies inside already
 returns : tie.Need-returns-then-inside
@@ -31,21 +31,21 @@ returns c =
 
 pairs-matter-requires : tie.Need-pairs_matter-requires
 pairs-matter-requires c κs =
-    let (ready, (same, low)) = c.before.before.before.before.before.before.before.before.before.requires.fact in
+    let (ready, (same, low)) = c.before.before.before.before.before.before.before.before.before.requires.0 in
     (ready.forms, (low, c.other_than-others.ensures))
 
 words-of-requires : tie.Need-words_of-falls-requires
 words-of-requires c κs =
-    let ready = c.before.before.before.before.before.before.before.before.before.before.before.before.before.requires.fact.0 in
+    let ready = c.before.before.before.before.before.before.before.before.before.before.before.before.before.requires.0.0 in
     (form-slots ready.forms ready.places, (ready.forms.coefficients, (length-replicate {A = ℕ} 128 0, length-replicate {A = ℕ} 130 0)))
 
 lies-inside-requires : tie.Need-lies_inside-requires
 lies-inside-requires c κs =
     let said = c.before.before.before.before.before.before.before.before.before.before.before.before in
     let s = said.before.before.before.before.before.before in
-    let (own, settled) = s.requires.fact_2 in
+    let (own, settled) = s.requires.1 in
     let words = c.before.before.before.before.words_of-falls.ensures in
-    (s.requires.fact, ((own, settled-board settled), (words, rw said.says_before_pairs-said.ensures (says-low _ _ _))))
+    (s.requires.0, ((own, settled-board settled), (words, rw said.says_before_pairs-said.ensures (says-low _ _ _))))
 
 returns-2 : tie.Need-returns-then-pairs_matter
 returns-2 c =
@@ -59,7 +59,7 @@ returns-2 c =
 returns-3 : tie.Need-returns
 returns-3 c =
     let s = c.before.before.before.before.before.before.before.before.before.before.before in
-    let idle = c.before.pairs_matter.ensures.idle c.if-pairs_matter.false s.requires.fact_2.1 in
+    let idle = c.before.pairs_matter.ensures.idle c.if-pairs_matter.false s.requires.1.1 in
     sym c.before.before.before.if-inside.false ∙ c.before.before.before.before.inside.ensures
     ∙ ap (λ (x : SignSet). inside_of x s.args.bound.0) (c.before.before.before.before.before.says_before_pairs-said.ensures ∙ sym idle)
 

@@ -4,7 +4,7 @@ use Rattle.common_run.proofs.counting.by_common.Statement.{statement}
 use Rattle.common_run.proofs.counting.by_common.Tie as tie
 
 without-requires : tie.Need-without-requires
-without-requires c κs = let s = c.before.before.before in (s.requires.fact.0, (s.requires.fact_2.0, s.requires.fact_2.1 c.if-common.true))
+without-requires c κs = let s = c.before.before.before in (s.requires.0.0, (s.requires.1.0, s.requires.1.1 c.if-common.true))
 
 pub by_common_spec : {M : Type 1} → statement M
 by_common_spec =

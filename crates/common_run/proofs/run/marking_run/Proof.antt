@@ -28,7 +28,7 @@ table s = lent_table s.args.coefficient s.args.monomial s.args.terms s.args.star
 
 -- the first board has sixteen sets
 sixteen-first : (s : tie.Start invariant-loop decreases-loop) → length s.args.start.board.sets ≡ 16
-sixteen-first s = search (rules, s.well-formed.1.1.1.0)
+sixteen-first s = search (rules, s.well_formed.1.1.1.0)
 
 loop-holds : tie.Need-loop-round-init invariant-loop decreases-loop
 loop-holds c =

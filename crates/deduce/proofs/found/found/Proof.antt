@@ -76,7 +76,7 @@ found-at-zero-requires c κs =
     let start = c.before.before.before.before.before.before.before.before.before.before.before in
     let fits = c.before.before.before.before.struct_told-in-loop-i-1.given.0.1 in
     let nought = (root c.before.before).nought (is-zero (record { sfits = fits }) c.if-a-eq0.true) in
-    ((start.requires.within.coefficients, start.requires.within.signs), record { there = there c.before; nought = nought })
+    ((start.requires.0.coefficients, start.requires.0.signs), record { there = there c.before; nought = nought })
 
 returns : tie.Need-returns-then-a-eq0 invariant-loop decreases-loop
 returns c =

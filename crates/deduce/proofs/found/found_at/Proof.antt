@@ -44,7 +44,7 @@ returns c =
     let d = c.before.before in
     let start = d.before.before.before.before.before.before.before.before.before in
     let l = d.before.before.before.before.before.before.loop-i in
-    let there = start.requires.within_2.1 in
+    let there = start.requires.1.1 in
     let value = value-is d there.fraction (ap end_of l.invariant.t ∙ there.is) in
     let out = ruled_out {x = l.left} _ value (sym c.before.rules_out.ensures ∙ c.if-rules_out.true) in
     last_none (walked d (gone l.left) out) there refl
@@ -53,10 +53,10 @@ returns-2 : tie.Need-returns-then-is_gone invariant-loop decreases-loop
 returns-2 c =
     let d = c.before.before.before.before.before in
     let start = d.before.before.before.before.before.before.before.before.before in
-    last_none (walked d _ c.before.before.by-left.ensures) start.requires.within_2.1 (sym c.before.is_gone.ensures ∙ c.if-is_gone.true)
+    last_none (walked d _ c.before.before.by-left.ensures) start.requires.1.1 (sym c.before.is_gone.ensures ∙ c.if-is_gone.true)
 
 returns-3 : tie.Need-returns invariant-loop decreases-loop
-returns-3 c = last_done c.before.before.loop-i.invariant c.before.before.before.before.before.requires.within_2.1 (omega arith) (omega arith) c.found.ensures
+returns-3 c = last_done c.before.before.loop-i.invariant c.before.before.before.before.before.requires.1.1 (omega arith) (omega arith) c.found.ensures
 
 pub found_at_spec : {M : Type 1} → statement M
 found_at_spec =

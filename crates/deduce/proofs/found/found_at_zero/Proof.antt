@@ -41,16 +41,16 @@ returns c =
     let start = d.before.before.before.before.before.before in
     let l = d.before.before.before.before.loop-i in
     let out = ruled_out {x = l.left} _ (value-is d) (sym c.before.rules_out.ensures ∙ c.if-rules_out.true) in
-    zero-gone (walked d (gone l.left) out) start.requires.zero refl
+    zero-gone (walked d (gone l.left) out) start.requires.1 refl
 
 returns-2 : tie.Need-returns-then-is_gone invariant-loop decreases-loop
 returns-2 c =
     let start = c.before.before.before.before.before.before.before.before.before.before.before in
-    zero-gone (walked c.before.before.before.before.before _ c.before.before.by-left.ensures) start.requires.zero
+    zero-gone (walked c.before.before.before.before.before _ c.before.before.by-left.ensures) start.requires.1
     (sym c.before.is_gone.ensures ∙ c.if-is_gone.true)
 
 returns-3 : tie.Need-returns invariant-loop decreases-loop
-returns-3 c = zero-done c.before.before.loop-i.invariant c.before.before.before.before.requires.zero (omega arith) c.found.ensures
+returns-3 c = zero-done c.before.before.loop-i.invariant c.before.before.before.before.requires.1 (omega arith) c.found.ensures
 
 pub found_at_zero_spec : {M : Type 1} → statement M
 found_at_zero_spec =

@@ -12,10 +12,10 @@ use Rattle.level.proofs.settling.finish.Tie as tie
 
 -- the two lists have the places of a row
 long : (s : tie.Start) → length s.args.atoms.token ≡ 256
-long s = length_unmapped ℕ s.args.atoms.token 256 s.well-formed.1.1.1.1.0.1.1.0.1.0.1
+long s = length_unmapped ℕ s.args.atoms.token 256 s.well_formed.1.1.1.1.0.1.1.0.1.0.1
 
 wide : (s : tie.Start) → length s.args.walked.ors.token ≡ 256
-wide s = search (rules, s.well-formed)
+wide s = search (rules, s.well_formed)
 
 never-requires : tie.Need-never-stage-requires
 never-requires c κs = omega (arith, wide c.before.before.before.before.before.before.before)

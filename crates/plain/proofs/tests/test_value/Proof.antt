@@ -28,7 +28,7 @@ abbrev decreases-loop : tie.decreases-loop-i
 decreases-loop coefficient monomial sign t p-to q-to passed₀ i₀ j₀ passed i j = p-to + q-to - (i + j)
 
 loop-holds : tie.Need-loop-i-init invariant-loop decreases-loop
-loop-holds c = let s = c.before.before in walk_from s.requires.lent.first.ordered s.requires.lent.second.ordered (λ all f h. (refl, (refl, refl)))
+loop-holds c = let s = c.before.before in walk_from s.requires.0.first.ordered s.requires.0.second.ordered (λ all f h. (refl, (refl, refl)))
 
 next-requires : tie.Need-next-step-requires invariant-loop decreases-loop
 next-requires c κs = search rules
@@ -39,9 +39,9 @@ sign-at-requires c κs =
     let l = c.before.before.before.before.loop-i in
     let s = c.before.before.before.before.before.before.before in
     let told = c.struct_told-in-loop-i-1.given in (
-      s.requires.held,
+      s.requires.1,
       rw (back {z = n.result.a} (record { sfits = told.0.1 }), back {z = n.result.b} (record { sfits = told.1.0.1 }))
-          (row_small l.invariant n.ensures s.requires.lent.first_small s.requires.lent.second_small),
+          (row_small l.invariant n.ensures s.requires.0.first_small s.requires.0.second_small),
     )
 
 loop-again : tie.Need-loop-i-preserved invariant-loop decreases-loop

@@ -19,11 +19,11 @@ near_fits : (c : tie.After-struct_told-1) → SFits w32 c.before.before.args.nea
 near_fits c = record { sfits = c.struct_told-1.given.1.0.1 }
 
 -- the listed fraction f
-first : (c : tie.After-listed-x) → Is c.listed-x.result c.before.requires.there.0.fraction
-first c = let there = c.before.requires.there.0 in c.listed-x.ensures there.fraction there.is
+first : (c : tie.After-listed-x) → Is c.listed-x.result c.before.requires.0.0.fraction
+first c = let there = c.before.requires.0.0 in c.listed-x.ensures there.fraction there.is
 
-first_small : (c : tie.After-listed-x) → Small largest c.before.requires.there.0.fraction
-first_small c = let there = c.before.requires.there.0 in c.before.requires.there.1.small there.fraction there.is
+first_small : (c : tie.After-listed-x) → Small largest c.before.requires.0.0.fraction
+first_small c = let there = c.before.requires.0.0 in c.before.requires.0.1.small there.fraction there.is
 
 add-t7 : tie.Need-overflow-add-t7
 add-t7 c =
@@ -42,7 +42,7 @@ returns c =
       back r.d (term_in (listed-d (first d) (first_small d))),
       back (r.c +ℤ r.d) (sum-in r.c r.d (listed-c (first d) (first_small d)) (listed-d (first d) (first_small d))),
     ) (
-      record { t = one_more d.before.requires.there.0.fraction; is = more-is (first d).c (first d).d; small = one-more-small (first_small d) },
+      record { t = one_more d.before.requires.0.0.fraction; is = more-is (first d).c (first d).d; small = one-more-small (first_small d) },
       λ t e. none_beside t none (more-is (d.listed-x.ensures t e).c (d.listed-x.ensures t e).d),
     )
 
@@ -54,7 +54,7 @@ second : (c : tie.After-listed-y) → Is c.listed-y.result (other c.before).frac
 second c = c.listed-y.ensures (other c.before).fraction (other c.before).is
 
 second_small : (c : tie.After-listed-y) → Small largest (other c.before).fraction
-second_small c = c.before.before.before.before.requires.small_end.small (other c.before).fraction (other c.before).is
+second_small c = c.before.before.before.before.requires.1.small (other c.before).fraction (other c.before).is
 
 add-t8 : tie.Need-overflow-add-t8
 add-t8 c =
@@ -93,7 +93,7 @@ returns-2 c =
       back (x.d +ℤ y.d) (sum-in x.d y.d xd yd),
     ) (
       record {
-        t = between d.before.requires.there.0.fraction (other e.before).fraction;
+        t = between d.before.requires.0.0.fraction (other e.before).fraction;
         is = between_is (first d).c (first d).d (second e).c (second e).d;
         small = between-small (first_small d) (second_small e);
       },

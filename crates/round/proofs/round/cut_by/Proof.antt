@@ -7,7 +7,7 @@ use Rattle.round.proofs.round.cut_by.Tie as tie
 cut-down-requires : tie.Need-cut_down-requires
 cut-down-requires c κs =
     let s = c.before.before.before in
-    (s.requires.fact, (s.requires.fact_2, (lit< tt, record { each = λ x h. in-empty h })))
+    (s.requires.0, (s.requires.1, (lit< tt, record { each = λ x h. in-empty h })))
 
 pub cut_by_spec : {M : Type 1} → statement M
 cut_by_spec = tie.close (tie.spec cut-down-requires (λ c. c.cut_down.ensures))

@@ -56,8 +56,8 @@ returns-2 c =
 deduce-from-requires : tie.Need-deduce_from-requires invariant-loop decreases-loop
 deduce-from-requires c κs =
     let s = c.before.before.before.before.before.before.before.before.before.before.before in
-    let ready = s.requires.fact in
-    let (most, (low, signed)) = s.requires.fact_2.0 in
+    let ready = s.requires.0 in
+    let (most, (low, signed)) = s.requires.1.0 in
     let i = c.before.before.before.before.loop-i.i in
     let p = c.before.before.before.before.before.places-run.ensures in
     let q = c.places-q.ensures in (
@@ -81,11 +81,11 @@ cut_on c v board stands =
     let t = table_of a.coefficient.now a.monomial.now a.terms.now v in
     let l = c.before.before.before.before.before.before.loop-i in
     let h : l.i < a.to = omega arith in
-    let low : l.i < many a.t6.count = omega (arith, s.requires.fact_2.0.0) in
+    let low : l.i < many a.t6.count = omega (arith, s.requires.1.0.0) in
     let p = c.before.before.before.before.before.before.before.places-run.ensures in
     let q = c.before.before.places-q.ensures in
     let ready = stands.ready in
-    let own = run-held a.p ready.forms ready.places s.requires.fact_2.0.1.0 p.0 p.1 stands.own in
+    let own = run-held a.p ready.forms ready.places s.requires.1.0.1.0 p.0 p.1 stands.own in
     let its = run-held (atom_slot a.t6.number l.i) ready.forms ready.places (omega arith) q.0 q.1 (ready.atoms l.i low) in
     cut_step t a.t6.number a.t6.set board a.p l.i a.to l.sofar.0 h
     (run-form t a.p p.0 p.1) (run-form t (atom_slot a.t6.number l.i) q.0 q.1)
@@ -97,12 +97,12 @@ stands : (c : tie.Else-any_empty invariant-loop decreases-loop) → let s = c.be
     Stands (table s) (sets_of s.args.board) s.args.atoms s.args.sign.now s.args.p
 stands c =
     let s = c.before.before.before.before.before in
-    record { ready = s.requires.fact; own = s.requires.fact_2.0.1.1; none-empty = sym c.before.any_empty.ensures ∙ c.if-any_empty.false }
+    record { ready = s.requires.0; own = s.requires.1.0.1.1; none-empty = sym c.before.any_empty.ensures ∙ c.if-any_empty.false }
 
 returns-3 : tie.Need-returns-then-sofar-floor invariant-loop decreases-loop
 returns-3 c =
     let e = c.before.before.before.before.before.before.before.before.before.before.before in
-    let (low, part) = e.before.before.before.before.before.requires.fact_2.1 in
+    let (low, part) = e.before.before.before.before.before.requires.1.1 in
     cut-to-floor _ _ _ c.if-sofar-floor.true low (cut_on c.before.before.before _ _ (stands e)) part
 
 returns-4 : tie.Need-returns invariant-loop decreases-loop

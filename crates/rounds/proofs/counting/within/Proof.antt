@@ -13,13 +13,13 @@ use Rattle.rounds.proofs.counting.within.Tie as tie
 spares-requires : tie.Need-spares-above-requires
 spares-requires c κs =
     let s = c.before.before.before.before in
-    let sixteen : length s.args.board.sets ≡ 16 = search (rules, s.well-formed.0) in
+    let sixteen : length s.args.board.sets ≡ 16 = search (rules, s.well_formed.0) in
     (omega (arith, c.few.ensures), omega (arith, c.few.ensures))
 
 spares-requires-2 : tie.Need-spares-below-requires
 spares-requires-2 c κs =
     let s = c.before.before.before.before.before.before.before in
-    let sixteen : length s.args.floor.sets ≡ 16 = search (rules, s.well-formed.1.0) in
+    let sixteen : length s.args.floor.sets ≡ 16 = search (rules, s.well_formed.1.0) in
     (omega (arith, c.few-2.ensures), omega (arith, c.few-2.ensures))
 
 -- the signs that the board can lose, and those of the floor
@@ -41,6 +41,6 @@ returns-2 c e =
 pub within_spec : {M : Type 1} → statement M
 within_spec =
     tie.close
-    (tie.spec (λ c. search rules) (λ c κs. search rules) spares-requires (λ c. search (rules, c.before.before.before.before.before.before.well-formed.1.0)) (λ c κs. search rules) spares-requires-2
+    (tie.spec (λ c. search rules) (λ c κs. search rules) spares-requires (λ c. search (rules, c.before.before.before.before.before.before.well_formed.1.0)) (λ c κs. search rules) spares-requires-2
     (λ c. omega (arith, c.before.before.before.spares-above.ensures.1, c.before.before.before.before.before.before.before.before.requires)) returns (λ c. omega (arith, c.before.before.before.before.spares-above.ensures.1, c.before.before.before.before.before.before.before.before.before.requires))
     (λ c. omega (arith, c.if-begun-above.false, c.before.before.before.before.spares-above.ensures.1, c.before.spares-below.ensures.1, c.before.before.before.before.before.before.before.before.before.requires)) returns-2)

@@ -47,8 +47,8 @@ cut-by-pairs-requires c κs =
     let all = c.before.before.before.before.before.many-n.ensures in
     let next : i < many s.args.atoms.count = omega (arith, all) in
     let silence = c.silenced-rest.ensures.silenced in
-    let (ready, filled) = s.requires.fact in
-    ((silenced-ready silence ready, filled), ((omega arith, ready.atoms i next), silenced-words silence s.requires.words))
+    let (ready, filled) = s.requires.0 in
+    ((silenced-ready silence ready, filled), ((omega arith, ready.atoms i next), silenced-words silence s.requires.1))
 
 -- what the pairs of the others leave of the atom's set
 cut-is : (c : tie.After-cut_by_pairs-cut invariant-loop decreases-loop) →

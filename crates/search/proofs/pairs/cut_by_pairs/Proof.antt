@@ -33,13 +33,13 @@ start l = l.before.before.before.before.before.before.before.before.before
 mask-of-slot-requires : tie.Need-mask_of_slot-mask-requires invariant-loop decreases-loop
 mask-of-slot-requires c κs =
     let s = c.before.before.before.before.before.before in
-    (form-slots s.requires.fact.0.forms s.requires.fact.0.places, (s.requires.fact.0.forms.coefficients, s.requires.fact_2.0.0))
+    (form-slots s.requires.0.0.forms s.requires.0.0.places, (s.requires.0.0.forms.coefficients, s.requires.1.0.0))
 
 falls-with-requires : tie.Need-falls_with-all_fall-requires invariant-loop decreases-loop
 falls-with-requires c κs =
     let s = c.before.before.before.before.before.before.before in
-    let forms = s.requires.fact.0.forms in
-    (record { monomials = forms.monomials; counts = forms.counts; few = forms.few }, s.requires.fact_2.0.0)
+    let forms = s.requires.0.0.forms in
+    (record { monomials = forms.monomials; counts = forms.counts; few = forms.few }, s.requires.1.0.0)
 
 cut-with-requires : tie.Need-cut_with-cut-requires invariant-loop decreases-loop
 cut-with-requires c κs =

@@ -40,7 +40,7 @@ table s = lent_table s.args.coefficient s.args.monomial s.args.terms s.args.boar
 
 -- the board of the call
 stands : (s : tie.Start invariant-loop decreases-loop) → Stands (table s) (sets_of s.args.board) s.args.atoms s.args.sign.now s.args.p
-stands s = record { ready = s.requires.fact.0; own = s.requires.fact_2.0.1.0; filled = s.requires.fact.1 }
+stands s = record { ready = s.requires.0.0; own = s.requires.1.0.1.0; filled = s.requires.0.1 }
 
 -- the place before the loop
 abbrev start : tie.At-loop-j invariant-loop decreases-loop → tie.Start invariant-loop decreases-loop
@@ -49,10 +49,10 @@ start l = l.before.before.before.before.before.before.before.before.before.befor
 mask-at-requires : tie.Need-mask_at-mask1-requires invariant-loop decreases-loop
 mask-at-requires c κs =
     let s = c.before.before.before.before.before.before.before.before.before.before in
-    (omega (arith, s.requires.fact_2.0.1.1), s.requires.fact_2.1.0.words)
+    (omega (arith, s.requires.1.0.1.1), s.requires.1.1.0.words)
 
 candidates-requires : tie.Need-candidates-left-requires invariant-loop decreases-loop
-candidates-requires c κs = c.before.before.before.before.before.before.before.before.before.before.before.requires.fact_2.1.1.0.1.words
+candidates-requires c κs = c.before.before.before.before.before.before.before.before.before.before.before.requires.1.1.1.0.1.words
 
 next-requires : tie.Need-next-j-requires invariant-loop decreases-loop
 next-requires c κs = omega (arith, c.before.before.before.before.before.before.many-n.ensures)
@@ -60,8 +60,8 @@ next-requires c κs = omega (arith, c.before.before.before.before.before.before.
 loop-holds : tie.Need-loop-j-init invariant-loop decreases-loop
 loop-holds c =
     let s = c.before.before.before.before.before.before.before.before.before.before.before.before.before in
-    let (low, (signed, at)) = s.requires.fact_2.0 in
-    let (masked, ((own, noted), falling)) = s.requires.fact_2.1 in
+    let (low, (signed, at)) = s.requires.1.0 in
+    let (masked, ((own, noted), falling)) = s.requires.1.1 in
     let word = c.before.candidates-left.ensures in (
       word,
       λ v board h. skips h low s.args.i at own masked noted s.args.all s.args.set.0
@@ -75,7 +75,7 @@ places-requires-3 c κs = (omega arith, (start c.before.before.before).pre.0.0.f
 mask-at-requires-2 : tie.Need-mask_at-mask2-requires invariant-loop decreases-loop
 mask-at-requires-2 c κs =
     let l = c.before.before.before.before in
-    (omega (arith, l.before.before.before.before.before.before.before.before.many-n.ensures), (start l).requires.fact_2.1.0.words)
+    (omega (arith, l.before.before.before.before.before.before.before.before.many-n.ensures), (start l).requires.1.1.0.words)
 
 cut-by-sifted-pair-requires : tie.Need-cut_by_sifted_pair-cut-requires invariant-loop decreases-loop
 cut-by-sifted-pair-requires c κs =

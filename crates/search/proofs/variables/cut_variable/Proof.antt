@@ -25,22 +25,22 @@ returns c =
     let b = s.args.board in
     let f = s.args.floor in
     let i = s.args.i in
-    let low : i < few b.variables = omega (arith, s.requires.fact.0.forms.variables, s.requires.fact_2.1.1) in
-    let same = floor-set b f s.requires.fact.0.forms.variables s.requires.fact_2.0.1 i s.requires.fact_2.1.1 c.if-set-low.true in
+    let low : i < few b.variables = omega (arith, s.requires.0.0.forms.variables, s.requires.1.1.1) in
+    let same = floor-set b f s.requires.0.0.forms.variables s.requires.1.0.1 i s.requires.1.1.1 c.if-set-low.true in
     let none_here : first_cut (get_or b.sets i 0) (tries (sets_of b) (variable b.variables i) (atoms_of (table s) s.args.atoms)) ≡ none =
-    rw (set_at b.sets i (few b.variables) low) at (s.requires.fact_2.0.0.idle i s.requires.fact_2.1.1 same) in
+    rw (set_at b.sets i (few b.variables) low) at (s.requires.1.0.0.idle i s.requires.1.1.1 same) in
     none_left (get_or b.sets i 0) _ none_here
 
 cut-by-pairs-requires : tie.Need-cut_by_pairs-requires
 cut-by-pairs-requires c κs =
     let s = c.before.before.before.before.before.before.before.before in
-    let own = s.requires.fact.0.variables s.args.i s.requires.fact_2.1.1 in
-    (s.requires.fact, ((omega (arith, s.requires.fact.0.forms.variables, s.requires.fact_2.1.1), own), s.requires.fact_2.1.0))
+    let own = s.requires.0.0.variables s.args.i s.requires.1.1.1 in
+    (s.requires.0, ((omega (arith, s.requires.0.0.forms.variables, s.requires.1.1.1), own), s.requires.1.1.0))
 
 returns-2 : tie.Need-returns
 returns-2 c =
     let s = c.before.before.before.before.before.before.before.before.before in
-    c.cut_by_pairs.ensures ∙ rw (s.requires.fact.0.forms.each_variable s.args.i s.requires.fact_2.1.1)
+    c.cut_by_pairs.ensures ∙ rw (s.requires.0.0.forms.each_variable s.args.i s.requires.1.1.1)
 
 pub cut_variable_spec : {M : Type 1} → statement M
 cut_variable_spec = tie.close (tie.spec (λ c. search rules) (λ c. search rules) returns (λ c. search rules) cut-by-pairs-requires returns-2)

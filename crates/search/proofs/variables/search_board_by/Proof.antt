@@ -42,7 +42,7 @@ places_of s = search rules
 cut-variable-requires : tie.Need-cut_variable-cut-requires invariant-loop decreases-loop
 cut-variable-requires c κs =
     let s = c.before.before.before.before.before.before.before.before in
-    (s.requires.fact, (s.requires.fact_2.0, (s.requires.fact_2.1, omega arith)))
+    (s.requires.0, (s.requires.1.0, (s.requires.1.1, omega arith)))
 
 returns : tie.Need-returns-then-cut-set invariant-loop decreases-loop
 unfolding when_found
@@ -54,8 +54,8 @@ returns c =
     let findings = tries (sets_of b) (variable b.variables l.i) atoms in
     let cut = c.before.before.cut_variable-cut.ensures in
     let next : l.i < b.variables = omega arith in
-    let low : l.i < few b.variables = omega (arith, s.requires.fact.0.forms.variables) in
-    let within : l.i < length b.sets = omega (arith, next, places_of s, s.requires.fact.0.forms.variables) in
+    let low : l.i < few b.variables = omega (arith, s.requires.0.0.forms.variables) in
+    let within : l.i < length b.sets = omega (arith, next, places_of s, s.requires.0.0.forms.variables) in
     let inside : l.i < length (sets_of b) = rw (length-numbers b.sets 0 (few b.variables)) low in
     let here : first_of (table s) b s.args.atoms l.i ≡ some c.before.before.cut_variable-cut.result.0 =
     rw (set_at b.sets l.i (few b.variables) low) (found_first (get_or b.sets l.i 0) findings cut c.if-cut-set.true) in
@@ -75,7 +75,7 @@ loop-again c =
     let atoms = atoms_of (table s) s.args.atoms in
     let findings = tries (sets_of b) (variable b.variables l.i) atoms in
     let cut = c.before.before.cut_variable-cut.ensures in
-    let low : l.i < few b.variables = omega (arith, s.requires.fact.0.forms.variables) in
+    let low : l.i < few b.variables = omega (arith, s.requires.0.0.forms.variables) in
     let here : first_of (table s) b s.args.atoms l.i ≡ none =
     rw (set_at b.sets l.i (few b.variables) low) (found_none (get_or b.sets l.i 0) findings cut c.if-cut-set.false) in
     below_more (λ (j : ℕ). first_of (table s) b s.args.atoms j ≡ none) l.i l.invariant here
@@ -92,6 +92,6 @@ pub search_board_by_spec : {M : Type 1} → statement M
 search_board_by_spec =
     tie.close
     (tie.spec invariant-loop decreases-loop (λ c j h. absurd (omega arith))
-    (λ c. omega (arith, c.before.before.before.before.before.before.before.requires.fact.0.forms.variables)) cut-variable-requires
-    (λ c. omega (arith, c.before.before.before.before.before.before.before.before.before.before.before.requires.fact.0.forms.variables)) returns
+    (λ c. omega (arith, c.before.before.before.before.before.before.before.requires.0.0.forms.variables)) cut-variable-requires
+    (λ c. omega (arith, c.before.before.before.before.before.before.before.before.before.before.before.requires.0.0.forms.variables)) returns
     (λ c. search rules) (λ c. search rules) loop-again returns-2)

@@ -21,8 +21,8 @@ returns c = rw c.if-set-eq0.true (sym (all-empty _))
 cut-by-pairs-requires : tie.Need-cut_by_pairs-requires
 cut-by-pairs-requires c κs =
     let s = c.before.before.before.before.before.before.before.before in
-    let (ready, (same, low)) = s.requires.fact in
-    let ((own, filled), words) = s.requires.fact_2 in
+    let (ready, (same, low)) = s.requires.0 in
+    let ((own, filled), words) = s.requires.1 in
     let quiet = c.silent.ensures.silenced in
     ((ready-over _ _ _ (sym same) (silenced-ready quiet ready), filled), ((omega arith, own), silenced-words quiet words))
 
@@ -30,7 +30,7 @@ returns-2 : tie.Need-returns
 returns-2 c =
     let s = c.before.before.before.before.before.before.before.before.before in
     let t = table s in
-    let (ready, (same, low)) = s.requires.fact in
+    let (ready, (same, low)) = s.requires.0 in
     let quiet = c.before.silent in
     pairs-over _ _ _ same (sets_of s.args.board) s.args.number quiet.result s.args.set.0 c.cut_by_pairs.ensures
     ∙ ap (cut_by_all s.args.set.0)

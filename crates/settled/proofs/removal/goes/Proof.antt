@@ -8,8 +8,8 @@ use Rattle.settled.proofs.removal.goes.Tie as tie
 stays-requires : tie.Need-stays-requires
 stays-requires c κs =
     let s = c.before.before.before.before.before in
-    let ((own, from), words) = s.requires.fact_2 in
-    (s.requires.fact, ((own, run-settles s.args.variables from.given from.settles), words))
+    let ((own, from), words) = s.requires.1 in
+    (s.requires.0, ((own, run-settles s.args.variables from.given from.settles), words))
 
 returns : tie.Need-returns-then-stays
 returns c = rw (sym c.before.stays.ensures, c.if-stays.true)

@@ -34,15 +34,15 @@ table s = lent_table s.args.coefficient s.args.monomial s.args.terms s.args.vari
 goes-requires : tie.Need-goes-told-requires invariant-loop decreases-loop
 goes-requires c κs =
     let s = c.before.before.before.before.before.before.before.before.before.before.before.before.before.before in
-    let (ready, from) = s.requires.fact in
+    let (ready, from) = s.requires.0 in
     let l = c.before.before.before.before.before.loop-i in
     let afresh = afresh-others s.args.list (atoms_of (table s) l.auto.atoms) from (omega (arith, l.invariant.1.0)) l.invariant.1.1.1.0 (c.joined-others.ensures (table s)) in
-    ((ready, (from.variables, omega arith)), ((s.requires.fact_2.0.atoms l.i (omega arith), afresh), s.requires.fact_2.1))
+    ((ready, (from.variables, omega arith)), ((s.requires.1.0.atoms l.i (omega arith), afresh), s.requires.1.1))
 
 counted-requires : tie.Need-counted-counting-requires invariant-loop decreases-loop
 counted-requires c κs =
     let s = c.before.before.before.before.before.before.before.before.before.before.before.before.before.before.before.before in
-    let (ready, from) = s.requires.fact in
+    let (ready, from) = s.requires.0 in
     let l = c.before.before.before.before.before.before.before.loop-i in
     let more = c.before.before.before.before.before.before.loop-i-test.true in (
       ready.forms,

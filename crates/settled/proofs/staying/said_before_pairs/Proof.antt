@@ -24,15 +24,15 @@ held_at : (c : tie.After-places-run) →
     Held (sets_of a.board) a.coefficient.now a.monomial.now a.sign.now run.from run.to
 held_at c =
     let s = c.before.before.before.before.before in
-    let (ready, (same, low)) = s.requires.fact in
+    let (ready, (same, low)) = s.requires.0 in
     let p = c.places-run.ensures in
-    run-held {t = table s} s.args.number ready.forms ready.places (omega arith) p.0 p.1 s.requires.signed_slot
+    run-held {t = table s} s.args.number ready.forms ready.places (omega arith) p.0 p.1 s.requires.1
 
 cut-by-requires : tie.Need-cut_by-requires
 cut-by-requires c κs =
     let s = c.before.before.before.before.before.before in
-    let (ready, (same, low)) = s.requires.fact in
-    (ready-over _ _ _ (sym same) ready, (omega (arith, c.before.before.many-end.ensures), (omega arith, s.requires.signed_slot)))
+    let (ready, (same, low)) = s.requires.0 in
+    (ready-over _ _ _ (sym same) ready, (omega (arith, c.before.before.many-end.ensures), (omega arith, s.requires.1)))
 
 returns : tie.Need-returns
 unfolding said_before_pairs
@@ -41,7 +41,7 @@ returns c =
     let number = s.args.number in
     let places = c.before.before.places-run.ensures in
     let by = by-terms-at (table s) number c.before.by_terms-by.ensures places.0 places.1 (held_at c.before.before) in
-    cut-by-over _ _ _ s.requires.fact.1.0 (sets_of s.args.board) number s.args.others _ _ _ c.cut_by.ensures
+    cut-by-over _ _ _ s.requires.0.1.0 (sets_of s.args.board) number s.args.others _ _ _ c.cut_by.ensures
     ∙ rw (by, c.before.before.before.many-end.ensures, sub-zero)
 
 pub said_before_pairs_spec : {M : Type 1} → statement M

@@ -16,20 +16,20 @@ table s = lent_table s.args.coefficient s.args.monomial s.args.terms s.args.vari
 said-before-pairs-requires : tie.Need-said_before_pairs-said-requires
 said-before-pairs-requires c κs =
     let s = c.before.before.before.before.before.before.before.before in
-    let (ready, (same, low)) = s.requires.fact in
-    ((others-ready c.other_than-others.ensures ready, (same, low)), s.requires.fact_2.0.0)
+    let (ready, (same, low)) = s.requires.0 in
+    ((others-ready c.other_than-others.ensures ready, (same, low)), s.requires.1.0.0)
 
 lies-inside-requires : tie.Need-lies_inside-requires
 lies-inside-requires c κs =
     let s = c.before.before.before.before.before.before.before.before.before in
-    let ((own, settled), words) = s.requires.fact_2 in
-    (s.requires.fact, ((own, settled-board settled), (words, rw c.said_before_pairs-said.ensures (said-low _ _ _))))
+    let ((own, settled), words) = s.requires.1 in
+    (s.requires.0, ((own, settled-board settled), (words, rw c.said_before_pairs-said.ensures (said-low _ _ _))))
 
 returns : tie.Need-returns
 returns c =
     let s = c.before.before.before.before.before.before.before.before.before.before in
     let t = table s in
-    let others = c.before.before.other_than-others.ensures.atoms t s.requires.fact.0.forms in
+    let others = c.before.before.other_than-others.ensures.atoms t s.requires.0.0.forms in
     c.lies_inside.ensures
     ∙ ap (λ (x : SignSet). inside_of x s.args.set.0)
     (said-by-pairs (state_of t s.args.state) (form_at t s.args.number) others c.before.said_before_pairs-said.ensures)

@@ -22,23 +22,23 @@ decreases-loop coefficient monomial sign pair a₀ b₀ c₀ s₀ i₀ j₀ k₀
 loop-holds : tie.Need-loop-count-init invariant-loop decreases-loop
 loop-holds c =
     let s = c.before.before.before in
-    (s.requires.a_len, (merge-begun s.requires.places_of.0, (omega arith, λ q l. absurd (omega arith))))
+    (s.requires.1, (merge-begun s.requires.0.0, (omega arith, λ q l. absurd (omega arith))))
 
 same_length : tie.Need-shape_of-a-then-i-j invariant-loop decreases-loop
 same_length c = c.before.before.before.before.loop-count.invariant.0.0 ∙
-    sym c.before.before.before.before.before.before.before.before.requires.a_len.0
+    sym c.before.before.before.before.before.before.before.before.requires.1.0
 
 same-length-2 : tie.Need-shape_of-b-then-i-j invariant-loop decreases-loop
 same-length-2 c = c.before.before.before.before.loop-count.invariant.0.1.0 ∙
-    sym c.before.before.before.before.before.before.before.before.requires.a_len.1.0
+    sym c.before.before.before.before.before.before.before.before.requires.1.1.0
 
 same-length-3 : tie.Need-shape_of-c-then-i-j invariant-loop decreases-loop
 same-length-3 c = c.before.before.before.before.loop-count.invariant.0.1.1.0 ∙
-    sym c.before.before.before.before.before.before.before.before.requires.a_len.1.1.0
+    sym c.before.before.before.before.before.before.before.before.requires.1.1.1.0
 
 same-length-4 : tie.Need-shape_of-s-then-i-j invariant-loop decreases-loop
 same-length-4 c = c.before.before.before.before.loop-count.invariant.0.1.1.1 ∙
-    sym c.before.before.before.before.before.before.before.before.requires.a_len.1.1.1
+    sym c.before.before.before.before.before.before.before.before.requires.1.1.1.1
 
 returns : tie.Need-returns-then-i-j invariant-loop decreases-loop
 returns c =
@@ -53,7 +53,7 @@ returns c =
     }
 
 next-row-requires : tie.Need-next_row-row-requires invariant-loop decreases-loop
-next-row-requires c κs = (c.before.before.before.before.before.before.before.before.requires.places_of.0, omega arith)
+next-row-requires c κs = (c.before.before.before.before.before.before.before.before.requires.0.0, omega arith)
 
 loop-again : tie.Need-loop-count-preserved invariant-loop decreases-loop
 loop-again c =
@@ -61,7 +61,7 @@ loop-again c =
     let l = c.before.before.before.before.before.before.before.before.loop-count in
     let (lengths, (merged, (few, each))) = l.invariant in
     let r = c.before.before.before.next_row-row in
-    let f = s.requires.places_of.1 in
+    let f = s.requires.0.1 in
     let more = c.before.before.before.before.before.before.before.loop-count-test.true in (
       (
         length-set l.a l.count _ ∙ lengths.0,
@@ -107,7 +107,7 @@ fill_spec =
     (λ c. omega (arith, c.before.before.before.before.before.before.before.before.loop-count.invariant.0.1.1.0))
     (λ c. omega (arith, c.before.before.before.before.before.before.before.before.loop-count.invariant.0.1.1.1)) (λ c. omega arith)
     (λ c. omega arith) loop-again
-    (λ c. c.before.loop-count.invariant.0.0 ∙ sym c.before.before.before.before.before.requires.a_len.0)
-    (λ c. c.before.loop-count.invariant.0.1.0 ∙ sym c.before.before.before.before.before.requires.a_len.1.0)
-    (λ c. c.before.loop-count.invariant.0.1.1.0 ∙ sym c.before.before.before.before.before.requires.a_len.1.1.0)
-    (λ c. c.before.loop-count.invariant.0.1.1.1 ∙ sym c.before.before.before.before.before.requires.a_len.1.1.1) returns-2)
+    (λ c. c.before.loop-count.invariant.0.0 ∙ sym c.before.before.before.before.before.requires.1.0)
+    (λ c. c.before.loop-count.invariant.0.1.0 ∙ sym c.before.before.before.before.before.requires.1.1.0)
+    (λ c. c.before.loop-count.invariant.0.1.1.0 ∙ sym c.before.before.before.before.before.requires.1.1.1.0)
+    (λ c. c.before.loop-count.invariant.0.1.1.1 ∙ sym c.before.before.before.before.before.requires.1.1.1.1) returns-2)

@@ -84,5 +84,5 @@ merge_spec =
     (tie.spec invariant-loop decreases-loop (λ c. (omega arith, (omega arith, (refl, (ahead-start _ 0, λ l h. merge-start _ l _ (record { is = refl; size = refl })))))) (λ c. omega arith) (λ c. omega arith) (λ c. omega arith)
     (λ c κs. c.before.before.before.before.before.before.requires.0) (λ c. c.in-Open.keys1)
     (λ c κs. omega (arith, c.before.before.before.before.before.loop-i-test.true, c.before.before.before.before.before.before.loop-i.invariant.1.0, c.before.before.before.before.before.before.loop-i.invariant.1.1.0, c.before.before.before.before.before.before.before.before.before.before.requires.1)) (λ c. omega (arith, c.before.before.before.before.before.before.before.before.loop-i-test.true)) is-open
-    (λ c. c.in-Open.keys2) (λ c. omega (arith, c.before.before.before.before.loop-i-test.true)) is_true (λ c. c.in-Open.keys3) (λ c. c.before.before.before.before.before.loop-i.invariant.1.1.0) is_false
+    (λ c. c.in-True.keys2) (λ c. omega (arith, c.before.before.before.before.loop-i-test.true)) is_true (λ c. c.in-False.keys3) (λ c. c.before.before.before.before.before.loop-i.invariant.1.1.0) is_false
     (λ c. c.before.loop-i.invariant.1.1.0) returns)

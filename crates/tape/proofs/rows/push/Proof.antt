@@ -11,4 +11,4 @@ push_spec =
     (tie.spec (λ c. search rules) (λ c. search rules) (λ c. search rules)
     (λ c.
     let row = c.args.row in
-    (refl, pushed row _ c.args.token (below_field ℕ row.token row.count 256 c.well-formed.0.1.1.0.1.0.1 c.requires) refl refl)))
+    (refl, pushed row _ c.args.token (below_field ℕ row.token row.count 256 c.well_formed.0.1.1.0.1.0.1 c.requires) refl refl)))

@@ -11,30 +11,30 @@ returns c = rw c.in-0.keys1
 
 returns-2 : tie.Need-returns-in-1
 unfolding factors factor_at
-returns-2 c = rw c.in-0.keys2
+returns-2 c = rw c.in-1.keys2
 
 returns-3 : tie.Need-returns-in-2
 unfolding factors factor_at
-returns-3 c = rw c.in-0.keys3
+returns-3 c = rw c.in-2.keys3
 
 returns-4 : tie.Need-returns-in-3
 unfolding factors factor_at
-returns-4 c = rw c.in-0.keys4
+returns-4 c = rw c.in-3.keys4
 
 returns-5 : tie.Need-returns-in-4
 unfolding factors factor_at
-returns-5 c = rw c.in-0.keys5
+returns-5 c = rw c.in-4.keys5
 
 returns-6 : tie.Need-returns-in-5
 unfolding factors factor_at
-returns-6 c = rw c.in-0.keys6
+returns-6 c = rw c.in-5.keys6
 
 returns-7 : tie.Need-returns-in-6
 unfolding factors factor_at
-returns-7 c = rw c.in-0.keys7
+returns-7 c = rw c.in-6.keys7
 
 returns-8 : tie.Need-returns-in_default
-returns-8 c = last-factor c.before.args.i c.in-0.rest
+returns-8 c = last-factor c.before.args.i c.in_default.rest
 
 pub factor_spec : {M : Type 1} → statement M
 factor_spec = tie.close (tie.spec returns returns-2 returns-3 returns-4 returns-5 returns-6 returns-7 returns-8)
