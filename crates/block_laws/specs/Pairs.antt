@@ -2,7 +2,7 @@
 use Rattle.rules.specs.Bits.{value}
 use Rattle.std.specs.Prelude.{Bool, true, List, [], ◌∷◌, ◌++◌, ◌≡◌, refl, ℕ, zero, suc, ◌+◌, ◌-◌, ◌*◌, ◌/◌, ◌%◌, ◌^◌, ◌≤◌, ◌<◌, length, drop}
 use Rattle.std.proofs.Math.Bool.{and-eq-true_iff}
-use Rattle.std.proofs.Common.{append_assoc, sym, ap, ◌∙◌, pow-suc, mod-lt, mod-eq_of_lt, mul_comm, mul_assoc, mul-le-mul_right, arith, length-append, length-drop, pow-add, pow_pos, pow_mono, drop_at, drop-drop, lt-ltb, le-leb, ltb-true, leb-true}
+use Rattle.std.proofs.Common.{append_assoc, sym, ap, ◌∙◌, pow-suc, mod-lt, mod-eq_of_lt, mul_comm, mul_assoc, mul-le-mul_right, arith, length-append, length-drop, pow-add, pow_pos, pow_mono, drop_at, drop-drop, lt-ltb, le-leb, ltb-true, leb-true, take}
 use Rattle.std.proofs.Math.Decide.{dec_lt}
 use Rattle.std.proofs.Math.Nat.{mod-one, div-eq_of_lt, mul-add-div_right}
 use Rattle.std.proofs.lemmas.Nat.{mod-pow-add}

@@ -127,7 +127,8 @@ above-turns : {n : ℕ} {st : State} {atoms : List Atom} {low board : Board} →
     → Above n st atoms low (turns n atoms board i k)
 unfolding turns
 above-turns t i zero h = t
-above-turns t i (suc k) h = above-turns (above-turn t i (omega arith)) (suc i) k (omega arith)
+above-turns {n} {st} {atoms} {low} {board} t i (suc k) h =
+    above-turns {board = turn n atoms board i} (above-turn t i (omega arith)) (suc i) k (omega arith)
 
 above-round : {n : ℕ} {st su : State} {low : Board} → Above n st su.atoms low su.board → Above n st (round n su).atoms low (round n su).board
 unfolding round

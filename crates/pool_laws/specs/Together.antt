@@ -67,7 +67,7 @@ added_new false p forms e = append-last forms (here refl)
 pub together-distinct : {forms : List Polynomial} (ps : List Polynomial) → Distinct forms → Distinct (together forms ps)
 unfolding together
 together-distinct [] d = d
-together-distinct {forms} (p ∷ ps) d = together-distinct ps (added_unless-distinct (knows forms p) p refl d)
+together-distinct {forms} (p ∷ ps) d = together-distinct {forms = added_unless (knows forms p) p forms} ps (added_unless-distinct (knows forms p) p refl d)
 
 -- The first forms are there, and the others are; and nothing else is.
 pub together-first : {forms : List Polynomial} (ps : List Polynomial) {q : Polynomial} → Member q forms → Member q (together forms ps)

@@ -65,6 +65,7 @@ module _ (i k : ℕ) (later : Reads (declarations_from (suc i) k) (Declared (suc
       (record { some = h.some; from = omega arith; to = omega arith; root = h.root }, ap (λ (l : List ℕ). declaration i ++ l) text ∙ declare-text i block from)
 
   choice-back : {t : List ℕ} {block : Block} → Chosen declare_or_assert t block → FromBack i (suc k) t block
+  choice-back {t = t} {block = block} (other (other x10)) = elim x10 [ ]
   choice-back (this u {a = block} e way) = declare-back u block way
   choice-back (other (this u {a = block} e way)) = assert-back i (suc k) (ltb-true 0 i e) u block way
 

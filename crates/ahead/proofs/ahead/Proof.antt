@@ -29,28 +29,28 @@ sign-list-requires : tie.Need-sign_list-requires invariant-loop decreases-loop
 sign-list-requires c κs =
     let s = c.before.before.before.before.before.before.before.before.before in
     let (forms, (places, below)) = s.requires in
-    let r = c.before.before.before.replay-reached in
+    let r = c.replay-reached in
     (form-slots {t = table s} forms (r.auto.1.1.1.0 ∙ places), omega (arith, r.ensures.variables, forms.variables))
 
 loop-holds : tie.Need-loop-made-init invariant-loop decreases-loop
 loop-holds c =
-    let s = c.before.before.before.before.before.before.before.before.before.before.before.before in
+    let s = c in
     let (forms, (places, below)) = s.requires in
-    let r = c.before.before.before.before.before.before.replay-reached in (
+    let r = c.replay-reached in (
       refl,
       record {
         variables = refl;
         after = no_turn;
-        ready = rw c.before.before.sign_list.ensures (list-ready r.result s.args.atoms _ (forms-over _ _ _ (sym r.ensures.variables) forms) refl
+        ready = rw c.sign_list.ensures (list-ready r.result s.args.atoms _ (forms-over _ _ _ (sym r.ensures.variables) forms) refl
             (r.auto.1.1.1.0 ∙ places));
       },
     )
 
 pass-requires : tie.Need-pass-passed-requires invariant-loop decreases-loop
 pass-requires c κs =
-    let s = c.before.before.before.before.before.before.before.before.before.before.before.before.before.before.before.before.before in
-    let l = c.before.before.before.before.loop-made in
-    let r = c.before.before.before.before.before.before.before.before.before.before.before.replay-reached.ensures in
+    let s = c in
+    let l = c.loop-made in
+    let r = c.replay-reached.ensures in
     let whole = reached-after r (after-over _ _ _ r.variables l.invariant.1) in
     let (forms, (places, (same, below))) = s.requires in
     let over = sym whole.variables in (
@@ -63,29 +63,29 @@ pass-requires c κs =
 
 returns : tie.Need-returns-then-passed invariant-loop decreases-loop
 returns c =
-    let l = c.before.before.before.before.before.before.before.before.loop-made in
-    let r = c.before.before.before.before.before.before.before.before.before.before.before.before.before.before.before.replay-reached.ensures in
+    let l = c.loop-made in
+    let r = c.replay-reached.ensures in
     let whole = reached-after r (after-over _ _ _ r.variables l.invariant.1) in
-    after_last whole (ahead-over _ _ _ whole.variables c.before.before.before.pass-passed.ensures)
+    after_last whole (ahead-over _ _ _ whole.variables c.pass-passed.ensures)
 
 loop-again : tie.Need-loop-made-preserved invariant-loop decreases-loop
 loop-again c =
-    let l = c.before.before.before.before.before.before.before.before.loop-made in
-    let r = c.before.before.before.pass-passed in
+    let l = c.loop-made in
+    let r = c.pass-passed in
     let before = l.invariant.1 in
     (r.auto.1.1.1.0 ∙ l.invariant.0, after-pass before (ahead-over _ _ _ before.variables r.ensures))
 
 returns-2 : tie.Need-returns invariant-loop decreases-loop
 returns-2 c =
-    let l = c.before.before.before.loop-made in
-    let r = c.before.before.before.before.before.before.before.before.before.before.replay-reached.ensures in
+    let l = c.loop-made in
+    let r = c.replay-reached.ensures in
     let whole = reached-after r (after-over _ _ _ r.variables l.invariant.1) in
     record { variables = whole.variables; after = whole.after; ready = whole.ready; idle = λ e. absurd (false≢true e) }
 
 pub ahead_spec : {M : Type 1} → statement M
 ahead_spec =
     tie.close
-    (tie.spec invariant-loop decreases-loop (λ c. omega arith) (λ c. omega arith) (λ c κs. (c.before.before.before.before.before.requires.0, c.before.before.before.before.before.requires.1.0)) sign-list-requires loop-holds
+    (tie.spec invariant-loop decreases-loop (λ c. omega arith) (λ c. omega arith) (λ c κs. (c.requires.0, c.requires.1.0)) sign-list-requires loop-holds
     (λ c. omega arith) pass-requires
-    (λ c. c.before.before.before.pass-passed.auto.1.1.1.0 ∙ c.before.before.before.before.before.before.before.before.loop-made.invariant.0 ∙ c.before.before.before.before.before.before.before.before.before.before.before.sign_list.auto.1.1.1.1.0 ∙ c.before.before.before.before.before.before.before.before.before.before.before.before.before.before.before.replay-reached.auto.1.1.1.0) returns (λ c. omega arith) loop-again
-    (λ c. c.before.before.before.loop-made.invariant.0 ∙ c.before.before.before.before.before.before.sign_list.auto.1.1.1.1.0 ∙ c.before.before.before.before.before.before.before.before.before.before.replay-reached.auto.1.1.1.0) returns-2)
+    (λ c. c.pass-passed.auto.1.1.1.0 ∙ c.loop-made.invariant.0 ∙ c.sign_list.auto.1.1.1.1.0 ∙ c.replay-reached.auto.1.1.1.0) returns (λ c. omega arith) loop-again
+    (λ c. c.loop-made.invariant.0 ∙ c.sign_list.auto.1.1.1.1.0 ∙ c.replay-reached.auto.1.1.1.0) returns-2)

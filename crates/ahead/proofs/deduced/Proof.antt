@@ -22,23 +22,23 @@ sign-slot-requires-2 : tie.Need-sign_slot-requires-2
 sign-slot-requires-2 c κs =
     let s = c.before.before.before.before.before.before.before.before.before.before.before.before in
     let (forms, (places, (low, listed))) = s.requires in
-    (form-slots {t = table s} forms (c.before.before.before.sign_slot.auto.1.1.1.0 ∙ places), omega arith)
+    (form-slots {t = table s} forms (c.sign_slot.auto.1.1.1.0 ∙ places), omega arith)
 
 -- the signs of both slots
 signed : (c : tie.After-deduce-alone-arg) → let s = c.before.before.before.before.before.before.before.before.before.before.before.before.before.before.before.before in
-    BothSigned (table s) (sets_of s.args.board) c.before.before.before.sign_slot-2.new.1.1.1.0 (variable_slot s.args.i) (atom_slot s.args.atoms.number s.args.j)
+    BothSigned (table s) (sets_of s.args.board) c.sign_slot-2.new.1.1.1.0 (variable_slot s.args.i) (atom_slot s.args.atoms.number s.args.j)
 signed c =
     let s = c.before.before.before.before.before.before.before.before.before.before.before.before.before.before.before.before in
     let (forms, (places, (low, listed))) = s.requires in
     both-signed {t = table s} s.args.sign.now (variable_slot s.args.i) (atom_slot s.args.atoms.number s.args.j) forms places (omega (arith, forms.variables)) (omega arith)
-    c.before.before.before.before.before.before.before.sign_slot.ensures c.before.before.before.sign_slot-2.ensures
+    c.sign_slot.ensures c.sign_slot-2.ensures
 
 deduce-alone-requires : tie.Need-deduce_alone-requires
 deduce-alone-requires c κs =
-    let s = c.before.before.before.before.before.before.before.before.before.before.before.before.before.before.before.before in
+    let s = c.before.before.before.before.before.before.before.before.before.before.before.before.before.before.before in
     let (forms, (places, (low, listed))) = s.requires in
-    let p = c.before.before.before.before.before.before.before.before.before.before.places-p.ensures in
-    let q = c.before.before.before.before.before.before.before.before.before.places-q.ensures in
+    let p = c.places-p.ensures in
+    let q = c.places-q.ensures in
     let both = signed c in (
       omega (arith, forms.counts),
       (
@@ -49,10 +49,10 @@ deduce-alone-requires c κs =
 
 returns : tie.Need-returns
 returns c none =
-    let s = c.before.before.before.before.before.before.before.before.before.before.before.before.before.before.before.before.before in
+    let s = c.before.before.before.before.before.before.before.before.before.before.before.before.before.before.before.before in
     let (forms, (places, (low, listed))) = s.requires in
-    let p = c.before.before.before.before.before.before.before.before.before.before.before.places-p.ensures in
-    let q = c.before.before.before.before.before.before.before.before.before.before.places-q.ensures in
+    let p = c.places-p.ensures in
+    let q = c.places-q.ensures in
     let both = signed c.before in
     let own = run-held {t = table s} (variable_slot s.args.i) forms both.places (omega (arith, forms.variables)) p.0 p.1 both.first in
     let its = run-held {t = table s} (atom_slot s.args.atoms.number s.args.j) forms both.places (omega arith) q.0 q.1 both.second in

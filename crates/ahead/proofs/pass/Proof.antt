@@ -20,7 +20,7 @@ abbrev decreases-loop : tie.decreases-loop-i
 decreases-loop coefficient monomial terms sign₀ atoms floor up n passed₀ i₀ sign passed i = n - i
 
 loop-holds : tie.Need-loop-i-init invariant-loop decreases-loop
-loop-holds c = (refl, (omega arith, passing-first _ _ _ _ _ refl c.before.before.before.requires.0))
+loop-holds c = (refl, (omega arith, passing-first _ _ _ _ _ refl c.requires.0))
 
 place-requires : tie.Need-place-j-requires invariant-loop decreases-loop
 place-requires c κs = omega arith
@@ -31,11 +31,11 @@ table s = lent_table s.args.coefficient s.args.monomial s.args.terms s.args.boar
 step-requires : tie.Need-step-passed-requires invariant-loop decreases-loop
 step-requires c κs =
     let s = c.before.before.before.before.before.before.before in
-    let l = c.before.before.before.loop-i in
+    let l = c.loop-i in
     let (ready, (same, below)) = s.requires in
     let passing = l.invariant.1.1 in
     let n = s.args.board.variables in
-    let is = c.before.place-j.ensures in
+    let is = c.place-j.ensures in
     let low = place-below s.args.up n l.i (omega arith) in (
       ready-over _ _ _ (sym passing.variables) passing.ready,
       rw is (
@@ -48,16 +48,16 @@ step-requires c κs =
 
 loop-again : tie.Need-loop-i-preserved invariant-loop decreases-loop
 loop-again c =
-    let l = c.before.before.before.before.before.before.loop-i in
+    let l = c.loop-i in
     let passing = l.invariant.1.1 in
-    let r = c.before.before.step-passed in
-    let is = c.before.before.before.before.place-j.ensures in
+    let r = c.step-passed in
+    let is = c.place-j.ensures in
     (r.auto.1.1.1.0 ∙ l.invariant.0, (omega arith, passing-next _ _ _ _ passing (omega arith) (rw is at (stepped-over _ _ _ passing.variables r.ensures))))
 
 returns : tie.Need-returns invariant-loop decreases-loop
-returns c = passing-last _ _ _ _ c.before.loop-i.invariant.1.1 c.loop-i-test.false
+returns c = passing-last _ _ _ _ c.loop-i.invariant.1.1 c.loop-i-test.false
 
 pub pass_spec : {M : Type 1} → statement M
 pass_spec =
     tie.close
-    (tie.spec invariant-loop decreases-loop loop-holds place-requires (λ c. omega arith) step-requires (λ c. omega arith) loop-again (λ c. c.before.loop-i.invariant.0) returns)
+    (tie.spec invariant-loop decreases-loop loop-holds place-requires (λ c. omega arith) step-requires (λ c. omega arith) loop-again (λ c. c.loop-i.invariant.0) returns)

@@ -21,20 +21,20 @@ decreases-loop coefficient monomial terms sign₀ atoms floor order end at₀ k�
 
 hint-requires : tie.Need-hint-at-requires invariant-loop decreases-loop
 hint-requires c κs =
-    let s = c.before.before.before.before.before.before.before.before.before in
-    let l = c.before.before.before.before.loop-k in
+    let s = c in
+    let l = c.loop-k in
     (forms-over _ _ _ (sym l.invariant.1.1.variables) s.requires.0, l.invariant.0 ∙ s.requires.1)
 
 loop-again : tie.Need-loop-k-preserved invariant-loop decreases-loop
 loop-again c =
-    let l = c.before.before.before.before.before.before.before.loop-k in
+    let l = c.loop-k in
     let reached = l.invariant.1.1 in
-    let r = c.before.before.hint-at in
+    let r = c.hint-at in
     (r.auto.1.1.1.0 ∙ l.invariant.0, (l.invariant.1.0, reached-more _ _ _ _ _ reached (reached-over _ _ _ reached.variables _ _ _ r.ensures)))
 
 pub replay_spec : {M : Type 1} → statement M
 replay_spec =
     tie.close
     (tie.spec invariant-loop decreases-loop (λ c κs. search rules) (λ c. (refl, (omega (arith, c.many-end.ensures), reached-itself _ _ _ refl)))
-    (λ c. omega (arith, c.before.loop-k.invariant.1.0)) (λ c. omega (arith, c.before.before.loop-k.invariant.1.0)) (λ c. omega arith) (λ c. search rules) hint-requires
-    (λ c. omega arith) loop-again (λ c. c.before.loop-k.invariant.0) (λ c. c.before.loop-k.invariant.1.1))
+    (λ c. omega (arith, c.loop-k.invariant.1.0)) (λ c. omega (arith, c.loop-k.invariant.1.0)) (λ c. omega arith) (λ c. search rules) hint-requires
+    (λ c. omega arith) loop-again (λ c. c.loop-k.invariant.0) (λ c. c.loop-k.invariant.1.1))

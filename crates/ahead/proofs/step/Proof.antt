@@ -31,27 +31,27 @@ returns c =
 
 cut-down-requires : tie.Need-cut_down-new-requires
 cut-down-requires c κs =
-    let s = c.before.before.before.before.before.before.before.before.before in
+    let s = c in
     let (ready, (low, (small, part))) = s.requires in (
       ready,
       (
-        (omega (arith, c.before.many-n.ensures), (omega (arith, ready.forms.variables), ready.variables s.args.i low)),
-        (small, rw (ready.forms.each_variable _ low, c.before.many-n.ensures, sub-zero) part),
+        (omega (arith, c.many-n.ensures), (omega (arith, ready.forms.variables), ready.variables s.args.i low)),
+        (small, rw (ready.forms.each_variable _ low, c.many-n.ensures, sub-zero) part),
       ),
     )
 
 -- the set that the deductions leave is the book's
 cut-is : (c : tie.After-cut_down-new) →
-    let s = c.before.before.before.before.before.before.before.before.before.before in
+    let s = c.before.before.before.before.before.before.before.before.before in
     let b = s.args.passed.board in
     c.cut_down-new.result.0 ≡ cut_by (sets_of b) (variable b.variables s.args.i) (atoms_of (table s) s.args.atoms) (get_or b.sets s.args.i 0)
 cut-is c =
-    let (ready, (low, below)) = c.before.before.before.before.before.before.before.before.before.before.requires in
-    c.cut_down-new.ensures ∙ rw (ready.forms.each_variable _ low, c.before.before.many-n.ensures, sub-zero)
+    let (ready, (low, below)) = c.requires in
+    c.cut_down-new.ensures ∙ rw (ready.forms.each_variable _ low, c.many-n.ensures, sub-zero)
 
 returns-2 : tie.Need-returns-then-new-old
 returns-2 c =
-    let s = c.before.before.before.before.before.before.before.before.before.before.before.before in
+    let s = c in
     let b = s.args.passed.board in
     let low : s.args.i < few b.variables = omega (arith, s.requires.0.forms.variables) in
     let keeps = turn-keeps b.variables b.sets s.args.i _ low _ (cut-is c.before.before) c.if-new-old.true in
@@ -59,12 +59,12 @@ returns-2 c =
 
 sign-list-requires : tie.Need-sign_list-requires
 sign-list-requires c κs =
-    let s = c.before.before.before.before.before.before.before.before.before.before.before.before.before.before.before.before.before in
+    let s = c.before.before.before.before.before.before.before.before.before.before.before.before.before.before.before in
     (form-slots {t = table s} s.requires.0.forms s.requires.0.places, s.requires.0.forms.variables)
 
 returns-3 : tie.Need-returns
 returns-3 c =
-    let s = c.before.before.before.before.before.before.before.before.before.before.before.before.before.before.before.before.before.before.before.before in
+    let s = c in
     let b = s.args.passed.board in
     let ready = s.requires.0 in
     let low : s.args.i < few b.variables = omega (arith, ready.forms.variables) in
@@ -72,8 +72,8 @@ returns-3 c =
     let within : s.args.i < length b.sets = below_field ℕ b.sets s.args.i 16 sixteen (omega (arith, ready.forms.variables)) in
     record {
       variables = refl;
-      sets = turn-changes b.variables b.sets s.args.i _ low _ (cut-is c.before.before.before.before.before.before.before.before.before.before) within;
-      ready = rw c.before.before.sign_list.ensures (list-ready _ s.args.atoms _ ready.forms refl ready.places);
+      sets = turn-changes b.variables b.sets s.args.i _ low _ (cut-is c.before.before.before.before.before.before.before.before.before) within;
+      ready = rw c.sign_list.ensures (list-ready _ s.args.atoms _ ready.forms refl ready.places);
       still = λ e. absurd (false≢true e);
     }
 
@@ -82,4 +82,4 @@ step_spec =
     tie.close
     (tie.spec (λ c. search rules) (λ c. search rules) returns (λ c κs. search rules) (λ c. search rules) cut-down-requires (λ c. search rules) returns-2
     (λ c κs. search rules) (λ c κs. search rules)
-    (λ c. search (rules, c.before.before.before.before.before.before.before.before.before.before.before.before.before.before.before.before.requires.1.0, c.before.before.before.before.before.before.before.before.before.before.before.before.before.before.before.before.requires.0.forms.variables)) sign-list-requires (λ c. search rules) returns-3)
+    (λ c. search (rules, c.requires.1.0, c.requires.0.forms.variables)) sign-list-requires (λ c. search rules) returns-3)

@@ -153,25 +153,25 @@ marked false m e = rw e
 
 work-requires : tie.Need-work-requires
 work-requires c κs =
-    let s = c.before.before.before.before.before.before.before.before.before.before.before.before.before.before in
-    let marking = c.before.before.before.before.before.before.before.before in
+    let s = c in
+    let marking = c in
     (asks-table s.requires.0.accepted, marked s.args.plain marking.mark.result marking.mark.ensures)
 
 normal-tokens-requires : tie.Need-normal_tokens-requires
 normal-tokens-requires c κs = let here = c.before.before.before.before.before.before.before.before in (counts-tokens (start here).requires.0.accepted, search rules, search rules)
 
 atoms-requires : tie.Need-atoms-atoms_in-requires
-atoms-requires c κs = let here = c.before.before.before in asks-atoms (prepared here (start (working here)).requires.0.accepted)
+atoms-requires c κs = let here = c.before.before in asks-atoms (prepared here (start (working here)).requires.0.accepted)
 
 forms-used-requires : tie.Need-forms_used-polynomials_in-requires
 forms-used-requires c κs =
-    let here = c.before.before.before.before.before.before.before in
+    let here = c.before.before.before.before.before in
     let forms = (working here).work.ensures.forms in
     (omega (arith, forms.monomials), omega (arith, forms.counts), asks-atoms (prepared here (start (working here)).requires.0.accepted))
 
 give-requires : tie.Need-give-requires
 give-requires c κs =
-    let here = c.before.before.before.before.before.before.before.before.before in
+    let here = c.before.before.before.before.before.before.before in
     let accepted = (start (working here)).requires.0.accepted in
     (omega (arith, counts-tokens accepted, here.normal_tokens.auto.0), (prepared here accepted).holds.few)
 
@@ -179,7 +179,7 @@ give-requires c κs =
 
 simplified-requires : tie.Need-simplified-short-requires
 simplified-requires c κs =
-    let here = c.before.before.before.before.before.before in
+    let here = c.before.before.before.before.before in
     let accepted = (start (working (normal-of here))).requires.0.accepted in
     ((working (normal-of here)).work.ensures.forms, (token_tree (prepared (normal-of here) accepted).tree, placed here accepted))
 
@@ -232,13 +232,13 @@ write-requires c κs =
     (new-room here accepted, record { block = new_block accepted.given; writable = new-writable here accepted })
 
 same-coefficients : tie.Need-shape_of-coefficient
-same-coefficients c = c.before.before.before.before.before.before.before.before.before.before.before.before.before.before.before.before.collect-new_polynomials.auto.1.1.1.1.1.1.0
+same-coefficients c = c.collect-new_polynomials.auto.1.1.1.1.1.1.0
 
 same-monomials : tie.Need-shape_of-monomial
-same-monomials c = c.before.before.before.before.before.before.before.before.before.before.before.before.before.before.before.before.collect-new_polynomials.auto.1.1.1.1.1.1.1.0
+same-monomials c = c.collect-new_polynomials.auto.1.1.1.1.1.1.1.0
 
 same-counts : tie.Need-shape_of-terms
-same-counts c = c.before.before.before.before.before.before.before.before.before.before.before.before.before.before.before.before.collect-new_polynomials.auto.1.1.1.1.1.1.1.1.0
+same-counts c = c.collect-new_polynomials.auto.1.1.1.1.1.1.1.1.0
 
 same-tokens : tie.Need-shape_of-token
 same-tokens c =
@@ -246,14 +246,14 @@ same-tokens c =
     here.collect-new_polynomials.auto.1.1.1.1.1.1.1.1.1.0 ∙ (given-at here).give.auto.0 ∙ (normal-at here).normal-tokens.auto.0
 
 same-places : tie.Need-shape_of-places
-same-places c = (telling-of (plaining c.before.before.before.before.before.before.before.before.before.before.before.before.before.before.before.before)).tell.auto.1.1.0
+same-places c = (telling-of (plaining c.before.before.before.before.before.before.before.before.before.before.before.before)).tell.auto.1.1.0
 
 returns : tie.Need-returns
 returns c bytes accepted =
-    let writing = c.before.before.write-length in
-    let telling = c.before.before.before.before.before.before.before.before.verdict_of-verdict in
-    let here = c.before.before.before.before.before.before.before.before.before.before.before.before.before.before.before.before in
-    let counting = here.before.before.before.before.before.before.before.before.before.atoms-atoms_out in
+    let writing = c.write-length in
+    let telling = c.verdict_of-verdict in
+    let here = c.before.before.before.before.before.before.before.before.before.before.before.before in
+    let counting = here.atoms-atoms_out in
     let simplified = simplified-at here in
     let counted = (giving simplified).before.before.before.before.before.before.atoms in
     let uses = (giving simplified).before.before.forms-used in

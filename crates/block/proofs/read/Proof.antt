@@ -8,14 +8,14 @@ use Rattle.block.proofs.read.Tie as tie
 
 returns : tie.Need-returns-in-Refused
 returns c =
-    let chosen = c.before.before in
-    let reading = chosen.before.before.before.before.before.before in
+    let chosen = c in
+    let reading = chosen in
     c.refusal.ensures ∙ outcome-refused reading.read_into-contents.ensures chosen.contents-1.given.1
 
 returns-2 : tie.Need-returns-in-Numbers
 returns-2 c =
-    let chosen = c.before in
-    let reading = chosen.before.before.before.before.before.before in
+    let chosen = c in
+    let reading = chosen in
     outcome-held reading.read_into-contents.ensures chosen.contents-in-Numbers-1.given.1
 
 pub read_spec : {M : Type 1} → statement M

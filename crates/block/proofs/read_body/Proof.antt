@@ -8,7 +8,7 @@ use Rattle.block.proofs.read_body.Tie as tie
 
 read-table-requires : tie.Need-read_table-step-requires
 read-table-requires c κs =
-    let start = c.before.before.before.before.before.before.before in
+    let start = c in
     let head = start.requires.0 in
     let room = start.requires.1 in (
       head.inside,
@@ -21,9 +21,9 @@ read-table-requires c κs =
 
 read-tree-requires : tie.Need-read_tree-found-requires
 read-tree-requires c κs =
-    let chosen = c.before.before in
-    let table = chosen.before.before.before.before.before.before.before in
-    let start = table.before.before.before.before.before.before.before.before in
+    let chosen = c in
+    let table = chosen in
+    let start = table in
     let head = start.requires.0 in
     let read = chosen.step-in-Read-1.given.1 in (
       inside-after table.read_table-step.ensures read,
@@ -33,18 +33,18 @@ read-tree-requires c κs =
 
 returns : tie.Need-returns-in-Refused
 returns c =
-    let chosen = c.before in
-    let table = chosen.before.before.before.before.before.before.before in
-    let start = table.before.before.before.before.before.before.before.before in
+    let chosen = c in
+    let table = chosen in
+    let start = table in
     (contents-refused _ _ _ _ _ _ _ _ (table-refuses start.requires.0 table.read_table-step.ensures chosen.step-1.given.1), none-held _ _)
 
 returns-2 : tie.Need-returns-in-Refused-found
 returns-2 c =
-    let root = c.before in
-    let tree = root.before.before.before.before in
-    let chosen = tree.before.before.before in
-    let table = chosen.before.before.before.before.before.before.before in
-    let start = table.before.before.before.before.before.before.before.before in (
+    let root = c in
+    let tree = root in
+    let chosen = tree in
+    let table = chosen in
+    let start = table in (
       contents-refused _ _ _ _ _ _ _ _
           (tree-refuses start.requires.0 table.read_table-step.ensures chosen.step-in-Read-1.given.1 tree.read_tree-found.ensures root.found-1.given.1),
       none-held _ _,
@@ -52,11 +52,11 @@ returns-2 c =
 
 returns-3 : tie.Need-returns-in-Kind
 returns-3 c =
-    let root = c.before in
-    let tree = root.before.before.before.before in
-    let chosen = tree.before.before.before in
-    let table = chosen.before.before.before.before.before.before.before in
-    let start = table.before.before.before.before.before.before.before.before in
+    let root = c in
+    let tree = root in
+    let chosen = tree in
+    let table = chosen in
+    let start = table in
     (all-stored start.requires.0 table.read_table-step.ensures chosen.step-in-Read-1.given.1 tree.read_tree-found.ensures root.found-in-Kind-1.given.1, held-are _ _ _ _)
 
 pub read_body_spec : {M : Type 1} → statement M

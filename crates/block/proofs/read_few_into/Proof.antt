@@ -7,29 +7,29 @@ use Rattle.block.proofs.read_few_into.Tie as tie
 
 returns : tie.Need-returns-then-polynomials-gt16
 returns c =
-    let chosen = c.before.before in
-    let head = chosen.before.before in
+    let chosen = c in
+    let head = chosen in
     few-more (head-held head.read_head-numbers.ensures chosen.numbers-in-Numbers-1.given.1) c.if-polynomials-gt16.true
 
 read-body-requires : tie.Need-read_body-requires
 read-body-requires c κs =
-    let tested = c.before.before.before.before in
-    let chosen = tested.before.before in
-    let head = chosen.before.before in
-    let start = head.before.before.before.before.before in
+    let tested = c in
+    let chosen = tested in
+    let head = chosen in
+    let start = head in
     let held = head-held head.read_head-numbers.ensures chosen.numbers-in-Numbers-1.given.1 in
     (held, room-for-few held tested.if-polynomials-gt16.false start.requires)
 
 returns-2 : tie.Need-returns-in-Refused
 returns-2 c =
-    let chosen = c.before in
-    let head = chosen.before.before in
+    let chosen = c in
+    let head = chosen in
     few-read (contents-refused _ _ _ _ _ _ _ _ (head-refused head.read_head-numbers.ensures chosen.numbers-1.given.1)) (none-held _ _)
 
 returns-3 : tie.Need-returns-else-polynomials-gt16
 returns-3 c =
-    let body = c.before.before.before.before.before.before.before in
-    let tested = body.before.before.before.before.before in
+    let body = c in
+    let tested = body in
     few-read body.read_body.ensures.0 (held-fewer tested.if-polynomials-gt16.false body.read_body.ensures.1)
 
 pub read_few_into_spec : {M : Type 1} → statement M

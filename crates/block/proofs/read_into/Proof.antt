@@ -7,20 +7,20 @@ use Rattle.block.proofs.read_into.Tie as tie
 
 read-body-requires : tie.Need-read_body-requires
 read-body-requires c κs =
-    let chosen = c.before.before.before.before.before in
-    let head = chosen.before.before in
-    let start = head.before.before.before.before.before in
+    let chosen = c in
+    let head = chosen in
+    let start = head in
     let held = head-held head.read_head-numbers.ensures chosen.numbers-in-Numbers-1.given.1 in
     (held, room-for-all held start.requires)
 
 returns : tie.Need-returns-in-Refused
 returns c =
-    let chosen = c.before in
-    let head = chosen.before.before in
+    let chosen = c in
+    let head = chosen in
     contents-refused _ _ _ _ _ _ _ _ (head-refused head.read_head-numbers.ensures chosen.numbers-1.given.1)
 
 pub read_into_spec : {M : Type 1} → statement M
 read_into_spec =
     tie.close
     (tie.spec (λ c κs. search rules) (λ c. search rules) (λ c. search rules) read-body-requires returns
-    (λ c. search rules) (λ c. search rules) (λ c. search rules) (λ c. search rules) (λ c. c.before.before.before.before.before.before.before.read_body.ensures.0))
+    (λ c. search rules) (λ c. search rules) (λ c. search rules) (λ c. search rules) (λ c. c.read_body.ensures.0))

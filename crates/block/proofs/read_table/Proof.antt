@@ -17,9 +17,9 @@ decreases-loop src coefficient₀ monomial₀ counts₀ edition n m next₀ i₀
 
 read-polynomial-requires : tie.Need-read_polynomial-step-requires invariant-loop decreases-loop
 read-polynomial-requires c κs =
-    let turn = c.before.before.before in
-    let l = turn.before.loop-i.invariant.0 in
-    let s = turn.before.before.before.before.before in (
+    let turn = c in
+    let l = turn.loop-i.invariant.0 in
+    let s = turn in (
       l.inside,
       s.requires.1,
       omega (arith, l.coefficients, s.requires.3, turn.loop-i-test.true),
@@ -30,28 +30,28 @@ read-polynomial-requires c κs =
 
 loop-again : tie.Need-loop-i-preserved invariant-loop decreases-loop
 loop-again c =
-    let chosen = c.before in
-    let one = chosen.before.before.before.before.before.before.before in
-    let turn = one.before.before.before.before in
+    let chosen = c in
+    let one = chosen in
+    let turn = one in
     let kept = one.read_polynomial-step.auto.1 in (
-      table-go-on _ _ _ turn.before.loop-i.invariant.0 turn.loop-i-test.true one.read_polynomial-step.ensures chosen.step-in-Read-1.given.1 kept.0 kept.1.0 kept.1.1.0,
+      table-go-on _ _ _ turn.loop-i.invariant.0 turn.loop-i-test.true one.read_polynomial-step.ensures chosen.step-in-Read-1.given.1 kept.0 kept.1.0 kept.1.1.0,
       omega (arith, turn.loop-i-test.true),
     )
 
 pub read_table_spec : {M : Type 1} → statement M
 read_table_spec =
     tie.close
-    (tie.spec invariant-loop decreases-loop (λ c. (table-begin _ _ _ c.before.before.before.requires.0, omega arith)) read-polynomial-requires (λ c. search rules)
+    (tie.spec invariant-loop decreases-loop (λ c. (table-begin _ _ _ c.requires.0, omega arith)) read-polynomial-requires (λ c. search rules)
     (λ c. let one = c.before.before.before.before.before.before.before.before in
-    one.read_polynomial-step.auto.1.0 ∙ one.before.before.before.before.before.loop-i.invariant.0.coefficients)
+    one.read_polynomial-step.auto.1.0 ∙ one.loop-i.invariant.0.coefficients)
     (λ c. let one = c.before.before.before.before.before.before.before.before in
-    one.read_polynomial-step.auto.1.1.0 ∙ one.before.before.before.before.before.loop-i.invariant.0.monomials)
+    one.read_polynomial-step.auto.1.1.0 ∙ one.loop-i.invariant.0.monomials)
     (λ c. let one = c.before.before.before.before.before.before.before.before in
-    one.read_polynomial-step.auto.1.1.1.0 ∙ one.before.before.before.before.before.loop-i.invariant.0.numbers)
+    one.read_polynomial-step.auto.1.1.1.0 ∙ one.loop-i.invariant.0.numbers)
     (λ c.
-    let one = c.before.before.before.before.before.before.before.before in
-    let turn = one.before.before.before.before in
-    table-stop _ _ _ turn.before.loop-i.invariant.0 turn.loop-i-test.true one.read_polynomial-step.ensures c.before.step-1.given.1)
+    let one = c in
+    let turn = one in
+    table-stop _ _ _ turn.loop-i.invariant.0 turn.loop-i-test.true one.read_polynomial-step.ensures c.step-1.given.1)
     (λ c. search rules) (λ c. omega arith) (λ c. omega arith) loop-again
-    (λ c. c.before.loop-i.invariant.0.coefficients) (λ c. c.before.loop-i.invariant.0.monomials) (λ c. c.before.loop-i.invariant.0.numbers)
-    (λ c. table-end _ _ _ c.before.loop-i.invariant.0 (omega (arith, c.before.loop-i.invariant.1, c.loop-i-test.false))))
+    (λ c. c.loop-i.invariant.0.coefficients) (λ c. c.loop-i.invariant.0.monomials) (λ c. c.loop-i.invariant.0.numbers)
+    (λ c. table-end _ _ _ c.loop-i.invariant.0 (omega (arith, c.loop-i.invariant.1, c.loop-i-test.false))))

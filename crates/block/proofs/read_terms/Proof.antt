@@ -17,27 +17,27 @@ decreases-loop src coefficient₀ monomial₀ edition n k count next₀ first₀
 
 read-term-in-requires : tie.Need-read_term_in-step-requires invariant-loop decreases-loop
 read-term-in-requires c κs =
-    let l = c.before.before.before.loop-i in
+    let l = c.loop-i in
     (l.invariant.inside, omega arith, omega (arith, l.invariant.coefficients), omega (arith, l.invariant.monomials))
 
 loop-again : tie.Need-loop-i-preserved invariant-loop decreases-loop
 loop-again c =
-    let chosen = c.before.before in
-    let one = chosen.before.before.before.before.before in
-    let turn = one.before.before.before in
-    let l = turn.before.loop-i in
+    let chosen = c in
+    let one = chosen in
+    let turn = one in
+    let l = turn.loop-i in
     terms-go-on _ _ _ _ l.invariant turn.loop-i-test.true one.read_term_in-step.ensures chosen.step-in-Read-1.given.1 one.read_term_in-step.auto.1.0 one.read_term_in-step.auto.1.1.0
     (omega (arith, l.invariant.monomials)) refl
 
 pub read_terms_spec : {M : Type 1} → statement M
 read_terms_spec =
     tie.close
-    (tie.spec invariant-loop decreases-loop (λ c. terms-begin _ _ _ _ c.before.before.requires.0) (λ c. omega arith) read-term-in-requires (λ c. search rules)
-    (λ c. let one = c.before.before.before.before.before.before in one.read_term_in-step.auto.1.0 ∙ one.before.before.before.before.loop-i.invariant.coefficients)
-    (λ c. let one = c.before.before.before.before.before.before in one.read_term_in-step.auto.1.1.0 ∙ one.before.before.before.before.loop-i.invariant.monomials)
+    (tie.spec invariant-loop decreases-loop (λ c. terms-begin _ _ _ _ c.requires.0) (λ c. omega arith) read-term-in-requires (λ c. search rules)
+    (λ c. let one = c.before.before.before.before.before.before in one.read_term_in-step.auto.1.0 ∙ one.loop-i.invariant.coefficients)
+    (λ c. let one = c.before.before.before.before.before.before in one.read_term_in-step.auto.1.1.0 ∙ one.loop-i.invariant.monomials)
     (λ c.
-    let one = c.before.before.before.before.before.before in
-    let turn = one.before.before.before in
-    terms-stop _ _ _ _ turn.before.loop-i.invariant turn.loop-i-test.true one.read_term_in-step.ensures c.before.step-1.given.1)
+    let one = c in
+    let turn = one in
+    terms-stop _ _ _ _ turn.loop-i.invariant turn.loop-i-test.true one.read_term_in-step.ensures c.step-1.given.1)
     (λ c. search rules) (λ c. omega arith) (λ c. omega arith) (λ c. omega arith) (λ c. omega arith) (λ c. omega arith) loop-again
-    (λ c. c.before.loop-i.invariant.coefficients) (λ c. c.before.loop-i.invariant.monomials) (λ c. terms-end _ _ _ _ c.before.loop-i.invariant c.loop-i-test.false))
+    (λ c. c.loop-i.invariant.coefficients) (λ c. c.loop-i.invariant.monomials) (λ c. terms-end _ _ _ _ c.loop-i.invariant c.loop-i-test.false))

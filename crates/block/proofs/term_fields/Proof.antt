@@ -13,15 +13,15 @@ shifted : (n : ℕ) → n ≤ 6 → 1 * 2 ^ (4 * n) % 2 ^ 64 ≡ 2 ^ (4 * n)
 shifted n few = let small : 4 * n < 64 = omega arith in rw one-mul (mod-eq_of_lt (pow-lt small))
 
 rem-t16 : tie.Need-nonzero-rem-t16
-rem-t16 c = rw (shifted c.before.before.before.args.n c.before.if-n-gt6.false) (pow_pos (4 * c.before.before.before.args.n))
+rem-t16 c = rw (shifted c.args.n c.if-n-gt6.false) (pow_pos (4 * c.args.n))
 
 returns-2 : tie.Need-returns
 returns-2 c =
-    let s = c.before.before.before in
+    let s = c in
     let a = s.args in
     record {
       word = first_part a.src.now a.at 32 (4 * a.n) s.requires.0 c.get-whole.ensures;
-      exponents = rw (shifted a.n c.before.if-n-gt6.false) (last-part a.src.now a.at 32 (4 * a.n) s.requires.0 c.get-whole.ensures);
+      exponents = rw (shifted a.n c.if-n-gt6.false) (last-part a.src.now a.at 32 (4 * a.n) s.requires.0 c.get-whole.ensures);
     }
 
 pub term_fields_spec : {M : Type 1} → statement M

@@ -18,39 +18,39 @@ abbrev decreases-loop : tie.decreases-loop-rest
 decreases-loop word from j columns₀ own rest₀ columns rest = rest
 
 cast-k : tie.Need-overflow_cast-k invariant-loop decreases-loop
-cast-k c = let l = c.before.loop-rest in let h = lowest-below 64 l.rest (omega arith) l.invariant.small in search rules
+cast-k c = let l = c.loop-rest in let h = lowest-below 64 l.rest (omega arith) l.invariant.small in search rules
 
 add-column : tie.Need-overflow_add-column invariant-loop decreases-loop
-add-column c = let l = c.before.loop-rest in let h = lowest-below 64 l.rest (omega arith) l.invariant.small in search rules
+add-column c = let l = c.loop-rest in let h = lowest-below 64 l.rest (omega arith) l.invariant.small in search rules
 
 mul-column : tie.Need-overflow-mul-column invariant-loop decreases-loop
-mul-column c = let l = c.before.loop-rest in let h = lowest-below 64 l.rest (omega arith) l.invariant.small in search rules
+mul-column c = let l = c.loop-rest in let h = lowest-below 64 l.rest (omega arith) l.invariant.small in search rules
 
 slice-read-column : tie.Need-bounds-columns-from invariant-loop decreases-loop
 slice-read-column c =
-    let l = c.before.before.loop-rest in
+    let l = c.loop-rest in
     let h = lowest-below 64 l.rest (omega arith) l.invariant.small in
-    let e : length l.columns ≡ 130 = l.invariant.more.same_length ∙ c.before.before.before.requires.1.1 in
+    let e : length l.columns ≡ 130 = l.invariant.more.same_length ∙ c.requires.1.1 in
     omega arith
 
 add-columns : tie.Need-overflow_add-columns invariant-loop decreases-loop
-add-columns c = let l = c.before.before.loop-rest in let h = lowest-below 64 l.rest (omega arith) l.invariant.small in search rules
+add-columns c = let l = c.loop-rest in let h = lowest-below 64 l.rest (omega arith) l.invariant.small in search rules
 
 mul-columns : tie.Need-overflow-mul-columns invariant-loop decreases-loop
-mul-columns c = let l = c.before.before.loop-rest in let h = lowest-below 64 l.rest (omega arith) l.invariant.small in search rules
+mul-columns c = let l = c.loop-rest in let h = lowest-below 64 l.rest (omega arith) l.invariant.small in search rules
 
 shl-rest : tie.Need-overflow_shl-rest invariant-loop decreases-loop
-shl-rest c = let l = c.before.before.loop-rest in lowest-below 64 l.rest (omega arith) l.invariant.small
+shl-rest c = let l = c.loop-rest in lowest-below 64 l.rest (omega arith) l.invariant.small
 
 sub-rest : tie.Need-overflow_sub-rest invariant-loop decreases-loop
 sub-rest c =
-    let l = c.before.before.loop-rest in
+    let l = c.loop-rest in
     let h : 0 < l.rest = omega arith in
     rw (one_shifted (lowest-below 64 l.rest h l.invariant.small)) (power-at-most (has-lowest 64 h l.invariant.small))
 
 loop-less : tie.Need-loop-rest-smaller invariant-loop decreases-loop
 loop-less c =
-    let l = c.before.before.loop-rest in
+    let l = c.loop-rest in
     let h : 0 < l.rest = omega arith in
     let m = power-at-most (has-lowest 64 h l.invariant.small) in
     let n = pow_pos (count_trailing_zeros 64 l.rest) in
@@ -58,8 +58,8 @@ loop-less c =
 
 loop-again : tie.Need-loop-rest-preserved invariant-loop decreases-loop
 loop-again c =
-    let d = c.before.before.before in
-    let l = c.before.before.loop-rest in
+    let d = c in
+    let l = c.loop-rest in
     let h : 0 < l.rest = omega arith in
     let k = count_trailing_zeros 64 l.rest in
     rw (one_shifted (lowest-below 64 l.rest h l.invariant.small))
@@ -71,5 +71,5 @@ pub spread_spec : {M : Type 1} → statement M
 spread_spec =
     tie.close
     (tie.spec invariant-loop decreases-loop (λ c. search rules) (λ c. spread_none _ _ _ _ c.ranges.word.fits) cast-k add-column mul-column
-    slice-read-column add-columns mul-columns slice-read-column shl-rest sub-rest loop-less loop-again (λ c. c.before.loop-rest.invariant.more.same_length)
-    (λ c. spread_end _ c.before.loop-rest.invariant c.loop-rest-test.false))
+    slice-read-column add-columns mul-columns slice-read-column shl-rest sub-rest loop-less loop-again (λ c. c.loop-rest.invariant.more.same_length)
+    (λ c. spread_end _ c.loop-rest.invariant c.loop-rest-test.false))

@@ -10,14 +10,14 @@ use Rattle.forms.proofs.normal_token.Tie as tie
 
 -- A number is a byte.
 number_small : (c : tie.After-shared_slice_known-4-1)
-    → get_or c.before.before.before.before.before.args.number.now (c.before.before.before.before.before.args.token / 8 % 64) 0 < 256
-number_small c = omega (arith, c.shared_slice_known-4-1.given (c.before.before.before.before.before.args.token / 8 % 64))
+    → get_or c.args.number.now (c.args.token / 8 % 64) 0 < 256
+number_small c = omega (arith, c.shared_slice_known-4-1.given (c.args.token / 8 % 64))
 
 returns : tie.Need-returns
 unfolding normal_token
 returns c =
-    let a = c.before.before.before.before.before.before.args in
-    ap (λ (s : ℕ). a.token / 512 * 512 + get_or a.number.now (a.token / 8 % 64) 0 * 8 + s) c.before.before.Turned-set.ensures
+    let a = c.args in
+    ap (λ (s : ℕ). a.token / 512 * 512 + get_or a.number.now (a.token / 8 % 64) 0 * 8 + s) c.Turned-set.ensures
 
 pub normal_token_spec : {M : Type 1} → statement M
 normal_token_spec =

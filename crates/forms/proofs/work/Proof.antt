@@ -28,7 +28,7 @@ normalize-all-requires c κs =
     )
 
 mul-copy-monomials : tie.Need-overflow-mul-copy-monomials
-mul-copy-monomials c = omega (arith, c.before.before.before.before.before.before.before.before.before.before.before.before.before.requires.0.polynomials)
+mul-copy-monomials c = omega (arith, c.requires.0.polynomials)
 
 copy-monomials-requires : tie.Need-copy_monomials-requires
 copy-monomials-requires c κs =
@@ -96,13 +96,13 @@ module _ (c : tie.After-slice_known-7-1) where
 
 number-all-requires : tie.Need-number_all-requires
 number-all-requires c κs =
-    let here = c.before.before.before.before in
+    let here = c.before in
     let start = first here in
     (forms-laid here, start.pre.0.polynomials, omega (arith, start.pre.0.polynomials, (lent-sized start).numbers))
 
 fill-requires : tie.Need-fill-requires
 fill-requires c κs =
-    let numbering = c.before.before.before.before.before.before in
+    let numbering = c in
     let here = numbering.before.before.before.before.before in
     let start = first here in
     let laid = forms-laid here in (
@@ -114,7 +114,7 @@ fill-requires c κs =
 
 put-variables-requires : tie.Need-put_variables-requires
 put-variables-requires c κs =
-    let filling = c.before.before.before.before.before.before.before.before in
+    let filling = c in
     let here = filling.before.before.before.before.before.before.before.before.before.before.before.before in
     let laid = forms-laid here in (
       omega (arith, filling.fill.auto.0, laid.coefficients),
@@ -125,16 +125,16 @@ put-variables-requires c κs =
 
 same_length : tie.Need-shape_of-normal_coefficient
 same_length c =
-    let ending = c.before.before.before.before.before in
-    let filling = ending.before.before.before.before.before.before.before.before.before in
+    let ending = c in
+    let filling = ending in
     let here = filling.before.before.before.before.before.before.before.before.before.before.before.before in
     ending.put_variables.auto.0 ∙ filling.fill.auto.0 ∙ (normalizing here).normalize-all.auto.1.1.0
 
 returns : tie.Need-returns
 returns c =
-    let ending = c.before.before.before.before.before in
-    let filling = ending.before.before.before.before.before.before.before.before.before in
-    let numbering = filling.before.before.before.before.before.before.before in
+    let ending = c in
+    let filling = ending in
+    let numbering = filling in
     let here = numbering.before.before.before.before.before in
     let start = first here in
     let a = start.args in

@@ -13,21 +13,21 @@ use Rattle.normal.proofs.normalize.Tie as tie
 
 divide-requires : tie.Need-divide-requires
 divide-requires c κs =
-    let start = c.before.before in
+    let start = c in
     let a = start.args in
     let p = coefficients a.coefficient.now a.from a.to in (
       start.requires.0.there,
       start.requires.1,
-      rw c.before.content-by.ensures (content-above-zero p),
-      rw c.before.content-by.ensures (content-small a.coefficient.now a.from a.to start.requires.0),
+      rw c.content-by.ensures (content-above-zero p),
+      rw c.content-by.ensures (content-small a.coefficient.now a.from a.to start.requires.0),
     )
 
 negate-requires : tie.Need-negate-requires
 negate-requires c κs =
-    let start = c.before.before.before.before.before.before.before.before in
+    let start = c in
     let a = start.args in
-    rw c.before.before.before.before.before.divide.ensures
-    (bounded-divided a.target.now a.from a.to start.requires.1 c.before.before.before.before.before.before.before.content-by.result
+    rw c.divide.ensures
+    (bounded-divided a.target.now a.from a.to start.requires.1 c.content-by.result
     a.coefficient.now start.requires.0)
 
 module _ (c : tie.After-first_is_negative) where
@@ -35,12 +35,12 @@ module _ (c : tie.After-first_is_negative) where
   given = c.before.before.before.before.before.before
 
   -- The divided run, by the content.
-  divided-is : c.before.before.before.divide.new.1.0
+  divided-is : c.divide.new.1.0
       ≡ divided_run (content (coefficients given.args.coefficient.now given.args.from given.args.to)) given.args.coefficient.now
       given.args.target.now given.args.from given.args.to
-  divided-is = c.before.before.before.divide.ensures
+  divided-is = c.divide.ensures
       ∙ ap (λ (by : ℕ). divided_run by given.args.coefficient.now given.args.target.now given.args.from given.args.to)
-      c.before.before.before.before.before.content-by.ensures
+      c.content-by.ensures
 
   -- The test that the code makes.
   test : c.first_is_negative.result ≡ is_turned given.args.coefficient.now given.args.from given.args.to
@@ -52,8 +52,8 @@ returns : tie.Need-returns-then-first_is_negative
 unfolding normal_run turned_run
 returns c =
     let d = c.before.before.before.before in
-    let turns = sym c.before.before.before.if-first_is_negative.true ∙ test d in
-    (turns, c.before.negate.ensures ∙ rw (← turns) (ap (λ (l : List ℤ). negated_run l (given d).args.from (given d).args.to) (divided-is d)))
+    let turns = sym c.if-first_is_negative.true ∙ test d in
+    (turns, c.negate.ensures ∙ rw (← turns) (ap (λ (l : List ℤ). negated_run l (given d).args.from (given d).args.to) (divided-is d)))
 
 returns-2 : tie.Need-returns
 unfolding normal_run turned_run

@@ -14,19 +14,19 @@ returns c = record { on = λ s t h. simp (eq-eqb _ _ c.if-k-eq0.true) }
 
 seen-requires : tie.Need-seen-requires
 seen-requires c κs =
-    let d = c.before.before.before in
-    let s = d.before.before.before.before in
+    let d = c in
+    let s = d in
     record {
       first = s.requires.0;
       second = s.requires.1;
-      first_small = d.small.ensures.yes (not-false _ c.before.before.if-not-small.false);
-      second_small = c.before.small-2.ensures.yes (not-false _ c.if-not-small-2.false);
+      first_small = d.small.ensures.yes (not-false _ c.if-not-small.false);
+      second_small = c.small-2.ensures.yes (not-false _ c.if-not-small-2.false);
     }
 
 returns-4 : tie.Need-returns
 returns-4 c =
-    let first = c.before.before.before.before.before.before in
-    record { on = λ s t h. c.finding.ensures ∙ ap finding_from (c.before.seen.ensures.on s t) ∙ finding-met _ _ ∙ deduced _ _ _ _ first.if-k-eq0.false h }
+    let first = c in
+    record { on = λ s t h. c.finding.ensures ∙ ap finding_from (c.seen.ensures.on s t) ∙ finding-met _ _ ∙ deduced _ _ _ _ first.if-k-eq0.false h }
 
 pub deduce_from_spec : {M : Type 1} → statement M
 deduce_from_spec =

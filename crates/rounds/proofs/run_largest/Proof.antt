@@ -18,37 +18,37 @@ abbrev table : tie.Start → Table
 table s = lent_table s.args.coefficient s.args.monomial s.args.terms s.args.variables
 
 returns : tie.Need-returns-then-variables-many
-returns c = largest-stays _ c.before.before.before.run-ran.ensures (omega (arith, c.if-variables-many.true, c.before.many.ensures))
+returns c = largest-stays _ c.run-ran.ensures (omega (arith, c.if-variables-many.true, c.many.ensures))
 
 rounds-requires : tie.Need-rounds-counted-requires
 rounds-requires c κs =
     let s = c.before.before.before.before.before.before.before.before.before in
-    let start = c.before.before.start-first in
+    let start = c.start-first in
     (forms-over _ _ _ (sym start.ensures.0) s.requires, started-low (table s) s.args.list start.result start.ensures.1)
 
 returns-2 : tie.Need-returns-then-not-no_atom_cut
 returns-2 c =
-    let s = c.before.before.before.before.before.before.before.before.before.before.before.before in
-    let start = c.before.before.before.before.before.start-first in
-    largest-counted _ (counted-plain _ _ _ start.ensures.0 s.args.list start.result start.ensures.1 c.before.before.rounds-counted.ensures) c.larger.ensures
+    let s = c in
+    let start = c.start-first in
+    largest-counted _ (counted-plain _ _ _ start.ensures.0 s.args.list start.result start.ensures.1 c.rounds-counted.ensures) c.larger.ensures
 
 -- no atom is cut
-uncut : (c : tie.Else-not-no_atom_cut) → Uncut c.before.before.start-first.result c.before.before.before.before.before.before.run-ran.result
-uncut c = c.before.no_atom_cut.ensures (not-false _ c.if-not-no_atom_cut.false)
+uncut : (c : tie.Else-not-no_atom_cut) → Uncut c.start-first.result c.run-ran.result
+uncut c = c.no_atom_cut.ensures (not-false _ c.if-not-no_atom_cut.false)
 
 turned-largest-requires : tie.Need-turned_largest-most-requires
 turned-largest-requires c κs =
-    let s = c.before.before.before.before.before.before.before.before.before.before in
-    let start = c.before.before.before.start-first in (
+    let s = c in
+    let start = c.start-first in (
       forms-over _ _ _ (sym start.ensures.0) s.requires,
-      (uncut-bounded _ _ _ start.ensures.0 s.args.list c.before.before.before.before.before.before.before.run-ran.ensures start.result start.ensures.1 (uncut c.before), omega arith),
+      (uncut-bounded _ _ _ start.ensures.0 s.args.list c.run-ran.ensures start.result start.ensures.1 (uncut c.before), omega arith),
     )
 
 returns-3 : tie.Need-returns
 returns-3 c =
-    let s = c.before.before.before.before.before.before.before.before.before.before.before in
-    let start = c.before.before.before.before.start-first in
-    largest-counted _ (counted-uncut _ _ _ start.ensures.0 s.args.list c.before.before.before.before.before.before.before.before.run-ran.ensures start.result start.ensures.1 (uncut c.before.before) refl)
+    let s = c in
+    let start = c.start-first in
+    largest-counted _ (counted-uncut _ _ _ start.ensures.0 s.args.list c.run-ran.ensures start.result start.ensures.1 (uncut c.before.before) refl)
     (from-none s.args.largest c.turned_largest-most.ensures refl)
 
 pub run_largest_spec : {M : Type 1} → statement M

@@ -9,18 +9,18 @@ use Rattle.sieve.proofs.any_left.Tie as tie
 
 fill-requires : tie.Need-fill-n-requires
 fill-requires c κs =
-    let s = c.before.before.before.before.before.before.before.before in
-    ((s.requires.0, s.requires.1 (un-false {b = s.args.falls} c.before.before.before.before.before.if-not-falls.false)), (refl, (refl, (refl, refl))))
+    let s = c in
+    ((s.requires.0, s.requires.1 (un-false {b = s.args.falls} c.if-not-falls.false)), (refl, (refl, (refl, refl))))
 
 any-try-requires : tie.Need-any_try-requires
 any-try-requires c κs =
-    let h = c.before.before.before.before.before.before.before.before.fill-n.ensures in
+    let h = c.fill-n.ensures in
     record { first = h.firsts; second = h.seconds; third = h.thirds; signs = h.signs }
 
 returns-3 : tie.Need-returns
 returns-3 c = none_left
-    (omega (arith, c.before.before.before.before.before.before.before.before.before.before.before.before.before.before.if-set-ge8.false))
-    c.before.before.before.before.before.before.before.before.before.fill-n.ensures c.any_try.ensures
+    (omega (arith, c.if-set-ge8.false))
+    c.fill-n.ensures c.any_try.ensures
 
 pub any_left_spec : {M : Type 1} → statement M
 any_left_spec =

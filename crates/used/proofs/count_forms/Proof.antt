@@ -18,31 +18,31 @@ abbrev start : tie.In-loop-i invariant-loop decreases-loop → tie.Start invaria
 start c = c.before.before.before.before.before
 
 -- The next slot is one of the 64 forms.
-slot-below : (c : tie.In-loop-i invariant-loop decreases-loop) → get_or (start c).args.order.now c.before.loop-i.i 0 < 64
-slot-below c = (start c).requires.2.slots c.before.loop-i.i c.loop-i-test.true
+slot-below : (c : tie.In-loop-i invariant-loop decreases-loop) → get_or (start c).args.order.now c.loop-i.i 0 < 64
+slot-below c = (start c).requires.2.slots c.loop-i.i c.loop-i-test.true
 
 loop-again : tie.Need-loop-i-preserved-then-not-is_constant invariant-loop decreases-loop
 loop-again c =
-    let here = c.before.before.before in
-    counting-form here.loop-i-test.true here.before.loop-i.invariant (λ n cs. sym (not-true _ c.if-not-is_constant.true) ∙ c.before.is_constant.ensures n cs)
+    let here = c in
+    counting-form here.loop-i-test.true here.loop-i.invariant (λ n cs. sym (not-true _ c.if-not-is_constant.true) ∙ c.is_constant.ensures n cs)
 
 loop-again-2 : tie.Need-loop-i-preserved invariant-loop decreases-loop
 loop-again-2 c =
-    let here = c.before.before.before in
-    counting-constant here.loop-i-test.true here.before.loop-i.invariant (λ n cs. sym (not-false _ c.if-not-is_constant.false) ∙ c.before.is_constant.ensures n cs)
+    let here = c in
+    counting-constant here.loop-i-test.true here.loop-i.invariant (λ n cs. sym (not-false _ c.if-not-is_constant.false) ∙ c.is_constant.ensures n cs)
 
 pub count_forms_spec : {M : Type 1} → statement M
 count_forms_spec =
     tie.close
     (tie.spec invariant-loop decreases-loop
-    (λ c. let a = c.before.before.before.args in counting-starts a.monomial.now a.terms.now a.order.now a.used)
+    (λ c. let a = c.args in counting-starts a.monomial.now a.terms.now a.order.now a.used)
     (λ c. let here = c.before in omega (arith, here.loop-i-test.true, (start here).requires.2.long))
     (λ c. omega (arith, slot-below c.before))
     (λ c. let here = c.before in omega (arith, here.loop-i-test.true, (start here).requires.2.few))
     (λ c κs. let here = c.before in (omega (arith, slot-below here, (start here).requires.0), omega (arith, slot-below here, (start here).requires.1)))
-    (λ c. let here = c.before.before.before in omega (arith, here.before.loop-i.invariant.few, here.loop-i-test.true, (start here).requires.2.few))
-    (λ c. omega (arith, c.before.before.before.loop-i-test.true))
+    (λ c. let here = c.before.before.before in omega (arith, here.loop-i.invariant.few, here.loop-i-test.true, (start here).requires.2.few))
+    (λ c. omega (arith, c.loop-i-test.true))
     loop-again
-    (λ c. omega (arith, c.before.before.before.loop-i-test.true))
+    (λ c. omega (arith, c.loop-i-test.true))
     loop-again-2
-    (λ c. counted c.before.loop-i.invariant c.loop-i-test.false))
+    (λ c. counted c.loop-i.invariant c.loop-i-test.false))

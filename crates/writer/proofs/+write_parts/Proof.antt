@@ -27,69 +27,69 @@ pub +write-parts-spec : {M : Type 1} → statement M
 +write-parts-spec =
     close μ-parts λ t. parts-lts.spec (atom-reads.Asked, atom-reads.Learnt, parts_below t, parts.Post, join-reads.Asked, join-reads.Learnt) (parts_at t) parts.Post
     (λ c. parts_none _ _ _ _ c.if-count-eq0.true)
-    (λ c. omega (arith, first-there c.before.before.before.requires.1 c.if-count-eq0.false))
-    (λ c. first-there c.before.before.before.before.requires.1 c.before.if-count-eq0.false)
-    (λ c κs. let read = c.before.before in room-atom read.before.before.before.before.requires.1 read.before.if-count-eq0.false c.before.if-first-lt16777216.true)
+    (λ c. omega (arith, first-there c.requires.1 c.if-count-eq0.false))
+    (λ c. first-there c.requires.1 c.if-count-eq0.false)
+    (λ c κs. let read = c.before.before in room-atom read.requires.1 read.if-count-eq0.false c.if-first-lt16777216.true)
     (λ c. let s = c.before.before.before.before.before.before.before.before.before.before in omega (
       arith,
       first-there s.requires.1
-          c.before.before.before.before.before.before.before.if-count-eq0.false,
+          c.if-count-eq0.false,
     ))
     (λ c. omega arith)
     (λ c κs.
     let first = c.before.before.before in
     let read = first.before.before.before in
     let s = read.before.before.before.before in (
-      omega (arith, first-there s.requires.1 read.before.if-count-eq0.false),
-      after-atom s.requires.1 read.before.if-count-eq0.false first.before.before.if-first-lt16777216.true first.write_atom-next.ensures first.write_atom-next.auto.0,
+      omega (arith, first-there s.requires.1 read.if-count-eq0.false),
+      after-atom s.requires.1 read.if-count-eq0.false first.if-first-lt16777216.true first.write_atom-next.ensures first.write_atom-next.auto.0,
     ))
-    (λ c. c.before.before.write_parts.auto.0 ∙ c.before.before.before.before.before.before.write_atom-next.auto.0)
+    (λ c. c.write_parts.auto.0 ∙ c.write_atom-next.auto.0)
     (λ c.
     let others = c.before.before in
     let first = others.before.before.before.before in
     let read = first.before.before.before in
-    parts-atom _ _ _ _ read.before.if-count-eq0.false first.before.before.if-first-lt16777216.true first.write_atom-next.ensures others.write_parts.ensures)
-    (λ c. let read = c.before.before in omega (arith, read.shared_slice_known-2-1.given read.before.before.before.before.args.k))
-    (λ c κs. let read = c.before.before in room-join read.before.before.before.before.requires.1 read.before.if-count-eq0.false c.before.if-first-lt16777216.false)
+    parts-atom _ _ _ _ read.if-count-eq0.false first.if-first-lt16777216.true first.write_atom-next.ensures others.write_parts.ensures)
+    (λ c. let read = c.before.before in omega (arith, read.shared_slice_known-2-1.given read.args.k))
+    (λ c κs. let read = c.before.before in room-join read.requires.1 read.if-count-eq0.false c.if-first-lt16777216.false)
     (λ c. let s = c.before.before.before.before.before.before.before.before.before.before in omega (
       arith,
       first-there s.requires.1
-          c.before.before.before.before.before.before.before.if-count-eq0.false,
+          c.if-count-eq0.false,
     ))
     (λ c. let read = c.before.before.before.before.before.before in omega (
       arith,
       read.shared_slice_known-2-1.given
-          read.before.before.before.before.args.k,
+          read.args.k,
     ))
-    (λ c. let read = c.before.before.before.before.before.before in kind_fits read.before.before.before.before.requires.1 read.before.if-count-eq0.false
-    c.before.before.before.before.before.if-first-lt16777216.false)
+    (λ c. let read = c.before.before.before.before.before.before in kind_fits read.requires.1 read.if-count-eq0.false
+    c.if-first-lt16777216.false)
     (λ c κs.
     let first = c.before.before.before in
     let read = first.before.before.before in
     let s = read.before.before.before.before in (
-      omega (arith, first-there s.requires.1 read.before.if-count-eq0.false),
-      inside-join s.requires.1 read.before.if-count-eq0.false first.before.before.if-first-lt16777216.false first.write_join-next.ensures first.write_join-next.auto.0,
+      omega (arith, first-there s.requires.1 read.if-count-eq0.false),
+      inside-join s.requires.1 read.if-count-eq0.false first.if-first-lt16777216.false first.write_join-next.ensures first.write_join-next.auto.0,
     ))
     (λ c. omega arith)
     (λ c κs.
     let inner = c.before.before.before in
     let first = inner.before.before.before.before in
     let read = first.before.before.before in
-    let s = read.before.before.before.before in (
+    let s = read in (
       omega (
         arith,
-        first-there s.requires.1 read.before.if-count-eq0.false,
-        further s.requires.1 read.before.if-count-eq0.false first.before.before.if-first-lt16777216.false first.write_join-next.ensures inner.write_parts-inner.ensures,
+        first-there s.requires.1 read.if-count-eq0.false,
+        further s.requires.1 read.if-count-eq0.false first.if-first-lt16777216.false first.write_join-next.ensures inner.write_parts-inner.ensures,
       ),
-      after-join s.requires.1 read.before.if-count-eq0.false first.before.before.if-first-lt16777216.false first.write_join-next.ensures inner.write_parts-inner.ensures
+      after-join s.requires.1 read.if-count-eq0.false first.if-first-lt16777216.false first.write_join-next.ensures inner.write_parts-inner.ensures
           (inner.write_parts-inner.auto.0 ∙ first.write_join-next.auto.0),
     ))
-    (λ c. c.before.before.write_parts-2.auto.0 ∙ c.before.before.before.before.before.before.write_parts-inner.auto.0
-    ∙ c.before.before.before.before.before.before.before.before.before.before.write_join-next.auto.0)
+    (λ c. c.write_parts-2.auto.0 ∙ c.write_parts-inner.auto.0
+    ∙ c.write_join-next.auto.0)
     (λ c.
-    let others = c.before.before in
-    let inner = others.before.before.before.before in
-    let first = inner.before.before.before.before in
-    let read = first.before.before.before in
-    parts_join _ _ _ _ read.before.if-count-eq0.false first.before.before.if-first-lt16777216.false first.write_join-next.ensures inner.write_parts-inner.ensures
+    let others = c in
+    let inner = others in
+    let first = inner in
+    let read = first in
+    parts_join _ _ _ _ read.if-count-eq0.false first.if-first-lt16777216.false first.write_join-next.ensures inner.write_parts-inner.ensures
     others.write_parts-2.ensures)

@@ -32,12 +32,12 @@ pub +write-table-spec : {M : Type 1} → statement M
       omega arith,
       s.requires.1.4.in_coefficients s.args.i i,
       s.requires.1.4.in_monomials s.args.i i,
-      room-first (table-split _ _ _ _ _ _ _ s.requires.1.1 c.before.if-i-m.false) s.requires.1.5,
+      room-first (table-split _ _ _ _ _ _ _ s.requires.1.1 c.if-i-m.false) s.requires.1.5,
     ))
     (λ c. omega arith)
     (λ c κs.
     let first = c.before.before.before in
-    let s = first.before.before.before.before.before.before in (
+    let s = first in (
       omega arith,
       (
         s.requires.1.0,
@@ -45,13 +45,13 @@ pub +write-table-spec : {M : Type 1} → statement M
         s.requires.1.2,
         s.requires.1.3,
         s.requires.1.4,
-        room-second (table-split _ _ _ _ _ _ _ s.requires.1.1 first.before.before.if-i-m.false) s.requires.1.5 first.write_polynomial-next.ensures
+        room-second (table-split _ _ _ _ _ _ _ s.requires.1.1 first.if-i-m.false) s.requires.1.5 first.write_polynomial-next.ensures
             first.write_polynomial-next.auto.0,
       ),
     ))
-    (λ c. c.before.before.write_table.auto.0 ∙ c.before.before.before.before.before.before.write_polynomial-next.auto.0)
+    (λ c. c.write_table.auto.0 ∙ c.write_polynomial-next.auto.0)
     (λ c.
-    let others = c.before.before in
-    let first = others.before.before.before.before in
-    wrote-both (table-split _ _ _ _ _ _ _ first.before.before.before.before.before.before.requires.1.1 first.before.before.if-i-m.false)
+    let others = c in
+    let first = others in
+    wrote-both (table-split _ _ _ _ _ _ _ first.requires.1.1 first.if-i-m.false)
     first.write_polynomial-next.ensures others.write_table.ensures)

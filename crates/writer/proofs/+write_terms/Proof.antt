@@ -31,25 +31,25 @@ pub +write-terms-spec : {M : Type 1} → statement M
     (λ c κs.
     let value = c.before.before in
     let s = value.before.before.before.before in
-    (s.requires.1.0, room-first (terms-split _ _ _ _ _ _ value.before.if-count-eq0.false (to_z-of_z w32 _ (record { sfits = value.value-1.given }))) s.requires.1.3))
+    (s.requires.1.0, room-first (terms-split _ _ _ _ _ _ value.if-count-eq0.false (to_z-of_z w32 _ (record { sfits = value.value-1.given }))) s.requires.1.3))
     (λ c. omega arith) (λ c. omega arith)
     (λ c κs.
     let first = c.before.before.before in
     let value = first.before.before.before in
-    let s = value.before.before.before.before in (
+    let s = value in (
       omega arith,
       (
         s.requires.1.0,
         omega arith,
         omega arith,
-        room-second (terms-split _ _ _ _ _ _ value.before.if-count-eq0.false (to_z-of_z w32 _ (record { sfits = value.value-1.given }))) s.requires.1.3
+        room-second (terms-split _ _ _ _ _ _ value.if-count-eq0.false (to_z-of_z w32 _ (record { sfits = value.value-1.given }))) s.requires.1.3
             first.write_term-next.ensures first.write_term-next.auto.0,
       ),
     ))
-    (λ c. c.before.before.write_terms.auto.0 ∙ c.before.before.before.before.before.before.write_term-next.auto.0)
+    (λ c. c.write_terms.auto.0 ∙ c.write_term-next.auto.0)
     (λ c.
-    let others = c.before.before in
-    let first = others.before.before.before.before in
-    let value = first.before.before.before in
-    wrote-both (terms-split _ _ _ _ _ _ value.before.if-count-eq0.false (to_z-of_z w32 _ (record { sfits = value.value-1.given }))) first.write_term-next.ensures
+    let others = c in
+    let first = others in
+    let value = first in
+    wrote-both (terms-split _ _ _ _ _ _ value.if-count-eq0.false (to_z-of_z w32 _ (record { sfits = value.value-1.given }))) first.write_term-next.ensures
     others.write_terms.ensures)

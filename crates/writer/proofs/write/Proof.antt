@@ -9,7 +9,7 @@ use Rattle.writer.proofs.write.Tie as tie
 
 write-table-requires : tie.Need-write_table-tree-requires
 write-table-requires c κs =
-    let start = c.before.before.before.before.before in
+    let start = c in
     let room = start.requires.0 in
     let w = start.requires.1.writable in (
       few-variables _ _ _ _ w,
@@ -22,31 +22,31 @@ write-table-requires c κs =
 
 write-parts-requires : tie.Need-write_parts-last-requires
 write-parts-requires c κs =
-    let table = c.before.before.before in
-    let start = table.before.before.before.before.before.before in
+    let table = c in
+    let start = table in
     tree-ahead _ _ _ _ start.requires.1.writable table.write_table-tree.ensures table.write_table-tree.auto.0
 
 add-size : tie.Need-overflow_add-size
 add-size c =
-    let tree = c.before.before in
-    let table = tree.before.before.before.before in
-    let start = table.before.before.before.before.before.before in
+    let tree = c in
+    let table = tree in
+    let start = table in
     let w = start.requires.1.writable in
     omega (arith, end-small _ _ _ _ w table.write_table-tree.ensures (tree.write_parts-last.ensures (alone start.requires.1.block.tree) w.holds.tree (one-child start.requires.1.block.tree)))
 
 mul-write-field : tie.Need-overflow-mul-write-field
 mul-write-field c =
-    let tree = c.before.before.before in
-    let table = tree.before.before.before.before in
-    let start = table.before.before.before.before.before.before in
+    let tree = c in
+    let table = tree in
+    let start = table in
     let w = start.requires.1.writable in
     omega (arith, end-small _ _ _ _ w table.write_table-tree.ensures (tree.write_parts-last.ensures (alone start.requires.1.block.tree) w.holds.tree (one-child start.requires.1.block.tree)))
 
 write-field-requires : tie.Need-write_field-requires
 write-field-requires c κs =
-    let tree = c.before.before.before in
-    let table = tree.before.before.before.before in
-    let start = table.before.before.before.before.before.before in
+    let tree = c in
+    let table = tree in
+    let start = table in
     let w = start.requires.1.writable in (
       omega arith,
       room-padding _ _ _ _ w table.write_table-tree.ensures (tree.write_parts-last.ensures (alone start.requires.1.block.tree) w.holds.tree (one-child start.requires.1.block.tree))
@@ -55,10 +55,10 @@ write-field-requires c κs =
 
 write-head-requires : tie.Need-write_head-requires
 write-head-requires c κs =
-    let padding = c.before.before.before in
-    let tree = padding.before.before.before.before in
-    let table = tree.before.before.before.before in
-    let start = table.before.before.before.before.before.before in
+    let padding = c in
+    let tree = padding in
+    let table = tree in
+    let start = table in
     let w = start.requires.1.writable in
     omega (
       arith,
@@ -70,11 +70,11 @@ write-head-requires c κs =
 
 returns : tie.Need-returns
 returns c block w =
-    let head = c.before.before in
-    let padding = head.before.before.before.before in
-    let tree = padding.before.before.before.before in
-    let table = tree.before.before.before.before in
-    let known = table.before.before in
+    let head = c in
+    let padding = head in
+    let tree = padding in
+    let table = tree in
+    let known = table in
     let parts = tree.write_parts-last.ensures (alone block.tree) w.holds.tree (one-child block.tree) in (
       length_is _ _ _ _ w table.write_table-tree.ensures parts,
       block_written _ _ _ _ w table.write_table-tree.ensures parts padding.write_field.ensures head.write_head.ensures (λ i. (known.slice_known-1.given i).fits)

@@ -9,22 +9,22 @@ pub write_atom_spec : {M : Type 1} → statement M
 write_atom_spec =
     tie.close
     (tie.spec
-    (λ c κs. (omega arith, room-first (atom-split _) c.before.before.requires))
+    (λ c κs. (omega arith, room-first (atom-split _) c.requires))
     (λ c. search rules)
     (λ c κs.
     let kind = c.before.before.before in
-    (omega arith, room-first two_runs (room-second (atom-split _) kind.before.before.before.requires kind.write_field-kind.ensures kind.write_field-kind.auto.0)))
+    (omega arith, room-first two_runs (room-second (atom-split _) kind.requires kind.write_field-kind.ensures kind.write_field-kind.auto.0)))
     (λ c. search rules)
     (λ c κs.
     let number = c.before.before.before in
-    let kind = number.before.before.before.before in (
+    let kind = number in (
       omega arith,
-      room-second two_runs (room-second (atom-split _) kind.before.before.before.requires kind.write_field-kind.ensures kind.write_field-kind.auto.0)
+      room-second two_runs (room-second (atom-split _) kind.requires kind.write_field-kind.ensures kind.write_field-kind.auto.0)
           number.write_field-number.ensures number.write_field-number.auto.0,
     ))
     (λ c. search rules)
     (λ c.
-    let set = c.before.before in
-    let number = set.before.before.before.before in
-    wrote-both (atom-split _) number.before.before.before.before.write_field-kind.ensures (wrote-both two_runs number.write_field-number.ensures
+    let set = c in
+    let number = set in
+    wrote-both (atom-split _) number.write_field-kind.ensures (wrote-both two_runs number.write_field-number.ensures
     set.write_field.ensures)))

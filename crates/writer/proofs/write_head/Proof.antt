@@ -9,10 +9,10 @@ pub write_head_spec : {M : Type 1} → statement M
 write_head_spec =
     tie.close
     (tie.spec
-    (λ c κs. let a = c.before.before.args in (
+    (λ c κs. let a = c.args in (
       omega arith,
       room-first (head-split _ _ _ _ _) (room-head a.edition a.variables a.polynomials a.nodes a.size
-          c.before.before.requires),
+          c.requires),
     ))
     (λ c κs.
     let edition = c.before.before.before in
@@ -47,8 +47,8 @@ write_head_spec =
     let third = c.before.before.before in
     let second = third.before.before.before.before in
     let first = second.before.before.before.before in
-    let edition = first.before.before.before.before in
-    let s = edition.before.before.before in (
+    let edition = first in
+    let s = edition in (
       omega arith,
       room-second two_runs (room-second two_runs (room-second two_runs
           (room-second (head-split s.args.edition s.args.variables s.args.polynomials s.args.nodes s.args.size) (room-head _ _ _ _ _ s.requires)
@@ -59,10 +59,10 @@ write_head_spec =
     ))
     (λ c. search rules)
     (λ c.
-    let last = c.before.before in
-    let third = last.before.before.before.before in
-    let second = third.before.before.before.before in
-    let first = second.before.before.before.before in
-    wrote-both (head-split _ _ _ _ _) first.before.before.before.before.write_field-start.ensures (wrote-both two_runs first.write_field-first.ensures
+    let last = c in
+    let third = last in
+    let second = third in
+    let first = second in
+    wrote-both (head-split _ _ _ _ _) first.write_field-start.ensures (wrote-both two_runs first.write_field-first.ensures
     (wrote-both two_runs second.write_field-second.ensures
     (wrote-both two_runs third.write_field-third.ensures last.write_field.ensures)))))

@@ -9,11 +9,11 @@ pub write_join_spec : {M : Type 1} → statement M
 write_join_spec =
     tie.close
     (tie.spec
-    (λ c κs. (omega arith, room-first (join-split _ _) c.before.before.requires))
-    (λ c κs. let kind = c.before.before.before in (
+    (λ c κs. (omega arith, room-first (join-split _ _) c.requires))
+    (λ c κs. let kind = c in (
       omega arith,
-      room-second (join-split _ _) kind.before.before.before.requires kind.write_field-next.ensures
+      room-second (join-split _ _) kind.requires kind.write_field-next.ensures
           kind.write_field-next.auto.0,
     ))
     (λ c. search rules)
-    (λ c. wrote-both (join-split _ _) c.before.before.before.before.before.before.write_field-next.ensures c.before.before.write_field.ensures))
+    (λ c. wrote-both (join-split _ _) c.write_field-next.ensures c.write_field.ensures))

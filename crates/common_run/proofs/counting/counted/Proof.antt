@@ -8,17 +8,17 @@ use Rattle.common_run.proofs.counting.counted.Tie as tie
 
 form-counted-requires : tie.Need-form_counted-requires
 form-counted-requires c κs =
-    let s = c.before.before.before.before.before.before in
-    (s.requires, (refl, sym c.before.before.which-holds.ensures.0 ∙ ap variable_of c.enum_told-1.given.1))
+    let s = c in
+    (s.requires, (refl, sym c.which-holds.ensures.0 ∙ ap variable_of c.enum_told-1.given.1))
 
 fresh-rounds-requires : tie.Need-fresh_rounds-rounds-requires
-fresh-rounds-requires c κs = let s = c.before.before.before.before.before.before.before in (s.requires.0, others-afresh s.requires.1.0)
+fresh-rounds-requires c κs = let s = c in (s.requires.0, others-afresh s.requires.1.0)
 
 returns-2 : tie.Need-returns-in-Variable
 returns-2 c =
-    let s = c.before.before.before.before.before.before.before.before.before in
+    let s = c in
     let (forms, (remain, known)) = s.requires in
-    record { counts = c.before.fresh_rounds-rounds.ensures; known = known-lost remain known c.lost-known.ensures }
+    record { counts = c.fresh_rounds-rounds.ensures; known = known-lost remain known c.lost-known.ensures }
 
 pub counted_spec : {M : Type 1} → statement M
 counted_spec =

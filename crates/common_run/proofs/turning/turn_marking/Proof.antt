@@ -30,16 +30,16 @@ returns c =
 
 returns-2 : tie.Need-returns-then-cut-old
 returns-2 c =
-    let s = c.before.before.before.before.before.before.before.before.before.before.before in
-    turn-idle (table s) s.args.atoms s.args.board refl s.args.i (place s) c.before.before.before.cut_marking-cut.ensures c.if-cut-old.true s.requires.0
+    let s = c.before.before.before.before.before.before.before.before.before.before in
+    turn-idle (table s) s.args.atoms s.args.board refl s.args.i (place s) c.cut_marking-cut.ensures c.if-cut-old.true s.requires.0
 
 returns-3 : tie.Need-returns
 returns-3 c =
-    let s = c.before.before.before.before.before.before.before.before.before.before.before.before.before.before.before in
+    let s = c.before.before.before.before.before.before.before.before.before.before.before.before.before.before in
     let ready = s.requires.0 in
     let long : length s.args.board.sets ≡ 16 = sixteen s in
-    turn-cuts (table s) s.args.atoms s.args.board refl s.args.i (place s) c.before.before.before.before.before.before.before.cut_marking-cut.ensures (omega (arith, long, ready.forms.variables, s.requires.1.0))
-    (rw c.before.before.sign_list.ensures (list-ready _ s.args.atoms _ ready.forms refl ready.places))
+    turn-cuts (table s) s.args.atoms s.args.board refl s.args.i (place s) c.cut_marking-cut.ensures (omega (arith, long, ready.forms.variables, s.requires.1.0))
+    (rw c.sign_list.ensures (list-ready _ s.args.atoms _ ready.forms refl ready.places))
 
 pub turn_marking_spec : {M : Type 1} → statement M
 turn_marking_spec =

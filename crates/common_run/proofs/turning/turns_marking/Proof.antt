@@ -19,28 +19,28 @@ abbrev decreases-loop : tie.decreases-loop-i
 decreases-loop coefficient monomial terms sign₀ atoms round floor n passed₀ i₀ sign passed i = n - i
 
 loop-holds : tie.Need-loop-i-init invariant-loop decreases-loop
-loop-holds c = (refl, (omega arith, turnings-first _ _ _ refl c.before.before.before.requires.0))
+loop-holds c = (refl, (omega arith, turnings-first _ _ _ refl c.requires.0))
 
 turn-marking-requires : tie.Need-turn_marking-passed-requires invariant-loop decreases-loop
 turn-marking-requires c κs =
-    let l = c.before.before.before.before.loop-i in
-    let s = c.before.before.before.before.before.before.before.before in
-    let more = c.before.before.before.loop-i-test.true in
+    let l = c.loop-i in
+    let s = c in
+    let more = c.loop-i-test.true in
     let turnings = l.invariant.1.1 in
     (ready-over _ _ _ (sym turnings.variables) turnings.ready, (omega (arith, more, turnings.variables), (s.requires.1.0, floored-over _ _ _ (sym turnings.variables) (floored-later s.requires.1.1 turnings.after))))
 
 loop-again : tie.Need-loop-i-preserved invariant-loop decreases-loop
 loop-again c =
-    let l = c.before.before.before.before.before.before.before.loop-i in
-    let more = c.before.before.before.before.before.before.loop-i-test.true in
-    let r = c.before.before.turn_marking-passed in
+    let l = c.loop-i in
+    let more = c.loop-i-test.true in
+    let r = c.turn_marking-passed in
     let turnings = l.invariant.1.1 in
     (r.auto.1.1.1.0 ∙ l.invariant.0, (omega (arith, more), turnings-next turnings more (turn-over _ _ _ turnings.variables r.ensures)))
 
 returns : tie.Need-returns invariant-loop decreases-loop
-returns c = turnings-last c.before.loop-i.invariant.1.1 c.loop-i-test.false
+returns c = turnings-last c.loop-i.invariant.1.1 c.loop-i-test.false
 
 pub turns_marking_spec : {M : Type 1} → statement M
 turns_marking_spec =
     tie.close
-    (tie.spec invariant-loop decreases-loop loop-holds turn-marking-requires (λ c. omega arith) (λ c. omega arith) loop-again (λ c. c.before.loop-i.invariant.0) returns)
+    (tie.spec invariant-loop decreases-loop loop-holds turn-marking-requires (λ c. omega arith) (λ c. omega arith) loop-again (λ c. c.loop-i.invariant.0) returns)

@@ -10,4 +10,4 @@ pub left_spec : {M : Type 1} → statement M
 left_spec =
     tie.close
     (tie.spec (λ c. left-staying _ _ (not-true _ c.if-not-out.true)) (λ c. search rules) (λ c κs. search rules) (λ c. left-unknown _ _ c.unknown.ensures)
-    (λ c. left-unmarked _ _ c.before.before.before.before.before.requires (not-false _ c.before.before.before.before.if-not-out.false) (omega (arith, c.if-mark-gt0.false))))
+    (λ c. left-unmarked _ _ c.requires (not-false _ c.if-not-out.false) (omega (arith, c.if-mark-gt0.false))))

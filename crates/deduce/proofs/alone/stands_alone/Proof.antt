@@ -19,27 +19,27 @@ returns c = simp (ne_eqb _ 1 c.if-p-i-ne1.true)
 returns-2 : tie.Need-returns-then-not-asks_zero
 unfolding stands_alone
 returns-2 c =
-    let asks = sym c.before.asks_zero.ensures ∙ not-true _ c.if-not-asks_zero.true in
-    simp (eq-eqb _ 1 c.before.before.before.if-p-i-ne1.false, asks)
+    let asks = sym c.asks_zero.ensures ∙ not-true _ c.if-not-asks_zero.true in
+    simp (eq-eqb _ 1 c.if-p-i-ne1.false, asks)
 
 returns-3 : tie.Need-returns-then-a-eq0
 unfolding stands_alone
 returns-3 c =
-    let d = c.before.before in
-    let s = d.before.before.before.before.before.before.before.args in
-    let asks = sym d.before.asks_zero.ensures ∙ not-false _ d.if-not-asks_zero.false in
-    let zero = is-zero {z = get_or s.coefficient.now s.p.from (pos 0)} (record { sfits = c.before.a-1.given }) c.if-a-eq0.true in
-    simp (eq-eqb _ 1 d.before.before.before.if-p-i-ne1.false, asks, zero)
+    let d = c in
+    let s = d.args in
+    let asks = sym d.asks_zero.ensures ∙ not-false _ d.if-not-asks_zero.false in
+    let zero = is-zero {z = get_or s.coefficient.now s.p.from (pos 0)} (record { sfits = c.a-1.given }) c.if-a-eq0.true in
+    simp (eq-eqb _ 1 d.if-p-i-ne1.false, asks, zero)
 
 returns-4 : tie.Need-returns
 unfolding stands_alone
 returns-4 c =
-    let d = c.before.before.before.before in
-    let s = d.before.before.before.before.before.before.before.args in
-    let asks = sym d.before.asks_zero.ensures ∙ not-false _ d.if-not-asks_zero.false in
-    let fits = c.before.before.before.a-1.given in
-    let filled = not_zero {z = get_or s.coefficient.now s.p.from (pos 0)} (record { sfits = fits }) c.before.before.if-a-eq0.false in
-    simp (eq-eqb _ 1 d.before.before.before.if-p-i-ne1.false, asks, filled) (ap not c.meets.ensures)
+    let d = c in
+    let s = d.args in
+    let asks = sym d.asks_zero.ensures ∙ not-false _ d.if-not-asks_zero.false in
+    let fits = c.a-1.given in
+    let filled = not_zero {z = get_or s.coefficient.now s.p.from (pos 0)} (record { sfits = fits }) c.if-a-eq0.false in
+    simp (eq-eqb _ 1 d.if-p-i-ne1.false, asks, filled) (ap not c.meets.ensures)
 
 pub stands_alone_spec : {M : Type 1} → statement M
 stands_alone_spec =

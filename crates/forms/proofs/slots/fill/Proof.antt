@@ -25,12 +25,12 @@ decreases-loop coefficient₀ monomial₀ terms₀ number polynomials i₀ coeff
 
 loop-again : tie.Need-loop-i-preserved-then-not-is_own invariant-loop decreases-loop
 loop-again c =
-    let l = c.before.before.before.before.before.before.before.before.before.before.before.before.loop-i in
-    let a = c.before.before.before.before.before.before.before.before.before.before.before.before.before.before.before.before.args in
+    let l = c.loop-i in
+    let a = c.args in
     let own = is_own a.number.now a.polynomials in
-    let put = c.before.before.before.before.before.put_term.ensures in
-    let test = c.before.before.before.before.before.before.before.before.before.before in
-    let fails : own l.i ≡ false = sym test.is_own.ensures ∙ not-true _ c.before.before.before.before.before.before.before.before.before.if-not-is_own.true in (
+    let put = c.put_term.ensures in
+    let test = c in
+    let fails : own l.i ≡ false = sym test.is_own.ensures ∙ not-true _ c.if-not-is_own.true in (
       omega arith,
       ap length put.0 ∙ length-set l.coefficient (16 * l.i) (pos 0) ∙ l.invariant.1,
       ap length put.1 ∙ length-set l.monomial (16 * l.i) (l.i + 1) ∙ l.invariant.2,
@@ -45,10 +45,10 @@ loop-again c =
 
 loop-again-2 : tie.Need-loop-i-preserved invariant-loop decreases-loop
 loop-again-2 c =
-    let l = c.before.before.before.loop-i in
-    let a = c.before.before.before.before.before.before.before.args in
+    let l = c.loop-i in
+    let a = c.args in
     let own = is_own a.number.now a.polynomials in
-    let passes : own l.i ≡ true = sym c.before.is_own.ensures ∙ not-false _ c.if-not-is_own.false in (
+    let passes : own l.i ≡ true = sym c.is_own.ensures ∙ not-false _ c.if-not-is_own.false in (
       omega arith,
       l.invariant.1,
       l.invariant.2,
@@ -60,8 +60,8 @@ loop-again-2 c =
 
 returns : tie.Need-returns invariant-loop decreases-loop
 returns c =
-    let l = c.before.loop-i in
-    let a = c.before.before.before.before.before.args in
+    let l = c.loop-i in
+    let a = c.args in
     let own = is_own a.number.now a.polynomials in (
       sym (stores-end (pos 0) (λ j. 16 * j) (λ j x. cond (own j) x (pos 0)) l.coefficient l.i 64 (omega arith)) ∙ l.invariant.4,
       sym (stores-end 0 (λ j. 16 * j) (λ j x. cond (own j) x (j + 1)) l.monomial l.i 64 (omega arith)) ∙ l.invariant.5,
@@ -72,4 +72,4 @@ pub fill_spec : {M : Type 1} → statement M
 fill_spec =
     tie.close
     (tie.spec invariant-loop decreases-loop (λ c. (omega arith, refl, refl, refl, refl, refl, refl)) (λ c. omega arith) (λ c κs. search rules) (λ c κs. omega arith)
-    (λ c. omega arith) loop-again (λ c. omega arith) loop-again-2 (λ c. c.before.loop-i.invariant.1) (λ c. c.before.loop-i.invariant.2) (λ c. c.before.loop-i.invariant.3) returns)
+    (λ c. omega arith) loop-again (λ c. omega arith) loop-again-2 (λ c. c.loop-i.invariant.1) (λ c. c.loop-i.invariant.2) (λ c. c.loop-i.invariant.3) returns)

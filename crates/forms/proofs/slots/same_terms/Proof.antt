@@ -19,22 +19,22 @@ decreases-loop coefficient monomial first second count i₀ i = count - i
 
 returns : tie.Need-returns-then-not-same_term invariant-loop decreases-loop
 returns c =
-    let l = c.before.before.before.loop-i in
-    let a = c.before.before.before.before.before.args in
+    let l = c.loop-i in
+    let a = c.args in
     same-stops a.coefficient.now a.monomial.now a.first a.second l.i a.count (omega arith)
-    (sym c.before.same_term.ensures ∙ not-true _ c.if-not-same_term.true) ∙ l.invariant
+    (sym c.same_term.ensures ∙ not-true _ c.if-not-same_term.true) ∙ l.invariant
 
 loop-again : tie.Need-loop-i-preserved invariant-loop decreases-loop
 loop-again c =
-    let l = c.before.before.before.loop-i in
-    let a = c.before.before.before.before.before.args in
+    let l = c.loop-i in
+    let a = c.args in
     same-goes-on a.coefficient.now a.monomial.now a.first a.second l.i a.count (omega arith)
-    (sym c.before.same_term.ensures ∙ not-false _ c.if-not-same_term.false) ∙ l.invariant
+    (sym c.same_term.ensures ∙ not-false _ c.if-not-same_term.false) ∙ l.invariant
 
 returns-2 : tie.Need-returns invariant-loop decreases-loop
 returns-2 c =
-    let l = c.before.loop-i in
-    let a = c.before.before.before.args in
+    let l = c.loop-i in
+    let a = c.args in
     same_end a.coefficient.now a.monomial.now a.first a.second l.i a.count (omega arith) ∙ l.invariant
 
 pub same_terms_spec : {M : Type 1} → statement M

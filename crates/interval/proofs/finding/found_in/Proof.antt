@@ -12,24 +12,24 @@ use Rattle.interval.proofs.finding.found_in.Tie as tie
 
 returns : tie.Need-returns-then-not-has_t
 unfolding found_by found
-returns c = simp (sym c.before.has_t.ensures ∙ not-true _ c.if-not-has_t.true)
+returns c = simp (sym c.has_t.ensures ∙ not-true _ c.if-not-has_t.true)
 
 -- the strict test
-strict-is : (c : tie.After-strictly) → let a = c.before.before.before.before.before.before.args in
+strict-is : (c : tie.After-strictly) → let a = c.args in
     c.strictly.result ≡ ((is_strict (kind a.set) && has_other (interval_of a.r)) || strict_by (interval_of a.r) (vanishing_of a.v))
-strict-is c = rw (c.strictly.ensures, c.before.before.before.is_strict.ensures, c.before.before.has_other.ensures, c.before.Strict-in.ensures)
+strict-is c = rw (c.strictly.ensures, c.is_strict.ensures, c.has_other.ensures, c.Strict-in.ensures)
 
 returns-2 : tie.Need-returns-then-strictly
 unfolding found_by found
 returns-2 c =
-    let d = c.before.before.before.before.before in
-    simp (sym d.before.has_t.ensures ∙ not-false _ d.if-not-has_t.false, sym (strict-is c.before) ∙ c.if-strictly.true)
+    let d = c in
+    simp (sym d.has_t.ensures ∙ not-false _ d.if-not-has_t.false, sym (strict-is c.before) ∙ c.if-strictly.true)
 
 returns-3 : tie.Need-returns-else-strictly
 unfolding found_by found
 returns-3 c =
-    let d = c.before.before.before.before.before in
-    simp (sym d.before.has_t.ensures ∙ not-false _ d.if-not-has_t.false, sym (strict-is c.before) ∙ c.if-strictly.false)
+    let d = c in
+    simp (sym d.has_t.ensures ∙ not-false _ d.if-not-has_t.false, sym (strict-is c.before) ∙ c.if-strictly.false)
 
 pub found_in_spec : {M : Type 1} → statement M
 found_in_spec =

@@ -21,25 +21,25 @@ never-requires : tie.Need-never-stage-requires
 never-requires c κs = omega (arith, wide c.before.before.before.before.before.before.before)
 
 falls : tie.Need-returns-then-walked
-falls c l walk h s = finish-falls s l _ c.before.before.before.if-walked.true (c.before.never-stage.ensures _)
+falls c l walk h s = finish-falls s l _ c.if-walked.true (c.never-stage.ensures _)
 
 lay-requires : tie.Need-lay-requires
 lay-requires c κs =
-    let g = c.before.before.before.before.before.before.before.before.before.before.requires.1 in
+    let g = c.requires.1 in
     (omega arith, (row-long g.stands.lists, omega (arith, g.fits, long c.before.before.before.before.before.before.before.before.before.before)))
 
 settle-requires : tie.Need-settle-stage-requires
 settle-requires c κs =
-    let (forms, g) = c.before.before.before.before.before.before.before.before.before.before.before.before.before.before.requires in
-    (forms, gathered-ready g (laid-down _ _ g.list g.stands.new (c.before.before.before.lay.ensures _ g.list _ g.lists g.stands.lists (omega (arith, g.stands.lists.size))) g.stands.lists.size) (c.before.before.before.lay.auto.0 ∙ long c.before.before.before.before.before.before.before.before.before.before.before.before.before.before) (wide c.before.before.before.before.before.before.before.before.before.before.before.before.before.before))
+    let (forms, g) = c.requires in
+    (forms, gathered-ready g (laid-down _ _ g.list g.stands.new (c.lay.ensures _ g.list _ g.lists g.stands.lists (omega (arith, g.stands.lists.size))) g.stands.lists.size) (c.lay.auto.0 ∙ long c.before.before.before.before.before.before.before.before.before.before.before.before.before.before) (wide c.before.before.before.before.before.before.before.before.before.before.before.before.before.before))
 
 goes : tie.Need-returns
 goes c l walk h s =
-    finish-goes s l _ c.before.before.before.before.before.before.before.before.before.before.before.if-walked.false (omega (arith, h.size)) _
-    (c.before.before.settle-stage.ensures (l ++ s.new-1) s.children (laid-down _ _ l s.new-1 (c.before.before.before.before.before.before.lay.ensures _ l _ h s.lists (omega (arith, s.lists.size))) s.lists.size) s.lies)
+    finish-goes s l _ c.if-walked.false (omega (arith, h.size)) _
+    (c.settle-stage.ensures (l ++ s.new-1) s.children (laid-down _ _ l s.new-1 (c.lay.ensures _ l _ h s.lists (omega (arith, s.lists.size))) s.lists.size) s.lies)
 
 pub finish_spec : {M : Type 1} → statement M
 finish_spec =
     tie.close
     (tie.spec (λ c. search rules) never-requires falls (λ c. search rules) (λ c. search rules) lay-requires (λ c. search rules)
-    (λ c. omega (arith, c.before.before.before.before.before.before.before.before.before.before.before.before.before.requires.1.fits)) (λ c. search rules) settle-requires goes)
+    (λ c. omega (arith, c.requires.1.fits)) (λ c. search rules) settle-requires goes)

@@ -11,99 +11,99 @@ use Rattle.level.proofs.settling.turn.Statement.{statement}
 use Rattle.level.proofs.settling.turn.Tie as tie
 
 tidy-requires : tie.Need-tidy-kept-requires
-tidy-requires c κs = let (forms, ready) = c.before.before.before.before.before.requires in (forms, omega (arith, ready.fits, ready.long))
+tidy-requires c κs = let (forms, ready) = c.requires in (forms, omega (arith, ready.fits, ready.long))
 
 broken : tie.Need-returns-then-kept
-broken c l children h k = turn-broken children (c.before.before.before.before.before.before.before.tidy-kept.ensures l h) c.before.before.before.before.if-kept.true (c.before.before.never.ensures _)
+broken c l children h k = turn-broken children (c.tidy-kept.ensures l h) c.if-kept.true (c.never.ensures _)
 
 carry-requires : tie.Need-carry-carrying-requires
 carry-requires c κs =
-    let (forms, ready) = c.before.before.before.before.before.before.before.before.before.before.requires in
-    let f = c.before.before.before.before.tidy-kept.ensures ready.list ready.lists in
+    let (forms, ready) = c.requires in
+    let f = c.tidy-kept.ensures ready.list ready.lists in
     (forms, (omega (arith, f.few, f.lists.size, ready.long), omega (arith, f.few, f.lists.size)))
 
 contradiction : tie.Need-returns-then-carrying
 contradiction c l children h k =
-    let f = c.before.before.before.before.before.before.before.before.before.before.before.before.tidy-kept.ensures l h in
-    turn-contradiction children f c.before.before.before.before.before.before.before.before.before.if-kept.false (c.before.before.before.before.before.before.before.carry-carrying.ensures f.list f.lists) c.before.before.before.before.if-carrying.true (c.before.before.never-then-carrying.ensures _)
+    let f = c.tidy-kept.ensures l h in
+    turn-contradiction children f c.if-kept.false (c.carry-carrying.ensures f.list f.lists) c.if-carrying.true (c.never-then-carrying.ensures _)
 
 alone-requires : tie.Need-without_implied-alone-requires
 alone-requires c κs =
-    let (forms, ready) = c.before.before.before.before.before.before.before.before.before.before.before.before.before.before.before.before.before.requires in
-    let f = c.before.before.before.before.before.before.before.before.before.before.before.tidy-kept.ensures ready.list ready.lists in
-    let g = c.before.before.before.before.before.before.carry-carrying.ensures f.list f.lists in
-    (forms, (omega (arith, f.few, f.lists.size, c.before.before.before.before.before.before.carry-carrying.auto.1.1.1.1.0, c.before.before.before.before.before.before.before.before.before.before.before.tidy-kept.auto.1.1.1.1.0, ready.long), (omega (arith, f.few, g.same, g.lists.size), left_by f c.before.before.before.before.before.before.before.before.if-kept.false g c.before.before.before.if-carrying.false)))
+    let (forms, ready) = c.requires in
+    let f = c.tidy-kept.ensures ready.list ready.lists in
+    let g = c.carry-carrying.ensures f.list f.lists in
+    (forms, (omega (arith, f.few, f.lists.size, c.carry-carrying.auto.1.1.1.1.0, c.tidy-kept.auto.1.1.1.1.0, ready.long), (omega (arith, f.few, g.same, g.lists.size), left_by f c.if-kept.false g c.if-carrying.false)))
 
 alone : tie.Need-returns-then-m-eq0
 alone c l children h k =
-    let f = c.before.before.before.before.before.before.before.before.before.before.before.before.before.before.tidy-kept.ensures l h in
-    let g = c.before.before.before.before.before.before.before.before.before.carry-carrying.ensures f.list f.lists in
-    turn_alone children f c.before.before.before.before.before.before.before.before.before.before.before.if-kept.false g c.before.before.before.before.before.before.if-carrying.false (omega (arith, k.size, c.before.before.before.before.if-m-eq0.true)) (c.before.before.without_implied-alone.ensures g.list g.lists)
+    let f = c.tidy-kept.ensures l h in
+    let g = c.carry-carrying.ensures f.list f.lists in
+    turn_alone children f c.if-kept.false g c.if-carrying.false (omega (arith, k.size, c.if-m-eq0.true)) (c.without_implied-alone.ensures g.list g.lists)
 
 sweep-requires : tie.Need-sweep-walked-requires
 sweep-requires c κs =
-    let (forms, ready) = c.before.before.before.before.before.before.before.before.before.before.before.before.before.before.before.before.before.requires in
-    let f = c.before.before.before.before.before.before.before.before.before.before.before.tidy-kept.ensures ready.list ready.lists in
-    let g = c.before.before.before.before.before.before.carry-carrying.ensures f.list f.lists in
-    (forms, ((g.variables, carry-settles f.list _ g c.before.before.before.if-carrying.false), (ready.wide, (omega (arith, ready.fits), (ready.children, ready.lies)))))
+    let (forms, ready) = c.requires in
+    let f = c.tidy-kept.ensures ready.list ready.lists in
+    let g = c.carry-carrying.ensures f.list f.lists in
+    (forms, ((g.variables, carry-settles f.list _ g c.if-carrying.false), (ready.wide, (omega (arith, ready.fits), (ready.children, ready.lies)))))
 
 falls : tie.Need-returns-then-walked
 falls c l children h k =
-    let f = c.before.before.before.before.before.before.before.before.before.before.before.before.before.before.before.before.before.tidy-kept.ensures l h in
-    turn-falls children f c.before.before.before.before.before.before.before.before.before.before.before.before.before.before.if-kept.false (c.before.before.before.before.before.before.before.before.before.before.before.before.carry-carrying.ensures f.list f.lists) c.before.before.before.before.before.before.before.before.before.if-carrying.false (c.before.before.before.before.before.sweep-walked.ensures children k) c.before.before.before.before.if-walked.true (c.before.before.never-then-walked.ensures _)
+    let f = c.tidy-kept.ensures l h in
+    turn-falls children f c.if-kept.false (c.carry-carrying.ensures f.list f.lists) c.if-carrying.false (c.sweep-walked.ensures children k) c.if-walked.true (c.never-then-walked.ensures _)
 
 lay-ors-requires : tie.Need-lay-requires
 lay-ors-requires c κs =
-    let ready = c.before.before.before.before.before.before.before.before.before.before.before.before.before.before.before.before.before.before.before.before.before.before.before.requires.1 in
-    let w = c.before.before.before.before.before.sweep-walked.ensures ready.children ready.lies in
+    let ready = c.requires.1 in
+    let w = c.sweep-walked.ensures ready.children ready.lies in
     (omega arith, (row-long w.stands.lies, omega (arith, w.small, ready.fits, ready.lies.size, ready.wide)))
 
 lay-list-requires : tie.Need-lay-requires-then-walked-2
 lay-list-requires c κs =
-    let ready = c.before.before.before.before.before.before.before.before.before.before.before.before.before.before.before.before.before.before.before.before.before.before.before.before.before.before.before.before.before.before.before.requires.1 in
-    let f = c.before.before.before.before.before.before.before.before.before.before.before.before.before.before.before.before.before.before.before.before.before.before.before.before.before.tidy-kept.ensures ready.list ready.lists in
-    let w = c.before.before.before.before.before.before.before.before.before.before.before.before.before.sweep-walked.ensures ready.children ready.lies in
-    (omega arith, (row-long w.stands.lists, omega (arith, f.small, f.lists.size, ready.lists.size, w.small, ready.fits, ready.lies.size, c.before.before.before.before.before.before.before.before.before.before.before.before.before.before.before.before.before.before.before.before.carry-carrying.auto.1.1.1.1.0, c.before.before.before.before.before.before.before.before.before.before.before.before.before.before.before.before.before.before.before.before.before.before.before.before.before.tidy-kept.auto.1.1.1.1.0, ready.long)))
+    let ready = c.requires.1 in
+    let f = c.tidy-kept.ensures ready.list ready.lists in
+    let w = c.sweep-walked.ensures ready.children ready.lies in
+    (omega arith, (row-long w.stands.lists, omega (arith, f.small, f.lists.size, ready.lists.size, w.small, ready.fits, ready.lies.size, c.carry-carrying.auto.1.1.1.1.0, c.tidy-kept.auto.1.1.1.1.0, ready.long)))
 
 moved : tie.Need-returns-then-walked-2
 moved c l children h k =
-    let f = c.before.before.before.before.before.before.before.before.before.before.before.before.before.before.before.before.before.before.before.before.before.before.before.before.before.before.before.before.tidy-kept.ensures l h in
-    let g = c.before.before.before.before.before.before.before.before.before.before.before.before.before.before.before.before.before.before.before.before.before.before.before.carry-carrying.ensures f.list f.lists in
-    let w = c.before.before.before.before.before.before.before.before.before.before.before.before.before.before.before.before.sweep-walked.ensures children k in
-    turn_moved children f c.before.before.before.before.before.before.before.before.before.before.before.before.before.before.before.before.before.before.before.before.before.before.before.before.before.if-kept.false g c.before.before.before.before.before.before.before.before.before.before.before.before.before.before.before.before.before.before.before.before.if-carrying.false w c.before.before.before.before.before.before.before.before.before.before.before.before.before.before.before.if-walked.false
-    (laid-first _ (laid w.stands.children) (c.before.before.before.before.before.before.before.before.before.before.lay.ensures _ [] _ (record { is = refl; size = refl }) w.stands.lies (omega (arith, w.stands.lies.size))) w.stands.lies.size) c.before.before.before.before.before.before.before.if-walked-2.true
-    (laid-down _ _ g.list w.stands.new (c.before.before.lay-then-walked-2.ensures _ g.list _ g.lists w.stands.lists (omega (arith, w.stands.lists.size))) w.stands.lists.size)
+    let f = c.tidy-kept.ensures l h in
+    let g = c.carry-carrying.ensures f.list f.lists in
+    let w = c.sweep-walked.ensures children k in
+    turn_moved children f c.if-kept.false g c.if-carrying.false w c.if-walked.false
+    (laid-first _ (laid w.stands.children) (c.lay.ensures _ [] _ (record { is = refl; size = refl }) w.stands.lies (omega (arith, w.stands.lies.size))) w.stands.lies.size) c.if-walked-2.true
+    (laid-down _ _ g.list w.stands.new (c.lay-then-walked-2.ensures _ g.list _ g.lists w.stands.lists (omega (arith, w.stands.lists.size))) w.stands.lists.size)
 
 without-implied-requires : tie.Need-without_implied-remaining-requires
 without-implied-requires c κs =
-    let (forms, ready) = c.before.before.before.before.before.before.before.before.before.before.before.before.before.before.before.before.before.before.before.before.before.before.before.before.before.before.before.before.requires in
-    let f = c.before.before.before.before.before.before.before.before.before.before.before.before.before.before.before.before.before.before.before.before.before.before.tidy-kept.ensures ready.list ready.lists in
-    let g = c.before.before.before.before.before.before.before.before.before.before.before.before.before.before.before.before.before.carry-carrying.ensures f.list f.lists in
-    (forms, (omega (arith, f.few, f.lists.size, c.before.before.before.before.before.before.before.before.before.before.before.before.before.before.before.before.before.carry-carrying.auto.1.1.1.1.0, c.before.before.before.before.before.before.before.before.before.before.before.before.before.before.before.before.before.before.before.before.before.before.tidy-kept.auto.1.1.1.1.0, ready.long), (omega (arith, f.few, g.same, g.lists.size), left_by f c.before.before.before.before.before.before.before.before.before.before.before.before.before.before.before.before.before.before.before.if-kept.false g c.before.before.before.before.before.before.before.before.before.before.before.before.before.before.if-carrying.false)))
+    let (forms, ready) = c.requires in
+    let f = c.tidy-kept.ensures ready.list ready.lists in
+    let g = c.carry-carrying.ensures f.list f.lists in
+    (forms, (omega (arith, f.few, f.lists.size, c.carry-carrying.auto.1.1.1.1.0, c.tidy-kept.auto.1.1.1.1.0, ready.long), (omega (arith, f.few, g.same, g.lists.size), left_by f c.if-kept.false g c.if-carrying.false)))
 
 over : tie.Need-returns
 over c l children h k =
-    let f = c.before.before.before.before.before.before.before.before.before.before.before.before.before.before.before.before.before.before.before.before.before.before.before.before.before.tidy-kept.ensures l h in
-    let g = c.before.before.before.before.before.before.before.before.before.before.before.before.before.before.before.before.before.before.before.before.carry-carrying.ensures f.list f.lists in
-    let w = c.before.before.before.before.before.before.before.before.before.before.before.before.before.sweep-walked.ensures children k in
-    turn-over children f c.before.before.before.before.before.before.before.before.before.before.before.before.before.before.before.before.before.before.before.before.before.before.if-kept.false g c.before.before.before.before.before.before.before.before.before.before.before.before.before.before.before.before.before.if-carrying.false w c.before.before.before.before.before.before.before.before.before.before.before.before.if-walked.false
-    (laid-first _ (laid w.stands.children) (c.before.before.before.before.before.before.before.lay.ensures _ [] _ (record { is = refl; size = refl }) w.stands.lies (omega (arith, w.stands.lies.size))) w.stands.lies.size) c.before.before.before.before.if-walked-2.false
-    (c.before.before.without_implied-remaining.ensures g.list g.lists)
+    let f = c.tidy-kept.ensures l h in
+    let g = c.carry-carrying.ensures f.list f.lists in
+    let w = c.sweep-walked.ensures children k in
+    turn-over children f c.if-kept.false g c.if-carrying.false w c.if-walked.false
+    (laid-first _ (laid w.stands.children) (c.lay.ensures _ [] _ (record { is = refl; size = refl }) w.stands.lies (omega (arith, w.stands.lies.size))) w.stands.lies.size) c.if-walked-2.false
+    (c.without_implied-remaining.ensures g.list g.lists)
 
 adds : tie.Need-overflow-add-t48
 adds c =
-    let ready = c.before.before.before.before.before.before.before.before.before.before.before.before.before.before.before.before.before.before.before.before.before.before.before.before.before.before.before.before.before.before.before.before.before.before.requires.1 in
-    let f = c.before.before.before.before.before.before.before.before.before.before.before.before.before.before.before.before.before.before.before.before.before.before.before.before.before.before.before.before.tidy-kept.ensures ready.list ready.lists in
-    let w = c.before.before.before.before.before.before.before.before.before.before.before.before.before.before.before.before.sweep-walked.ensures ready.children ready.lies in
+    let ready = c.requires.1 in
+    let f = c.tidy-kept.ensures ready.list ready.lists in
+    let w = c.sweep-walked.ensures ready.children ready.lies in
     omega (arith, f.few, f.lists.size, w.small, ready.fits, ready.lies.size)
 
 pub turn_spec : {M : Type 1} → statement M
 turn_spec =
     tie.close
-    (tie.spec tidy-requires (λ c κs. omega (arith, c.before.before.before.before.before.before.before.before.before.before.requires.1.wide)) (λ c. search rules) (λ c. search rules) broken carry-requires
-    (λ c κs. omega (arith, c.before.before.before.before.before.before.before.before.before.before.before.before.before.before.before.requires.1.wide)) (λ c. search rules) (λ c. search rules) contradiction alone-requires
-    (λ c. c.before.before.without_implied-alone.auto.1.1.1.1.0 ∙ c.before.before.before.before.before.before.before.before.before.carry-carrying.auto.1.1.1.1.0 ∙ c.before.before.before.before.before.before.before.before.before.before.before.before.before.before.tidy-kept.auto.1.1.1.1.0) alone sweep-requires
-    (λ c κs. omega (arith, c.before.before.before.before.before.before.before.before.before.before.before.before.before.before.before.before.before.before.before.before.requires.1.wide)) (λ c. search rules) (λ c. search rules) falls
-    (λ c. search rules) lay-ors-requires (λ c. search (rules, c.before.before.before.before.before.before.before.before.before.before.before.before.before.sweep-walked.type-inv)) lay-list-requires adds
-    (λ c. c.before.before.lay-then-walked-2.auto.0 ∙ c.before.before.before.before.before.before.before.before.before.before.before.before.before.before.before.before.before.before.before.before.before.before.before.carry-carrying.auto.1.1.1.1.0 ∙ c.before.before.before.before.before.before.before.before.before.before.before.before.before.before.before.before.before.before.before.before.before.before.before.before.before.before.before.before.tidy-kept.auto.1.1.1.1.0) (λ c. c.before.before.before.before.before.before.before.before.before.before.lay.auto.0) moved without-implied-requires
-    (λ c. c.before.before.without_implied-remaining.auto.1.1.1.1.0 ∙ c.before.before.before.before.before.before.before.before.before.before.before.before.before.before.before.before.before.before.before.before.carry-carrying.auto.1.1.1.1.0 ∙ c.before.before.before.before.before.before.before.before.before.before.before.before.before.before.before.before.before.before.before.before.before.before.before.before.before.tidy-kept.auto.1.1.1.1.0) (λ c. c.before.before.before.before.before.before.before.lay.auto.0) over)
+    (tie.spec tidy-requires (λ c κs. omega (arith, c.requires.1.wide)) (λ c. search rules) (λ c. search rules) broken carry-requires
+    (λ c κs. omega (arith, c.requires.1.wide)) (λ c. search rules) (λ c. search rules) contradiction alone-requires
+    (λ c. c.without_implied-alone.auto.1.1.1.1.0 ∙ c.carry-carrying.auto.1.1.1.1.0 ∙ c.tidy-kept.auto.1.1.1.1.0) alone sweep-requires
+    (λ c κs. omega (arith, c.requires.1.wide)) (λ c. search rules) (λ c. search rules) falls
+    (λ c. search rules) lay-ors-requires (λ c. search (rules, c.sweep-walked.type-inv)) lay-list-requires adds
+    (λ c. c.lay-then-walked-2.auto.0 ∙ c.carry-carrying.auto.1.1.1.1.0 ∙ c.tidy-kept.auto.1.1.1.1.0) (λ c. c.lay.auto.0) moved without-implied-requires
+    (λ c. c.without_implied-remaining.auto.1.1.1.1.0 ∙ c.carry-carrying.auto.1.1.1.1.0 ∙ c.tidy-kept.auto.1.1.1.1.0) (λ c. c.lay.auto.0) over)

@@ -24,11 +24,11 @@ decreases-loop out₀ at row n marks₀ end₀ place₀ out marks end place = n 
 
 mark-requires : tie.Need-mark-below-requires invariant-loop decreases-loop
 mark-requires c κs =
-    let pre = c.before.before.before.before.before.before.before.before.before.before.requires in
+    let pre = c.requires in
     let told = pre.1.1.1 in
-    let inv = c.before.before.before.before.before.before.loop-place.invariant in
+    let inv = c.loop-place.invariant in
     let g = inv.1.1.1.1 told.children told.kind told.before told.lies told.heads told.lists in
-    let q = told_here g _ _ told.lies c.before.before.before.atoms_of-atoms.ensures.0 c.before.before.tokens_of-tokens.ensures.0 (omega (arith, told.lies.size, c.before.before.before.before.before.loop-place-test.true)) (omega (arith, told.lies.size, told.fits)) in (
+    let q = told_here g _ _ told.lies c.atoms_of-atoms.ensures.0 c.tokens_of-tokens.ensures.0 (omega (arith, told.lies.size, c.loop-place-test.true)) (omega (arith, told.lies.size, told.fits)) in (
       omega (arith, q.ends, told.lies.size, told.fits),
       (
         omega (arith, q.ends, told.lies.size, told.fits, pre.1.0),
@@ -38,26 +38,26 @@ mark-requires c κs =
 
 tell-atoms-requires : tie.Need-tell_atoms-requires invariant-loop decreases-loop
 tell-atoms-requires c κs =
-    let pre = c.before.before.before.before.before.before.before.before.before.before.before.before.before.before.requires in
+    let pre = c.requires in
     let told = pre.1.1.1 in
-    let loop = c.before.before.before.before.before.before.before.before.before.before.loop-place in
+    let loop = c.loop-place in
     let inv = loop.invariant in
     let g = inv.1.1.1.1 told.children told.kind told.before told.lies told.heads told.lists in
-    let q = told_here g _ _ told.lies c.before.before.before.before.before.before.before.atoms_of-atoms.ensures.0 c.before.before.before.before.before.before.tokens_of-tokens.ensures.0 (omega (arith, told.lies.size, c.before.before.before.before.before.before.before.before.before.loop-place-test.true)) (omega (arith, told.lies.size, told.fits)) in
-    let long = length-set loop.out loop.end (16777216 + c.before.before.before.before.before.before.before.atoms_of-atoms.result + c.before.before.before.mark-below.result) in
+    let q = told_here g _ _ told.lies c.atoms_of-atoms.ensures.0 c.tokens_of-tokens.ensures.0 (omega (arith, told.lies.size, c.loop-place-test.true)) (omega (arith, told.lies.size, told.fits)) in
+    let long = length-set loop.out loop.end (16777216 + c.atoms_of-atoms.result + c.mark-below.result) in
     (omega arith, (omega (arith, q.ends, told.lies.size, told.fits, pre.1.0), omega (arith, q.ends, told.lies.size, told.fits, inv.1.0, inv.1.1.0, pre.0, long)))
 
 again : tie.Need-loop-place-preserved invariant-loop decreases-loop
 again c =
-    let pre = c.before.before.before.before.before.before.before.before.before.before.before.before.before.before.before.before.before.requires in
+    let pre = c.requires in
     let told = pre.1.1.1 in
-    let loop = c.before.before.before.before.before.before.before.before.before.before.before.before.before.loop-place in
+    let loop = c.loop-place in
     let inv = loop.invariant in
-    let taken = c.before.before.before.before.before.before.before.before.before.before.before.before.loop-place-test.true in
-    let atoms-is = c.before.before.before.before.before.before.before.before.before.before.atoms_of-atoms.ensures.0 in
-    let tokens-is = c.before.before.before.before.before.before.before.before.before.tokens_of-tokens.ensures.0 in
-    let mark = c.before.before.before.before.before.before.mark-below in
-    let tell-atoms = c.before.before.tell_atoms in
+    let taken = c.loop-place-test.true in
+    let atoms-is = c.atoms_of-atoms.ensures.0 in
+    let tokens-is = c.tokens_of-tokens.ensures.0 in
+    let mark = c.mark-below in
+    let tell-atoms = c.tell_atoms in
     let q = told_here (inv.1.1.1.1 told.children told.kind told.before told.lies told.heads told.lists) _ _ told.lies atoms-is tokens-is (omega (arith, told.lies.size, taken)) (omega (arith, told.lies.size, told.fits)) in (
       omega (arith, q.ends, told.lies.size),
       (
@@ -69,7 +69,7 @@ again c =
             λ children b l lies heads lists.
                 let g = inv.1.1.1.1 children b l lies heads lists in
                 let r = told_here g _ _ lies atoms-is tokens-is (omega (arith, lies.size, taken)) (omega (arith, lies.size, told.fits)) in
-                let headed = stored loop.out loop.end (16777216 + c.before.before.before.before.before.before.before.before.before.before.atoms_of-atoms.result + mark.result) (omega (arith, taken, told.fits, inv.1.0, inv.1.1.0, pre.0)) _ g.lists in
+                let headed = stored loop.out loop.end (16777216 + c.atoms_of-atoms.result + mark.result) (omega (arith, taken, told.fits, inv.1.0, inv.1.1.0, pre.0)) _ g.lists in
                 told-turn g r _ _ (rw r.kind at (mark.ensures.1 _ r.first.own r.here.inner)) _ refl _
                 (counted (rw (its-atoms r.here.at, r.kind) at (tell-atoms.ensures _ _ _ headed lies (omega (arith, child-ends r.here.at)))) (omega arith)),
           ),
@@ -78,17 +78,17 @@ again c =
     )
 
 returns : tie.Need-returns invariant-loop decreases-loop
-returns c children b l lies heads lists = told-end (c.before.loop-place.invariant.1.1.1.1 children b l lies heads lists) (omega (arith, lies.size, c.loop-place-test.false))
+returns c children b l lies heads lists = told-end (c.loop-place.invariant.1.1.1.1 children b l lies heads lists) (omega (arith, lies.size, c.loop-place-test.false))
 
 pub tell_children_spec : {M : Type 1} → statement M
 tell_children_spec =
     tie.close
     (tie.spec invariant-loop decreases-loop (λ c. (omega arith, (omega arith, (refl, (refl, λ children b l lies heads lists. told-start children b l _ _ heads lists)))))
-    (λ c. omega arith) (λ c. omega (arith, c.before.loop-place-test.true, c.before.before.loop-place.invariant.1.0, c.before.before.before.before.before.before.requires.1.1.1.fits, c.before.before.before.before.before.before.requires.1.0)) (λ c κs. tt) (λ c κs. tt)
-    (λ c. omega (arith, c.before.before.before.loop-place-test.true, c.before.before.before.before.loop-place.invariant.1.0, c.before.before.before.before.before.before.before.before.requires.1.1.1.fits)) (λ c. omega (arith, c.before.before.before.loop-place-test.true, c.before.before.before.before.loop-place.invariant.1.0, c.before.before.before.before.before.before.before.before.requires.1.1.1.fits, c.before.atoms_of-atoms.ensures.1))
-    (λ c. omega (arith, c.before.before.before.before.loop-place-test.true, c.before.before.before.before.before.loop-place.invariant.1.0, c.before.before.before.before.before.before.before.before.before.requires.1.1.1.fits, c.before.before.before.before.before.before.before.before.before.requires.1.1.0, c.before.before.before.before.before.loop-place.invariant.1.1.1.0)) (λ c. omega (arith, c.before.before.before.before.loop-place-test.true, c.before.before.before.before.before.loop-place.invariant.1.0, c.before.before.before.before.before.before.before.before.before.requires.1.1.1.fits, c.before.before.atoms_of-atoms.ensures.1, c.before.tokens_of-tokens.ensures.1)) mark-requires
-    (λ c. omega (arith, c.before.before.before.before.before.before.atoms_of-atoms.ensures.1)) (λ c. omega (arith, c.before.before.before.before.before.before.atoms_of-atoms.ensures.1)) (λ c. omega (arith, c.before.before.before.before.before.before.atoms_of-atoms.ensures.1, c.before.before.before.before.before.tokens_of-tokens.ensures.1, c.before.before.mark-below.ensures.0))
-    (λ c. omega (arith, c.before.before.before.before.before.before.before.before.loop-place-test.true, c.before.before.before.before.before.before.before.before.before.loop-place.invariant.1.0, c.before.before.before.before.before.before.before.before.before.before.before.before.before.requires.1.1.1.fits)) (λ c. omega (arith, c.before.before.before.before.before.before.before.before.loop-place-test.true, c.before.before.before.before.before.before.before.before.before.loop-place.invariant.1.0, c.before.before.before.before.before.before.before.before.before.before.before.before.before.requires.1.1.1.fits, c.before.before.before.before.before.before.before.before.before.before.before.before.before.requires.0, c.before.before.before.before.before.before.before.before.before.loop-place.invariant.1.1.0))
-    (λ c. omega (arith, c.before.before.before.before.before.before.before.before.before.loop-place-test.true, c.before.before.before.before.before.before.before.before.before.before.loop-place.invariant.1.0, c.before.before.before.before.before.before.before.before.before.before.before.before.before.before.requires.1.1.1.fits)) (λ c. omega (arith, c.before.before.before.before.before.before.before.before.before.loop-place-test.true, c.before.before.before.before.before.before.before.before.before.before.loop-place.invariant.1.0, c.before.before.before.before.before.before.before.before.before.before.before.before.before.before.requires.1.1.1.fits)) tell-atoms-requires
-    (λ c. omega (arith, c.before.before.before.before.before.before.before.before.before.before.before.before.loop-place-test.true, c.before.before.before.before.before.before.before.before.before.before.before.before.before.loop-place.invariant.1.0, c.before.before.before.before.before.before.before.before.before.before.before.before.before.before.before.before.before.requires.1.1.1.fits)) (λ c. omega (arith, c.before.before.before.before.before.before.before.before.before.before.before.before.loop-place-test.true, c.before.before.before.before.before.before.before.before.before.before.before.before.before.loop-place.invariant.1.0, c.before.before.before.before.before.before.before.before.before.before.before.before.before.before.before.before.before.requires.1.1.1.fits, c.before.before.before.before.before.before.before.before.before.before.atoms_of-atoms.ensures.1)) (λ c. omega (arith, c.before.before.before.before.before.before.before.before.before.before.before.before.loop-place-test.true)) again
-    (λ c. c.before.loop-place.invariant.1.1.0) (λ c. c.before.loop-place.invariant.1.1.1.0) returns)
+    (λ c. omega arith) (λ c. omega (arith, c.loop-place-test.true, c.loop-place.invariant.1.0, c.requires.1.1.1.fits, c.requires.1.0)) (λ c κs. tt) (λ c κs. tt)
+    (λ c. omega (arith, c.loop-place-test.true, c.loop-place.invariant.1.0, c.requires.1.1.1.fits)) (λ c. omega (arith, c.loop-place-test.true, c.loop-place.invariant.1.0, c.requires.1.1.1.fits, c.atoms_of-atoms.ensures.1))
+    (λ c. omega (arith, c.loop-place-test.true, c.loop-place.invariant.1.0, c.requires.1.1.1.fits, c.requires.1.1.0, c.loop-place.invariant.1.1.1.0)) (λ c. omega (arith, c.loop-place-test.true, c.loop-place.invariant.1.0, c.requires.1.1.1.fits, c.atoms_of-atoms.ensures.1, c.tokens_of-tokens.ensures.1)) mark-requires
+    (λ c. omega (arith, c.atoms_of-atoms.ensures.1)) (λ c. omega (arith, c.atoms_of-atoms.ensures.1)) (λ c. omega (arith, c.atoms_of-atoms.ensures.1, c.tokens_of-tokens.ensures.1, c.mark-below.ensures.0))
+    (λ c. omega (arith, c.loop-place-test.true, c.loop-place.invariant.1.0, c.requires.1.1.1.fits)) (λ c. omega (arith, c.loop-place-test.true, c.loop-place.invariant.1.0, c.requires.1.1.1.fits, c.requires.0, c.loop-place.invariant.1.1.0))
+    (λ c. omega (arith, c.loop-place-test.true, c.loop-place.invariant.1.0, c.requires.1.1.1.fits)) (λ c. omega (arith, c.loop-place-test.true, c.loop-place.invariant.1.0, c.requires.1.1.1.fits)) tell-atoms-requires
+    (λ c. omega (arith, c.loop-place-test.true, c.loop-place.invariant.1.0, c.requires.1.1.1.fits)) (λ c. omega (arith, c.loop-place-test.true, c.loop-place.invariant.1.0, c.requires.1.1.1.fits, c.atoms_of-atoms.ensures.1)) (λ c. omega (arith, c.loop-place-test.true)) again
+    (λ c. c.loop-place.invariant.1.1.0) (λ c. c.loop-place.invariant.1.1.1.0) returns)

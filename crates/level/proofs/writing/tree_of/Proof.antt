@@ -11,7 +11,7 @@ use Rattle.level.proofs.writing.tree_of.Tie as tie
 
 mark-requires : tie.Need-mark-marked-requires
 mark-requires c κs =
-    let start = c.before.before.before.before.before in
+    let start = c in
     let pre = start.requires in
     let s = pre.1.1.1 in
     let long : length start.args.level.ors.token ≡ 256 = search rules in
@@ -19,19 +19,19 @@ mark-requires c κs =
 
 tell-atoms-requires : tie.Need-tell_atoms-requires
 tell-atoms-requires c κs =
-    let start = c.before.before.before.before.before.before.before.before.before.before.before.before.before in
-    let opened = c.before.before.before.before.opened-place in
+    let start = c in
+    let opened = c.opened-place in
     let long : length start.args.level.atoms.token ≡ 256 = search rules in
     (omega arith, (omega (arith, start.requires.0, long), omega (arith, start.requires.0, opened.ensures.1, opened.auto.0)))
 
 tell-children-requires : tie.Need-tell_children-count-requires
 tell-children-requires c κs =
-    let start = c.before.before.before.before.before.before.before.before.before.before.before.before.before.before.before.before.before.before in
+    let start = c in
     let pre = start.requires in
     let s = pre.1.1.1 in
-    let opened = c.before.before.before.before.before.before.before.before.before.opened-place in
-    let mark = c.before.before.before.before.before.before.before.before.before.before.before.before.mark-marked in
-    let tell-atoms = c.before.before.before.before.tell_atoms in
+    let opened = c.opened-place in
+    let mark = c.mark-marked in
+    let tell-atoms = c.tell_atoms in
     let long : length start.args.level.ors.token ≡ 256 = search rules in (
       tell-atoms.auto.0 ∙ opened.auto.0,
       (
@@ -53,12 +53,12 @@ tell-children-requires c κs =
 
 returns : tie.Need-returns
 returns c t kids s =
-    let start = c.before.before.before.before.before.before.before.before.before.before.before.before.before.before.before.before.before.before.before.before.before.before in
-    let mark = c.before.before.before.before.before.before.before.before.before.before.before.before.before.before.before.before.mark-marked in
+    let start = c in
+    let mark = c.mark-marked in
     let m = mark.ensures.1 _ s.children (shown-between s) in
-    let with-atoms = c.before.before.before.before.before.before.before.before.tell_atoms.ensures _ _ _ c.before.before.before.before.before.before.before.before.before.before.before.before.before.opened-place.ensures.0 s.lists (omega (arith, s.lists.size)) in
+    let with-atoms = c.tell_atoms.ensures _ _ _ c.opened-place.ensures.0 s.lists (omega (arith, s.lists.size)) in
     shown-tree s _ (start.args.level.atoms.count + mark.result) (omega (arith, s.lists.size, m.count)) start.requires.0 _
-    (c.before.before.before.tell_children-count.ensures s.children _ _ s.lies m.heads (counted with-atoms (omega arith))) c.root_of.ensures
+    (c.tell_children-count.ensures s.children _ _ s.lies m.heads (counted with-atoms (omega arith))) c.root_of.ensures
 
 pub tree_of_spec : {M : Type 1} → statement M
 tree_of_spec =

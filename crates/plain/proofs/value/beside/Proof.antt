@@ -15,15 +15,15 @@ use Rattle.plain.proofs.Numbers.{fits, back, term_in, listed-c, listed-d, sum-in
 use Rattle.plain.proofs.value.beside.Statement.{statement}
 use Rattle.plain.proofs.value.beside.Tie as tie
 
-near_fits : (c : tie.After-struct_told-1) → SFits w32 c.before.before.args.near.b
+near_fits : (c : tie.After-struct_told-1) → SFits w32 c.args.near.b
 near_fits c = record { sfits = c.struct_told-1.given.1.0.1 }
 
 -- the listed fraction f
-first : (c : tie.After-listed-x) → Is c.listed-x.result c.before.requires.0.0.fraction
-first c = let there = c.before.requires.0.0 in c.listed-x.ensures there.fraction there.is
+first : (c : tie.After-listed-x) → Is c.listed-x.result c.requires.0.0.fraction
+first c = let there = c.requires.0.0 in c.listed-x.ensures there.fraction there.is
 
-first_small : (c : tie.After-listed-x) → Small largest c.before.requires.0.0.fraction
-first_small c = let there = c.before.requires.0.0 in c.before.requires.0.1.small there.fraction there.is
+first_small : (c : tie.After-listed-x) → Small largest c.requires.0.0.fraction
+first_small c = let there = c.requires.0.0 in c.requires.0.1.small there.fraction there.is
 
 add-t7 : tie.Need-overflow-add-t7
 add-t7 c =
@@ -36,25 +36,25 @@ returns : tie.Need-returns-then-b-eq0
 returns c =
     let d = c.before.before.before.before.before in
     let r = d.listed-x.result in
-    let none = none_there d.before.args.near.a d.before.args.near.b (is-zero (near_fits c.before.before.before.before) c.before.before.before.if-b-eq0.true) in
+    let none = none_there d.args.near.a d.args.near.b (is-zero (near_fits c.before.before.before.before) c.if-b-eq0.true) in
     rw (
       back r.c (term_in (listed-c (first d) (first_small d))),
       back r.d (term_in (listed-d (first d) (first_small d))),
       back (r.c +ℤ r.d) (sum-in r.c r.d (listed-c (first d) (first_small d)) (listed-d (first d) (first_small d))),
     ) (
-      record { t = one_more d.before.requires.0.0.fraction; is = more-is (first d).c (first d).d; small = one-more-small (first_small d) },
+      record { t = one_more d.requires.0.0.fraction; is = more-is (first d).c (first d).d; small = one-more-small (first_small d) },
       λ t e. none_beside t none (more-is (d.listed-x.ensures t e).c (d.listed-x.ensures t e).d),
     )
 
 -- the neighbour above it
-other : (c : tie.Else-b-eq0) → There c.before.before.before.args.near
-other c = is-there c.before.before.before.args.near (not_zero (near_fits c.before) c.if-b-eq0.false)
+other : (c : tie.Else-b-eq0) → There c.args.near
+other c = is-there c.args.near (not_zero (near_fits c.before) c.if-b-eq0.false)
 
 second : (c : tie.After-listed-y) → Is c.listed-y.result (other c.before).fraction
 second c = c.listed-y.ensures (other c.before).fraction (other c.before).is
 
 second_small : (c : tie.After-listed-y) → Small largest (other c.before).fraction
-second_small c = c.before.before.before.before.requires.1.small (other c.before).fraction (other c.before).is
+second_small c = c.requires.1.small (other c.before).fraction (other c.before).is
 
 add-t8 : tie.Need-overflow-add-t8
 add-t8 c =
@@ -93,7 +93,7 @@ returns-2 c =
       back (x.d +ℤ y.d) (sum-in x.d y.d xd yd),
     ) (
       record {
-        t = between d.before.requires.0.0.fraction (other e.before).fraction;
+        t = between d.requires.0.0.fraction (other e.before).fraction;
         is = between_is (first d).c (first d).d (second e).c (second e).d;
         small = between-small (first_small d) (second_small e);
       },

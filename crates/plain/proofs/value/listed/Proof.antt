@@ -7,10 +7,10 @@ use Rattle.plain.proofs.Numbers.{widened, wide, negated_fits, falling-terms, ris
 use Rattle.plain.proofs.value.listed.Statement.{statement}
 use Rattle.plain.proofs.value.listed.Tie as tie
 
-a-fits : (c : tie.After-struct_told-1) → SFits w32 c.before.before.args.e.a
+a-fits : (c : tie.After-struct_told-1) → SFits w32 c.args.e.a
 a-fits c = record { sfits = c.struct_told-1.given.0.1 }
 
-b-fits : (c : tie.After-struct_told-2-1) → SFits w32 c.before.before.before.before.args.e.b
+b-fits : (c : tie.After-struct_told-2-1) → SFits w32 c.args.e.b
 b-fits c = record { sfits = c.struct_told-2-1.given.1.0.1 }
 
 cast-a : tie.Need-overflow_cast-a
@@ -29,7 +29,7 @@ returns : tie.Need-returns-then-b-lt0
 returns c t e =
     let a = a-fits c.before.before.before in
     let b = b-fits c.before in
-    let s = c.before.before.before.before.before.args.e in
+    let s = c.args.e in
     let r = falling-terms s.a s.b t (rw (wide b) at c.if-b-lt0.true) e in
     rw (wide a, wide b, to_z-of_z w64 _ (negated_fits b)) (record { c = r.0; d = r.1 })
 
@@ -37,7 +37,7 @@ returns-2 : tie.Need-returns-else-b-lt0
 returns-2 c t e =
     let a = a-fits c.before.before.before in
     let b = b-fits c.before in
-    let s = c.before.before.before.before.before.args.e in
+    let s = c.args.e in
     let r = rising-terms s.a s.b t (rw (wide b) at c.if-b-lt0.false) e in
     rw (wide a, wide b, to_z-of_z w64 _ (negated_fits a)) (record { c = r.0; d = r.1 })
 

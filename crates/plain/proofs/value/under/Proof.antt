@@ -11,19 +11,19 @@ use Rattle.plain.proofs.value.under.Tie as tie
 
 sub-t3 : tie.Need-overflow-sub-t3
 sub-t3 c =
-    let s = c.before.before.before in
+    let s = c in
     let there = s.requires.0 in
-    let i = c.before.before.listed-x.ensures there.fraction there.is in
+    let i = c.listed-x.ensures there.fraction there.is in
     let small = s.requires.1.small there.fraction there.is in
-    let r = c.before.before.listed-x.result in
+    let r = c.listed-x.result in
     rw (back r.c (term_in (listed-c i small)), back r.d (term_in (listed-d i small))) (fits (difference-in r.c r.d (listed-c i small) (listed-d i small)))
 
 returns : tie.Need-returns
 unfolding under
 returns c =
-    let s = c.before.before.before.before in
+    let s = c in
     let there = s.requires.0 in
-    let x = c.before.before.before.listed-x in
+    let x = c.listed-x in
     let i = x.ensures there.fraction there.is in
     let small = s.requires.1.small there.fraction there.is in
     let r = x.result in

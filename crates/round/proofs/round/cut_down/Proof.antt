@@ -45,7 +45,7 @@ returns : tie.Need-returns-then-from-to invariant-loop decreases-loop
 returns c =
     let s = c.before.before.before.before.before.before in
     let h : s.args.from < s.args.to = omega arith in
-    sym (cut-empty-board (table s) _ _ _ _ _ _ _ h (sym c.before.before.any_empty.ensures ∙ c.before.if-any_empty.true))
+    sym (cut-empty-board (table s) _ _ _ _ _ _ _ h (sym c.any_empty.ensures ∙ c.if-any_empty.true))
 
 returns-2 : tie.Need-returns-then-any_empty invariant-loop decreases-loop
 returns-2 c =
@@ -55,11 +55,11 @@ returns-2 c =
 
 deduce-from-requires : tie.Need-deduce_from-requires invariant-loop decreases-loop
 deduce-from-requires c κs =
-    let s = c.before.before.before.before.before.before.before.before.before.before.before in
+    let s = c in
     let ready = s.requires.0 in
     let (most, (low, signed)) = s.requires.1.0 in
-    let i = c.before.before.before.before.loop-i.i in
-    let p = c.before.before.before.before.before.places-run.ensures in
+    let i = c.loop-i.i in
+    let p = c.places-run.ensures in
     let q = c.places-q.ensures in (
       omega (arith, ready.forms.counts),
       (
@@ -70,43 +70,43 @@ deduce-from-requires c κs =
 
 -- after one more atom
 cut_on : (c : tie.After-intersect-sofar invariant-loop decreases-loop) (v : ℕ) (board : Board) →
-    let a = c.before.before.before.before.before.before.before.before.before.before.before.before.before.args in
+    let a = c.args in
     let t = table_of a.coefficient.now a.monomial.now a.terms.now v in
-    let l = c.before.before.before.before.before.before.loop-i in
+    let l = c.loop-i in
     Stands t board a.t6 a.sign.now a.p
     → cut_from t board a.p a.t6 (l.i + 1) a.to c.intersect-sofar.result.0 ≡ cut_from t board a.p a.t6 a.from a.to a.set.0
 cut_on c v board stands =
-    let s = c.before.before.before.before.before.before.before.before.before.before.before.before.before in
+    let s = c in
     let a = s.args in
     let t = table_of a.coefficient.now a.monomial.now a.terms.now v in
-    let l = c.before.before.before.before.before.before.loop-i in
+    let l = c.loop-i in
     let h : l.i < a.to = omega arith in
     let low : l.i < many a.t6.count = omega (arith, s.requires.1.0.0) in
-    let p = c.before.before.before.before.before.before.before.places-run.ensures in
-    let q = c.before.before.places-q.ensures in
+    let p = c.places-run.ensures in
+    let q = c.places-q.ensures in
     let ready = stands.ready in
     let own = run-held a.p ready.forms ready.places s.requires.1.0.1.0 p.0 p.1 stands.own in
     let its = run-held (atom_slot a.t6.number l.i) ready.forms ready.places (omega arith) q.0 q.1 (ready.atoms l.i low) in
     cut_step t a.t6.number a.t6.set board a.p l.i a.to l.sofar.0 h
     (run-form t a.p p.0 p.1) (run-form t (atom_slot a.t6.number l.i) q.0 q.1)
-    (c.before.deduce_from.ensures.on own.signed its.signed stands.none-empty) c.intersect-sofar.ensures
+    (c.deduce_from.ensures.on own.signed its.signed stands.none-empty) c.intersect-sofar.ensures
     ∙ l.invariant v board stands
 
 -- the board of the call
 stands : (c : tie.Else-any_empty invariant-loop decreases-loop) → let s = c.before.before.before.before.before in
     Stands (table s) (sets_of s.args.board) s.args.atoms s.args.sign.now s.args.p
 stands c =
-    let s = c.before.before.before.before.before in
-    record { ready = s.requires.0; own = s.requires.1.0.1.1; none-empty = sym c.before.any_empty.ensures ∙ c.if-any_empty.false }
+    let s = c in
+    record { ready = s.requires.0; own = s.requires.1.0.1.1; none-empty = sym c.any_empty.ensures ∙ c.if-any_empty.false }
 
 returns-3 : tie.Need-returns-then-sofar-floor invariant-loop decreases-loop
 returns-3 c =
     let e = c.before.before.before.before.before.before.before.before.before.before.before in
-    let (low, part) = e.before.before.before.before.before.requires.1.1 in
+    let (low, part) = e.requires.1.1 in
     cut-to-floor _ _ _ c.if-sofar-floor.true low (cut_on c.before.before.before _ _ (stands e)) part
 
 returns-4 : tie.Need-returns invariant-loop decreases-loop
-returns-4 c = sym (cut-end _ _ _ _ _ _ _ _ c.loop-i-test.false) ∙ c.before.loop-i.invariant _ _ (stands c.before.before.before)
+returns-4 c = sym (cut-end _ _ _ _ _ _ _ _ c.loop-i-test.false) ∙ c.loop-i.invariant _ _ (stands c.before.before.before)
 
 pub cut_down_spec : {M : Type 1} → statement M
 cut_down_spec =

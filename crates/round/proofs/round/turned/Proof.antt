@@ -33,28 +33,28 @@ returns c =
 
 cut-down-requires : tie.Need-cut_down-new-requires
 cut-down-requires c κs =
-    let s = c.before.before.before.before.before.before.before.before in
+    let s = c in
     let ((ready, low), (small, part)) = s.requires in (
       ready,
       (
-        (omega (arith, c.before.many-n.ensures), (omega (arith, ready.forms.variables), ready.variables s.args.i low)),
-        (small, rw (ready.forms.each_variable _ low, c.before.many-n.ensures, sub-zero) part),
+        (omega (arith, c.many-n.ensures), (omega (arith, ready.forms.variables), ready.variables s.args.i low)),
+        (small, rw (ready.forms.each_variable _ low, c.many-n.ensures, sub-zero) part),
       ),
     )
 
 -- the set that the deductions leave is the book's
 cut-is : (c : tie.After-cut_down-new) →
-    let s = c.before.before.before.before.before.before.before.before.before in
+    let s = c.before.before.before.before.before.before.before.before in
     let b = s.args.board in
     c.cut_down-new.result.0
     ≡ cut_by (sets_of b) (variable b.variables s.args.i) (atoms_of (table s) s.args.atoms) (get_or b.sets s.args.i 0)
 cut-is c =
-    let ((ready, low), floor) = c.before.before.before.before.before.before.before.before.before.requires in
-    c.cut_down-new.ensures ∙ rw (ready.forms.each_variable _ low, c.before.before.many-n.ensures, sub-zero)
+    let ((ready, low), floor) = c.requires in
+    c.cut_down-new.ensures ∙ rw (ready.forms.each_variable _ low, c.many-n.ensures, sub-zero)
 
 returns-2 : tie.Need-returns-then-new-old
 returns-2 c =
-    let s = c.before.before.before.before.before.before.before.before.before.before.before in
+    let s = c in
     let b = s.args.board in
     let low : s.args.i < few b.variables = omega (arith, s.requires.0.0.forms.variables, s.requires.0.1) in
     record {
@@ -65,7 +65,7 @@ returns-2 c =
 
 returns-3 : tie.Need-returns
 returns-3 c =
-    let s = c.before.before.before.before.before.before.before.before.before.before.before.before.before.before.before in
+    let s = c in
     let b = s.args.board in
     let ready = s.requires.0.0 in
     let low : s.args.i < few b.variables = omega (arith, ready.forms.variables, s.requires.0.1) in
@@ -74,7 +74,7 @@ returns-3 c =
     record {
       variables = refl;
       sets = turn-changes b.variables b.sets s.args.i _ low _ (cut-is c.before.before.before.before.before.before) within;
-      ready = rw c.before.before.sign_list.ensures (list-ready _ s.args.atoms _ ready.forms refl ready.places);
+      ready = rw c.sign_list.ensures (list-ready _ s.args.atoms _ ready.forms refl ready.places);
     }
 
 pub turned_spec : {M : Type 1} → statement M

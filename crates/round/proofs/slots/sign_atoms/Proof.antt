@@ -27,22 +27,22 @@ decreases-loop masks monomial terms sign₀ atoms n i₀ sign i = n - i
 
 slot-by-requires : tie.Need-slot_by-requires invariant-loop decreases-loop
 slot-by-requires c κs =
-    let p = c.before.before.before.before.before.before.before.before.requires in
-    (same-slots p c.before.before.before.loop-i.invariant.1.0, omega arith)
+    let p = c.requires in
+    (same-slots p c.loop-i.invariant.1.0, omega arith)
 
 loop-again : tie.Need-loop-i-preserved invariant-loop decreases-loop
 loop-again c =
-    let l = c.before.before.before.before.before.before.loop-i in
+    let l = c.loop-i in
     let (all, (same_length, so_far)) = l.invariant in
-    let h : l.i < c.before.before.before.before.before.before.before.many-n.result = omega arith in
-    let signed = c.before.before.slot_by in
+    let h : l.i < c.many-n.result = omega arith in
+    let signed = c.slot_by in
     (all, (signed.auto.1.1.1.0 ∙ same_length, λ board of. rw (signed.ensures board of) (sym (signing_step _ _ _ _ _ _ _ h) ∙ so_far board of)))
 
 returns : tie.Need-returns invariant-loop decreases-loop
-returns c = λ board of. sym (signing_end _ _ _ _ _ _ _ c.loop-i-test.false) ∙ c.before.loop-i.invariant.1.1 board of
+returns c = λ board of. sym (signing_end _ _ _ _ _ _ _ c.loop-i-test.false) ∙ c.loop-i.invariant.1.1 board of
 
 pub sign_atoms_spec : {M : Type 1} → statement M
 sign_atoms_spec =
     tie.close
     (tie.spec invariant-loop decreases-loop (λ c κs. search rules) (λ c. (c.many-n.ensures, (refl, λ board of. rw (c.many-n.ensures, sub-zero)))) (λ c. omega arith)
-    (λ c. omega arith) slot-by-requires (λ c. omega arith) (λ c. omega arith) loop-again (λ c. c.before.loop-i.invariant.1.0) returns)
+    (λ c. omega arith) slot-by-requires (λ c. omega arith) (λ c. omega arith) loop-again (λ c. c.loop-i.invariant.1.0) returns)

@@ -21,21 +21,21 @@ abbrev decreases-loop : tie.decreases-loop-k
 decreases-loop monomial terms sign₀ masks k₀ sign k = 80 - k
 
 slot-by-requires : tie.Need-slot_by-requires invariant-loop decreases-loop
-slot-by-requires c κs = (same-slots c.before.before.before.before.before.before.before.requires c.before.before.loop-k.invariant.0, omega arith)
+slot-by-requires c κs = (same-slots c.requires c.loop-k.invariant.0, omega arith)
 
 loop-again : tie.Need-loop-k-preserved invariant-loop decreases-loop
 loop-again c =
-    let l = c.before.before.before.before.before.loop-k in
+    let l = c.loop-k in
     let h : l.k < 80 = omega arith in
-    let signed = c.before.before.slot_by in
+    let signed = c.slot_by in
     (signed.auto.1.1.1.0 ∙ l.invariant.0, λ board of. rw (signed.ensures board of) (sym (signing_step _ _ _ _ _ _ _ h) ∙ l.invariant.1 board of))
 
 returns : tie.Need-returns invariant-loop decreases-loop
 returns c =
-    sym (signing_end _ _ _ _ _ _ _ c.loop-k-test.false) ∙ c.before.loop-k.invariant.1 _ c.before.before.masks_of-masks.ensures
+    sym (signing_end _ _ _ _ _ _ _ c.loop-k-test.false) ∙ c.loop-k.invariant.1 _ c.masks_of-masks.ensures
 
 pub sign_table_spec : {M : Type 1} → statement M
 sign_table_spec =
     tie.close
     (tie.spec invariant-loop decreases-loop (λ c κs. search rules) (λ c. (refl, λ board of. refl)) slot-by-requires (λ c. omega arith) (λ c. omega arith) loop-again
-    (λ c. c.before.loop-k.invariant.0) returns)
+    (λ c. c.loop-k.invariant.0) returns)

@@ -23,21 +23,21 @@ decreases-loop masks variables monomial terms sign₀ i₀ sign i = variables - 
 
 slot-by-requires : tie.Need-slot_by-requires invariant-loop decreases-loop
 slot-by-requires c κs =
-    let p = c.before.before.before.before.before.before.requires in
-    (same-slots p.0 c.before.before.loop-i.invariant.0, omega (arith, p.1))
+    let p = c.requires in
+    (same-slots p.0 c.loop-i.invariant.0, omega (arith, p.1))
 
 loop-again : tie.Need-loop-i-preserved invariant-loop decreases-loop
 loop-again c =
-    let l = c.before.before.before.before.before.loop-i in
-    let h : l.i < c.before.before.before.before.before.before.before.before.before.args.variables = omega arith in
-    let signed = c.before.before.slot_by in
+    let l = c.loop-i in
+    let h : l.i < c.args.variables = omega arith in
+    let signed = c.slot_by in
     (signed.auto.1.1.1.0 ∙ l.invariant.0, λ board of. rw (signed.ensures board of) (sym (signing_step _ _ _ _ _ _ _ h) ∙ l.invariant.1 board of))
 
 returns : tie.Need-returns invariant-loop decreases-loop
-returns c = λ board of. sym (signing_end _ _ _ _ _ _ _ c.loop-i-test.false) ∙ c.before.loop-i.invariant.1 board of
+returns c = λ board of. sym (signing_end _ _ _ _ _ _ _ c.loop-i-test.false) ∙ c.loop-i.invariant.1 board of
 
 pub sign_variables_spec : {M : Type 1} → statement M
 sign_variables_spec =
     tie.close
     (tie.spec invariant-loop decreases-loop (λ c. (refl, λ board of. rw sub-zero)) (λ c. omega arith) slot-by-requires (λ c. omega arith) (λ c. omega arith) loop-again
-    (λ c. c.before.loop-i.invariant.0) returns)
+    (λ c. c.loop-i.invariant.0) returns)

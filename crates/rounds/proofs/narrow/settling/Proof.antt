@@ -27,12 +27,12 @@ abbrev table : tie.Start invariant-loop decreases-loop → Table
 table s = lent_table s.args.coefficient s.args.monomial s.args.terms s.args.board.variables
 
 loop-holds : tie.Need-loop-left-init invariant-loop decreases-loop
-loop-holds c = let s = c.before.before.before.before in (narrow-first s.args.atoms s.args.board refl, s.requires.0.1)
+loop-holds c = let s = c in (narrow-first s.args.atoms s.args.board refl, s.requires.0.1)
 
 ahead-requires : tie.Need-ahead-passed-requires invariant-loop decreases-loop
 ahead-requires c κs =
     let s = c.before.before.before.before.before.before.before in
-    let loop = c.before.before.loop-left in
+    let loop = c.loop-left in
     let own = sym loop.invariant.0.variables in (
       forms-over _ _ _ own s.requires.0.0,
       (
@@ -45,40 +45,40 @@ ahead-requires c κs =
     )
 
 -- the turns
-passed : (c : tie.After-ahead-passed invariant-loop decreases-loop) → let s = c.before.before.before.before.before.before.before.before in Ahead (table s) s.args.atoms c.before.before.before.loop-left.at c.ahead-passed.result c.ahead-passed.new.1.1.1.0
-passed c = ahead-over _ _ _ c.before.before.before.loop-left.invariant.0.variables c.ahead-passed.ensures
+passed : (c : tie.After-ahead-passed invariant-loop decreases-loop) → let s = c.before.before.before.before.before.before.before.before in Ahead (table s) s.args.atoms c.loop-left.at c.ahead-passed.result c.ahead-passed.new.1.1.1.0
+passed c = ahead-over _ _ _ c.loop-left.invariant.0.variables c.ahead-passed.ensures
 
 returns : tie.Need-returns-then-not-passed invariant-loop decreases-loop
-returns c = ends-moving c.before.before.before.before.before.before.before.loop-left.invariant.0 (passed c.before.before.before.before) (not-true _ c.if-not-passed.true)
+returns c = ends-moving c.loop-left.invariant.0 (passed c.before.before.before.before) (not-true _ c.if-not-passed.true)
 
 search-board-requires : tie.Need-search_board-searched-requires invariant-loop decreases-loop
 search-board-requires c κs =
-    let s = c.before.before.before.before.before.before.before.before.before.before.before.before.before.before.before in
-    let turned = passed c.before.before.before.before.before.before.before in
+    let s = c.before.before.before.before.before.before.before.before.before.before.before.before.before.before in
+    let turned = passed c.before.before.before.before.before.before in
     let own = sym turned.variables in
-    let above = above-over _ _ _ own (narrow-above {t = table s} (narrow-turns c.before.before.before.before.before.before.before.before.before.before.loop-left.invariant.0 turned) s.requires.1.0) in (
+    let above = above-over _ _ _ own (narrow-above {t = table s} (narrow-turns c.loop-left.invariant.0 turned) s.requires.1.0) in (
       (ready-over _ _ _ own turned.ready, afresh-filled above.afresh),
       (above.pairs _ above.afresh.boards, above.variables),
     )
 
 -- the finding
-searched : (c : tie.After-search_board-searched invariant-loop decreases-loop) → let s = c.before.before.before.before.before.before.before.before.before.before.before.before.before.before.before.before in SearchedBoard (table s) c.before.before.before.before.before.before.before.before.ahead-passed.result.board s.args.atoms c.search_board-searched.result
-searched c = searched-over _ _ _ (passed c.before.before.before.before.before.before.before.before).variables c.search_board-searched.ensures
+searched : (c : tie.After-search_board-searched invariant-loop decreases-loop) → let s = c.before.before.before.before.before.before.before.before.before.before.before.before.before.before.before in SearchedBoard (table s) c.ahead-passed.result.board s.args.atoms c.search_board-searched.result
+searched c = searched-over _ _ _ (passed c.before.before.before.before.before.before.before).variables c.search_board-searched.ensures
 
 returns-2 : tie.Need-returns-then-not-searched invariant-loop decreases-loop
 returns-2 c =
-    ends-still c.before.before.before.before.before.before.before.before.before.before.before.before.before.loop-left.invariant.0 c.before.before.before.before.before.before.before.before.before.before.before.before.before.before.before.before.before.before.requires.0.0.variables (passed c.before.before.before.before.before.before.before.before.before.before) (searched c.before.before) (not-true _ c.if-not-searched.true)
+    ends-still c.loop-left.invariant.0 c.requires.0.0.variables (passed c.before.before.before.before.before.before.before.before.before) (searched c.before.before) (not-true _ c.if-not-searched.true)
 
 loop-again : tie.Need-loop-left-preserved invariant-loop decreases-loop
 loop-again c =
-    let turned = passed c.before.before.before.before.before.before.before.before.before.before.before in (
-      narrow-found (narrow-turns c.before.before.before.before.before.before.before.before.before.before.before.before.before.before.loop-left.invariant.0 turned) c.before.before.before.before.before.before.before.before.before.before.before.before.before.before.before.before.before.before.before.requires.0.0.variables (searched c.before.before.before) (not-false _ c.before.if-not-searched.false),
+    let turned = passed c.before.before.before.before.before.before.before.before.before.before in (
+      narrow-found (narrow-turns c.loop-left.invariant.0 turned) c.requires.0.0.variables (searched c.before.before.before) (not-false _ c.if-not-searched.false),
       turned.ready.places,
     )
 
 pub settling_spec : {M : Type 1} → statement M
 settling_spec =
     tie.close
-    (tie.spec invariant-loop decreases-loop (λ c. omega (arith, c.before.before.before.before.requires.0.0.variables)) (λ c. omega (arith, c.before.before.before.before.requires.0.0.variables)) loop-holds (λ c. omega arith)
-    ahead-requires (λ c. search rules) returns search-board-requires (λ c. (passed c.before.before.before.before.before.before.before.before.before.before).ready.places ∙ sym c.before.before.before.before.before.before.before.before.before.before.before.before.before.before.before.before.before.before.requires.0.1) returns-2 (λ c. omega (arith, c.before.before.before.before.before.before.before.before.before.before.before.before.before.loop-left-test.true)) loop-again
-    (λ c. search rules) (λ c. ends-early c.before.loop-left.invariant.0 refl refl))
+    (tie.spec invariant-loop decreases-loop (λ c. omega (arith, c.requires.0.0.variables)) (λ c. omega (arith, c.requires.0.0.variables)) loop-holds (λ c. omega arith)
+    ahead-requires (λ c. search rules) returns search-board-requires (λ c. (passed c.before.before.before.before.before.before.before.before.before.before).ready.places ∙ sym c.requires.0.1) returns-2 (λ c. omega (arith, c.loop-left-test.true)) loop-again
+    (λ c. search rules) (λ c. ends-early c.loop-left.invariant.0 refl refl))

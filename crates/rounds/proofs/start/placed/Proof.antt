@@ -11,20 +11,20 @@ use Rattle.rounds.proofs.start.placed.Tie as tie
 
 -- the variable is one of the board's
 low : (c : tie.In-Variable-2) → let s = c.before.before in c.holds-1.given.0.0 < s.args.board.variables
-low c = let s = c.before.before in subst (λ h. Below s.args.board.variables h) c.holds-1.given.1 s.requires.1
+low c = let s = c in subst (λ h. Below s.args.board.variables h) c.holds-1.given.1 s.requires.1
 
 element-copy-out-old : tie.Need-bounds-board-i
-element-copy-out-old c = omega (arith, low c.before, c.before.before.before.requires.0)
+element-copy-out-old c = omega (arith, low c.before, c.requires.0)
 
 element-write-narrowed : tie.Need-bounds-narrowed-i
-element-write-narrowed c = omega (arith, low c.before.before.before, c.before.before.before.before.before.requires.0)
+element-write-narrowed c = omega (arith, low c.before.before.before, c.requires.0)
 
 returns-2 : tie.Need-returns-in-Variable
 returns-2 c =
-    let s = c.before.before.before.before.before in
+    let s = c in
     let l = low c.before.before.before in
     let sixteen : length s.args.board.sets ≡ 16 = search rules in
-    placed_at s.args.board c.before.before.before.holds-1.given.1 (omega (arith, s.requires.0)) (omega (arith, s.requires.0)) c.intersect-new.ensures
+    placed_at s.args.board c.holds-1.given.1 (omega (arith, s.requires.0)) (omega (arith, s.requires.0)) c.intersect-new.ensures
 
 pub placed_spec : {M : Type 1} → statement M
 placed_spec =

@@ -30,64 +30,64 @@ abbrev table : tie.Start invariant-loop decreases-loop → Table
 table s = lent_table s.args.coefficient s.args.monomial s.args.terms s.args.start.board.variables
 
 returns : tie.Need-returns-then-within invariant-loop decreases-loop
-returns c = let s = c.before.before.before.before.before.before in left-by-bound s.requires.1.0 s.args.before (c.before.within.ensures c.if-within.true) (enough (state_of (table s) s.args.start))
+returns c = let s = c.before.before.before.before.before.before in left-by-bound s.requires.1.0 s.args.before (c.within.ensures c.if-within.true) (enough (state_of (table s) s.args.start))
 
 sign-list-requires : tie.Need-sign_list-requires invariant-loop decreases-loop
-sign-list-requires c κs = let s = c.before.before.before.before.before.before.before.before.before in (form-slots s.requires.0 (length-replicate {A = ℕ} 1280 0), s.requires.0.variables)
+sign-list-requires c κs = let s = c in (form-slots s.requires.0 (length-replicate {A = ℕ} 1280 0), s.requires.0.variables)
 
 loop-holds : tie.Need-loop-left-init invariant-loop decreases-loop
 loop-holds c =
     let s = c.before.before.before.before.before.before.before.before.before.before.before in
-    stand-first _ refl (rw c.before.sign_list.ensures (list-ready {t = table s} s.args.start.board s.args.start.atoms _ s.requires.0 refl (length-replicate {A = ℕ} 1280 0))) s.requires.1.0
+    stand-first _ refl (rw c.sign_list.ensures (list-ready {t = table s} s.args.start.board s.args.start.atoms _ s.requires.0 refl (length-replicate {A = ℕ} 1280 0))) s.requires.1.0
 
 turned-round-requires : tie.Need-turned_round-onward-requires invariant-loop decreases-loop
 turned-round-requires c κs =
-    let loop = c.before.before.loop-left in
+    let loop = c.loop-left in
     (ready-over _ _ _ (sym loop.invariant.variables) loop.invariant.ready, bounded-over _ _ _ (sym loop.invariant.variables) loop.invariant.bounded)
 
 -- where the next round begins
 onward : (c : tie.After-turned_round-onward invariant-loop decreases-loop) →
     let s = c.before.before.before.before.before.before.before.before.before.before.before.before.before.before.before in
-    TurnedOn (table s) s.args.start.atoms c.before.before.before.loop-left.stood s.args.floor c.turned_round-onward.result c.turned_round-onward.new.1.1.1.0
-onward c = turned-on-over _ _ _ c.before.before.before.loop-left.invariant.variables c.turned_round-onward.ensures
+    TurnedOn (table s) s.args.start.atoms c.loop-left.stood s.args.floor c.turned_round-onward.result c.turned_round-onward.new.1.1.1.0
+onward c = turned-on-over _ _ _ c.loop-left.invariant.variables c.turned_round-onward.ensures
 
 -- the rounds counted down from
 enough-of : (c : tie.At-loop-left invariant-loop decreases-loop) →
     let s = c.before.before.before.before.before.before.before.before.before.before.before.before in
-    max s.args.largest (s.args.before + turned_rounds s.args.start.board.variables (atoms_of (table s) s.args.start.atoms) (2 * (s.args.start.board.variables + c.before.before.before.before.before.many.result) + 1) (sets_of s.args.start.board))
+    max s.args.largest (s.args.before + turned_rounds s.args.start.board.variables (atoms_of (table s) s.args.start.atoms) (2 * (s.args.start.board.variables + c.many.result) + 1) (sets_of s.args.start.board))
     ≡ max s.args.largest (s.args.before + turned_rounds s.args.start.board.variables (atoms_of (table s) s.args.start.atoms) (enough (state_of (table s) s.args.start)) (sets_of s.args.start.board))
 enough-of c =
     let s = c.before.before.before.before.before.before.before.before.before.before.before.before in
     ap (λ (k : ℕ). max s.args.largest (s.args.before + turned_rounds s.args.start.board.variables (atoms_of (table s) s.args.start.atoms) k (sets_of s.args.start.board)))
-    (enough-is (table s) s.args.start _ s.requires.0.variables c.before.before.before.before.before.many.ensures)
+    (enough-is (table s) s.args.start _ s.requires.0.variables c.many.ensures)
 
 returns-2 : tie.Need-returns-then-not-onward invariant-loop decreases-loop
 returns-2 c =
-    let s = c.before.before.before.before.before.before.before.before.before.before.before.before.before.before.before.before.before.before.before in
-    let rest = stand-rest c.before.before.before.before.before.before.before.loop-left.invariant c.before.before.before.before.before.before.loop-left-test.true (onward c.before.before.before.before) (not-true _ c.before.if-not-onward.true) in
+    let s = c in
+    let rest = stand-rest c.loop-left.invariant c.loop-left-test.true (onward c.before.before.before.before) (not-true _ c.if-not-onward.true) in
     c.larger.ensures ∙ ap (λ (k : ℕ). max s.args.largest (s.args.before + k)) rest ∙ enough-of c.before.before.before.before.before.before.before
 
 within-requires-2 : tie.Need-within-requires-in-loop-left invariant-loop decreases-loop
-within-requires-2 c κs = let s = c.before.before.before.before.before.before.before.before.before.before.before.before.before.before.before.before.before.before.before in omega (arith, s.requires.1.1, s.requires.0.variables, c.before.before.before.before.before.before.before.before.before.before.before.before.many.ensures)
+within-requires-2 c κs = let s = c in omega (arith, s.requires.1.1, s.requires.0.variables, c.many.ensures)
 
 returns-3 : tie.Need-returns-then-within-2 invariant-loop decreases-loop
 returns-3 c =
-    let s = c.before.before.before.before.before.before.before.before.before.before.before.before.before.before.before.before.before.before.before.before.before in
-    let on = stand-on c.before.before.before.before.before.before.before.before.before.loop-left.invariant c.before.before.before.before.before.before.before.before.loop-left-test.true (onward c.before.before.before.before.before.before) (not-false _ c.before.before.before.if-not-onward.false) in
-    stand-left on s.args.before (c.before.within-in-loop-left.ensures c.if-within-2.true) ∙ enough-of c.before.before.before.before.before.before.before.before.before
+    let s = c in
+    let on = stand-on c.loop-left.invariant c.loop-left-test.true (onward c.before.before.before.before.before.before) (not-false _ c.if-not-onward.false) in
+    stand-left on s.args.before (c.within-in-loop-left.ensures c.if-within-2.true) ∙ enough-of c.before.before.before.before.before.before.before.before.before
 
 loop-again : tie.Need-loop-left-preserved invariant-loop decreases-loop
-loop-again c = stand-on c.before.before.before.before.before.before.before.before.before.loop-left.invariant c.before.before.before.before.before.before.before.before.loop-left-test.true (onward c.before.before.before.before.before.before) (not-false _ c.before.before.before.if-not-onward.false)
+loop-again c = stand-on c.loop-left.invariant c.loop-left-test.true (onward c.before.before.before.before.before.before) (not-false _ c.if-not-onward.false)
 
 returns-4 : tie.Need-returns invariant-loop decreases-loop
 returns-4 c =
-    let s = c.before.before.before.before.before.before.before.before.before.before.before.before.before.before in
-    let last = stand-last c.before.before.loop-left.invariant (omega (arith, c.before.loop-left-test.false)) in
+    let s = c in
+    let last = stand-last c.loop-left.invariant (omega (arith, c.loop-left-test.false)) in
     c.larger-2.ensures ∙ ap (λ (k : ℕ). max s.args.largest (s.args.before + k)) last ∙ enough-of c.before.before
 
 pub turned_largest_spec : {M : Type 1} → statement M
 turned_largest_spec =
     tie.close
-    (tie.spec invariant-loop decreases-loop (λ c κs. omega (arith, c.before.before.before.before.requires.1.1)) returns (λ c κs. search rules) (λ c. omega (arith, c.before.before.before.before.before.before.before.before.requires.0.variables, c.before.many.ensures)) (λ c. omega (arith, c.before.before.before.before.before.before.before.before.requires.0.variables, c.before.many.ensures)) (λ c. omega (arith, c.before.before.before.before.before.before.before.before.requires.0.variables, c.before.many.ensures)) (λ c. search rules) sign-list-requires loop-holds
-    (λ c. omega (arith, c.loop-left-test.true)) (λ c. omega (arith, c.before.loop-left.invariant.most)) (λ c. omega (arith, c.before.before.before.before.before.before.before.before.before.before.before.before.before.requires.1.1, c.before.before.before.before.before.before.before.before.before.before.before.before.before.requires.0.variables, c.before.before.before.before.before.before.many.ensures)) (λ c. search (rules, c.before.before.loop-left.invariant.ready)) turned-round-requires (λ c κs. search rules) returns-2
-    within-requires-2 returns-3 (λ c. omega (arith, c.before.before.before.before.before.before.before.before.loop-left-test.true)) loop-again (λ c. omega (arith, c.before.before.before.before.before.before.before.before.before.before.before.before.before.requires.1.1, c.before.before.before.before.before.before.before.before.before.before.before.before.before.requires.0.variables, c.before.before.before.before.before.before.many.ensures)) (λ c κs. search rules) returns-4)
+    (tie.spec invariant-loop decreases-loop (λ c κs. omega (arith, c.requires.1.1)) returns (λ c κs. search rules) (λ c. omega (arith, c.requires.0.variables, c.many.ensures)) (λ c. omega (arith, c.requires.0.variables, c.many.ensures)) (λ c. omega (arith, c.requires.0.variables, c.many.ensures)) (λ c. search rules) sign-list-requires loop-holds
+    (λ c. omega (arith, c.loop-left-test.true)) (λ c. omega (arith, c.loop-left.invariant.most)) (λ c. omega (arith, c.requires.1.1, c.requires.0.variables, c.many.ensures)) (λ c. search (rules, c.loop-left.invariant.ready)) turned-round-requires (λ c κs. search rules) returns-2
+    within-requires-2 returns-3 (λ c. omega (arith, c.loop-left-test.true)) loop-again (λ c. omega (arith, c.requires.1.1, c.requires.0.variables, c.many.ensures)) (λ c κs. search rules) returns-4)

@@ -21,7 +21,7 @@ table s = lent_table s.args.coefficient s.args.monomial s.args.terms s.args.boar
 
 after-turns-requires : tie.Need-after_turns-next-requires
 after-turns-requires c κs =
-    let s = c.before.before.before.before in
+    let s = c in
     (s.requires.0, (s.requires.1.above.variables, s.requires.1.turns _ s.requires.1.above.afresh.boards))
 
 new-long : (c : tie.After-after_turns-next) → length c.after_turns-next.result.sets ≡ 16
@@ -29,23 +29,23 @@ new-long c = search rules
 
 same-sets-requires : tie.Need-same_sets-requires
 same-sets-requires c κs =
-    let s = c.before.before.before.before.before.before.before.before.before.before.before.before in
+    let s = c in
     let old : length s.args.board.sets ≡ 16 = search rules in
     (omega (arith, c.few.ensures, old), omega (arith, c.few.ensures, new-long c.before.before.before.before.before.before.before))
 
 -- whether the turns left every set
-same : (c : tie.After-same_sets) → c.same_sets.result ≡ same_sets (sets_of c.before.before.before.before.before.before.before.before.before.before.before.before.before.args.board) (sets_of c.before.before.before.before.before.before.before.before.after_turns-next.result)
+same : (c : tie.After-same_sets) → c.same_sets.result ≡ same_sets (sets_of c.args.board) (sets_of c.after_turns-next.result)
 same c =
-    let after = c.before.before.before.before.before.before.before.before.after_turns-next in
-    same-is c.before.before.before.before.before.before.before.before.before.before.before.before.before.args.board after.result after.ensures.variables c.before.few.ensures c.same_sets.ensures
+    let after = c.after_turns-next in
+    same-is c.args.board after.result after.ensures.variables c.few.ensures c.same_sets.ensures
 
 returns : tie.Need-returns-then-not-same_sets
-returns c = turned-changed c.before.before.before.before.before.before.before.before.before.before.before.before.before.before.requires.1 c.before.before.before.before.before.before.before.before.before.after_turns-next.ensures (sym (same c.before) ∙ not-true _ c.if-not-same_sets.true)
+returns c = turned-changed c.requires.1 c.after_turns-next.ensures (sym (same c.before) ∙ not-true _ c.if-not-same_sets.true)
 
 search-board-requires : tie.Need-search_board-searched-requires
 search-board-requires c κs =
-    let s = c.before.before.before.before.before.before.before.before.before.before.before.before.before.before.before in
-    let after = c.before.before.before.before.before.before.before.before.before.before.after_turns-next in
+    let s = c in
+    let after = c.after_turns-next in
     let own = sym after.ensures.variables in
     let above = (bounded-over _ _ _ own (turned-bounded s.requires.1 after.ensures)).above in (
       (ready-over _ _ _ own after.ensures.ready, afresh-filled above.afresh),
@@ -54,17 +54,17 @@ search-board-requires c κs =
 
 returns-2 : tie.Need-returns
 returns-2 c =
-    let s = c.before.before.before.before.before.before.before.before.before.before.before.before.before.before.before.before.before.before.before.before.before in
-    let after = c.before.before.before.before.before.before.before.before.before.before.before.before.before.before.before.before.after_turns-next in
-    let searched = searched-over _ _ _ after.ensures.variables c.before.before.before.before.before.search_board-searched.ensures in
-    turned-searched s.requires.1 after.ensures (sym (same c.before.before.before.before.before.before.before.before) ∙ not-false _ c.before.before.before.before.before.before.before.if-not-same_sets.false) searched
-    (rw c.before.before.sign_list.ensures (list-ready {t = table s} c.before.before.before.before.before.search_board-searched.result.board s.args.atoms _ s.requires.0.forms (searched.variables ∙ after.ensures.variables) after.ensures.ready.places))
+    let s = c.before.before.before.before.before.before.before.before.before.before.before.before.before.before.before.before.before.before.before.before in
+    let after = c.after_turns-next in
+    let searched = searched-over _ _ _ after.ensures.variables c.search_board-searched.ensures in
+    turned-searched s.requires.1 after.ensures (sym (same c.before.before.before.before.before.before.before) ∙ not-false _ c.if-not-same_sets.false) searched
+    (rw c.sign_list.ensures (list-ready {t = table s} c.search_board-searched.result.board s.args.atoms _ s.requires.0.forms (searched.variables ∙ after.ensures.variables) after.ensures.ready.places))
 
 sign-list-requires : tie.Need-sign_list-requires
 sign-list-requires c κs =
-    let s = c.before.before.before.before.before.before.before.before.before.before.before.before.before.before.before.before.before.before in
-    let after = c.before.before.before.before.before.before.before.before.before.before.before.before.before.after_turns-next in
-    (form-slots {t = table s} s.requires.0.forms after.ensures.ready.places, rw (c.before.before.search_board-searched.ensures.variables ∙ after.ensures.variables) s.requires.0.forms.variables)
+    let s = c.before.before.before.before.before.before.before.before.before.before.before.before.before.before.before.before.before in
+    let after = c.after_turns-next in
+    (form-slots {t = table s} s.requires.0.forms after.ensures.ready.places, rw (c.search_board-searched.ensures.variables ∙ after.ensures.variables) s.requires.0.forms.variables)
 
 pub turned_round_spec : {M : Type 1} → statement M
 turned_round_spec =

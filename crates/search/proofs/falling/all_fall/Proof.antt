@@ -20,20 +20,20 @@ abbrev decreases-loop : tie.decreases-loop-i
 decreases-loop monomial terms atoms n i₀ i = n - i
 
 slot-falls-requires : tie.Need-slot_falls-requires invariant-loop decreases-loop
-slot-falls-requires c κs = (c.before.before.before.before.before.before.requires, omega arith)
+slot-falls-requires c κs = (c.requires, omega arith)
 
 loop-again : tie.Need-loop-i-preserved invariant-loop decreases-loop
 loop-again c =
-    let a = c.before.before.before.before.before.before.before.before.args in
-    let l = c.before.before.before.before.loop-i in (
+    let a = c.args in
+    let l = c.loop-i in (
       l.invariant.0,
       below_more (λ (j : ℕ). FallingSlot a.monomial.now a.terms.now (atom_slot a.t3.number j)) l.i l.invariant.1
-          (c.before.slot_falls.ensures (not-false c.before.slot_falls.result c.if-not-slot_falls.false)),
+          (c.slot_falls.ensures (not-false c.slot_falls.result c.if-not-slot_falls.false)),
     )
 
 returns-2 : tie.Need-returns invariant-loop decreases-loop
 returns-2 c e =
-    let l = c.before.loop-i in
+    let l = c.loop-i in
     record { each = λ j h. l.invariant.1 j (omega (arith, h, l.invariant.0, c.loop-i-test.false)) }
 
 pub all_fall_spec : {M : Type 1} → statement M

@@ -20,20 +20,20 @@ abbrev decreases-loop : tie.decreases-loop-i
 decreases-loop masks columns₀ atoms n i₀ columns i = n - i
 
 mask-at-requires : tie.Need-mask_at-mask-requires invariant-loop decreases-loop
-mask-at-requires c κs = (omega arith, c.before.before.before.before.before.before.requires.0)
+mask-at-requires c κs = (omega arith, c.requires.0)
 
 note-requires : tie.Need-note-requires invariant-loop decreases-loop
-note-requires c κs = (omega arith, c.before.before.before.before.loop-i.invariant.1.0)
+note-requires c κs = (omega arith, c.loop-i.invariant.1.0)
 
 loop-again : tie.Need-loop-i-preserved invariant-loop decreases-loop
 loop-again c =
-    let s = c.before.before.before.before.before.before.before.before.before.before.before in
-    let l = c.before.before.before.before.before.before.before.loop-i in
+    let s = c in
+    let l = c.loop-i in
     let (all, (words, so_far)) = l.invariant in
-    let after = c.before.before.note.new.1.1.1.0 in
+    let after = c.note.new.1.1.1.0 in
     let set = get_or s.args.atoms.set in
-    let took = subst (λ (q : Mask). Took l.columns l.i q (set l.i 0) after) c.before.before.before.before.mask_at-mask.ensures
-    c.before.before.note.ensures in (
+    let took = subst (λ (q : Mask). Took l.columns l.i q (set l.i 0) after) c.mask_at-mask.ensures
+    c.note.ensures in (
       all,
       (
         took.more.same_length ∙ words,
@@ -44,13 +44,13 @@ loop-again c =
 
 returns : tie.Need-returns invariant-loop decreases-loop
 returns c =
-    let l = c.before.loop-i in
+    let l = c.loop-i in
     record { words = l.invariant.1.0; atoms = λ j h. l.invariant.1.1 j (omega (arith, l.invariant.0)) }
 
 pub note_list_spec : {M : Type 1} → statement M
 note_list_spec =
     tie.close
     (tie.spec invariant-loop decreases-loop (λ c κs. search rules)
-    (λ c. (c.many-n.ensures, (c.before.before.before.requires.1, λ j h. absurd (omega arith)))) (λ c. omega arith)
+    (λ c. (c.many-n.ensures, (c.requires.1, λ j h. absurd (omega arith)))) (λ c. omega arith)
     mask-at-requires note-requires (λ c. omega arith) (λ c. omega arith) loop-again
-    (λ c. c.before.loop-i.invariant.1.0 ∙ sym c.before.before.before.before.before.requires.1) returns)
+    (λ c. c.loop-i.invariant.1.0 ∙ sym c.requires.1) returns)

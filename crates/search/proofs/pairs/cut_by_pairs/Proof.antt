@@ -32,20 +32,20 @@ start l = l.before.before.before.before.before.before.before.before.before
 
 mask-of-slot-requires : tie.Need-mask_of_slot-mask-requires invariant-loop decreases-loop
 mask-of-slot-requires c κs =
-    let s = c.before.before.before.before.before.before in
+    let s = c in
     (form-slots s.requires.0.0.forms s.requires.0.0.places, (s.requires.0.0.forms.coefficients, s.requires.1.0.0))
 
 falls-with-requires : tie.Need-falls_with-all_fall-requires invariant-loop decreases-loop
 falls-with-requires c κs =
-    let s = c.before.before.before.before.before.before.before in
+    let s = c in
     let forms = s.requires.0.0.forms in
     (record { monomials = forms.monomials; counts = forms.counts; few = forms.few }, s.requires.1.0.0)
 
 cut-with-requires : tie.Need-cut_with-cut-requires invariant-loop decreases-loop
 cut-with-requires c κs =
     let d = c.before in
-    let all = d.before.before.before.many-n.ensures in
-    let own = d.before.before.mask_of_slot-mask.ensures in
+    let all = d.many-n.ensures in
+    let own = d.mask_of_slot-mask.ensures in
     let s = start d in
     let words = s.pre.1.1 in (
       s.pre.0,
@@ -55,7 +55,7 @@ cut-with-requires c κs =
           words.masked,
           (
             (own, words.noted),
-            λ e. let (list, falls) = d.before.falls_with-all_fall.ensures e in record { own = falls; atoms = words.falling list },
+            λ e. let (list, falls) = d.falls_with-all_fall.ensures e in record { own = falls; atoms = words.falling list },
           ),
         ),
       ),
@@ -66,26 +66,26 @@ returns c =
     let d = c.before.before.before.before in
     let s = start d in
     let l = d.loop-i in
-    let all = d.before.before.before.many-n.ensures in
-    let h : l.i < many s.args.atoms.count = omega (arith, all, c.before.before.before.loop-i-test.true) in
+    let all = d.many-n.ensures in
+    let h : l.i < many s.args.atoms.count = omega (arith, all, c.loop-i-test.true) in
     walk-stop s.args.all l.sofar.0 _ _ l.invariant (tries-step (table s) s.args.atoms _ _ l.i h)
-    c.before.before.cut_with-cut.ensures (sym c.before.stops.ensures ∙ c.if-stops.true)
+    c.cut_with-cut.ensures (sym c.stops.ensures ∙ c.if-stops.true)
 
 loop-again : tie.Need-loop-i-preserved invariant-loop decreases-loop
 loop-again c =
     let d = c.before.before.before.before in
     let s = start d in
     let l = d.loop-i in
-    let all = d.before.before.before.many-n.ensures in
-    let h : l.i < many s.args.atoms.count = omega (arith, all, c.before.before.before.loop-i-test.true) in
+    let all = d.many-n.ensures in
+    let h : l.i < many s.args.atoms.count = omega (arith, all, c.loop-i-test.true) in
     walk-on s.args.all l.sofar.0 _ _ l.invariant (tries-step (table s) s.args.atoms _ _ l.i h)
-    c.before.before.cut_with-cut.ensures (sym c.before.stops.ensures ∙ c.if-stops.false)
+    c.cut_with-cut.ensures (sym c.stops.ensures ∙ c.if-stops.false)
 
 returns-2 : tie.Need-returns invariant-loop decreases-loop
 returns-2 c =
     let d = c.before in
     let s = start d in
-    let all = d.before.before.before.many-n.ensures in
+    let all = d.many-n.ensures in
     let h : many s.args.atoms.count ≤ d.loop-i.i = omega (arith, all, c.loop-i-test.false) in
     walk_end s.args.all d.loop-i.invariant (tries-end (table s) s.args.atoms _ _ _ h)
 

@@ -48,25 +48,25 @@ start l = l.before.before.before.before.before.before.before.before.before.befor
 
 mask-at-requires : tie.Need-mask_at-mask1-requires invariant-loop decreases-loop
 mask-at-requires c κs =
-    let s = c.before.before.before.before.before.before.before.before.before.before in
+    let s = c in
     (omega (arith, s.requires.1.0.1.1), s.requires.1.1.0.words)
 
 candidates-requires : tie.Need-candidates-left-requires invariant-loop decreases-loop
-candidates-requires c κs = c.before.before.before.before.before.before.before.before.before.before.before.requires.1.1.1.0.1.words
+candidates-requires c κs = c.requires.1.1.1.0.1.words
 
 next-requires : tie.Need-next-j-requires invariant-loop decreases-loop
-next-requires c κs = omega (arith, c.before.before.before.before.before.before.many-n.ensures)
+next-requires c κs = omega (arith, c.many-n.ensures)
 
 loop-holds : tie.Need-loop-j-init invariant-loop decreases-loop
 loop-holds c =
-    let s = c.before.before.before.before.before.before.before.before.before.before.before.before.before in
+    let s = c in
     let (low, (signed, at)) = s.requires.1.0 in
     let (masked, ((own, noted), falling)) = s.requires.1.1 in
-    let word = c.before.candidates-left.ensures in (
+    let word = c.candidates-left.ensures in (
       word,
       λ v board h. skips h low s.args.i at own masked noted s.args.all s.args.set.0
-          c.before.before.mask_at-mask1.ensures word c.next-j.ensures
-          c.before.before.before.before.before.before.before.many-n.ensures,
+          c.mask_at-mask1.ensures word c.next-j.ensures
+          c.many-n.ensures,
     )
 
 places-requires-3 : tie.Need-places-q2-requires invariant-loop decreases-loop
@@ -75,7 +75,7 @@ places-requires-3 c κs = (omega arith, (start c.before.before.before).pre.0.0.f
 mask-at-requires-2 : tie.Need-mask_at-mask2-requires invariant-loop decreases-loop
 mask-at-requires-2 c κs =
     let l = c.before.before.before.before in
-    (omega (arith, l.before.before.before.before.before.before.before.before.many-n.ensures), (start l).requires.1.1.0.words)
+    (omega (arith, l.many-n.ensures), (start l).requires.1.1.0.words)
 
 cut-by-sifted-pair-requires : tie.Need-cut_by_sifted_pair-cut-requires invariant-loop decreases-loop
 cut-by-sifted-pair-requires c κs =
@@ -87,11 +87,11 @@ cut-by-sifted-pair-requires c κs =
     let slot = atom_slot s.args.atoms.number in
     let i = s.args.i in
     let j = d.loop-j.j in
-    let all = d.before.before.before.before.before.before.before.before.many-n.ensures in
+    let all = d.many-n.ensures in
     let next : j < many s.args.atoms.count = omega (arith, all) in
-    let p = d.before.before.before.before.before.before.before.places-run.ensures in
-    let q1 = d.before.before.before.before.places-q1.ensures in
-    let q2 = c.before.places-q2.ensures in (
+    let p = d.places-run.ensures in
+    let q1 = d.places-q1.ensures in
+    let q2 = c.places-q2.ensures in (
       (
         record {
           p = held-places (run-held s.args.p ready.forms ready.places low p.0 p.1 signed);
@@ -100,7 +100,7 @@ cut-by-sifted-pair-requires c κs =
         },
         record {
           p = of-run s.args.terms.now s.args.p p.0 p.1 own;
-          q1 = atom-mask masked i at d.before.before.before.mask_at-mask1.ensures q1.0 q1.1;
+          q1 = atom-mask masked i at d.mask_at-mask1.ensures q1.0 q1.1;
           q2 = atom-mask masked j next c.mask_at-mask2.ensures q2.0 q2.1;
         },
       ),
@@ -127,11 +127,11 @@ cut-is c v board h =
     let slot = atom_slot a.t8.number in
     let i = a.i in
     let j = l.loop-j.j in
-    let all = l.before.before.before.before.before.before.before.before.many-n.ensures in
-    let next : j < many a.t8.count = omega (arith, all, c.before.before.before.before.before.loop-j-test.true) in
-    let p = l.before.before.before.before.before.before.before.places-run.ensures in
-    let q1 = l.before.before.before.before.places-q1.ensures in
-    let q2 = c.before.before.places-q2.ensures in
+    let all = l.many-n.ensures in
+    let next : j < many a.t8.count = omega (arith, all, c.loop-j-test.true) in
+    let p = l.places-run.ensures in
+    let q1 = l.places-q1.ensures in
+    let q2 = c.places-q2.ensures in
     let ready = h.ready in
     let own = run-held a.p ready.forms ready.places s.pre.1.0.0 p.0 p.1 h.own in
     let first = run-held (slot i) ready.forms ready.places (omega arith) q1.0 q1.1 (ready.atoms i s.pre.1.0.1.1) in
@@ -145,25 +145,25 @@ returns c =
     let d = c.before.before.before.before.before.before.before.before in
     let s = start d in
     let l = d.loop-j in
-    let all = d.before.before.before.before.before.before.before.before.many-n.ensures in
-    let h : l.j < many s.args.atoms.count = omega (arith, all, c.before.before.before.before.before.before.before.loop-j-test.true) in
+    let all = d.many-n.ensures in
+    let h : l.j < many s.args.atoms.count = omega (arith, all, c.loop-j-test.true) in
     walk-stop s.args.all l.sofar.0 _ _ (l.invariant.1 _ _ (stands s)) (with-step (table s) s.args.atoms _ _ l.j _ h)
-    (cut-is c.before.before _ _ (stands s)) (sym c.before.stops.ensures ∙ c.if-stops.true)
+    (cut-is c.before.before _ _ (stands s)) (sym c.stops.ensures ∙ c.if-stops.true)
 
 add-next-2 : tie.Need-overflow-add-next-2 invariant-loop decreases-loop
 add-next-2 c =
-    let l = c.before.before.before.before.before.before.before.before.before in
-    let all = l.before.before.before.before.before.before.before.before.many-n.ensures in
-    let h : l.loop-j.j < 64 = omega (arith, c.before.before.before.before.before.before.before.before.loop-j-test.true, all) in
+    let l = c in
+    let all = l.many-n.ensures in
+    let h : l.loop-j.j < 64 = omega (arith, c.loop-j-test.true, all) in
     search rules
 
 next-requires-2 : tie.Need-next-j-requires-in-loop-j invariant-loop decreases-loop
 next-requires-2 c κs =
-    let l = c.before.before.before.before.before.before.before.before.before in
-    omega (arith, l.before.before.before.before.before.before.before.before.many-n.ensures)
+    let l = c in
+    omega (arith, l.many-n.ensures)
 
 loop-less : tie.Need-loop-j-smaller invariant-loop decreases-loop
-loop-less c = omega (arith, c.next-j-in-loop-j.ensures.on, c.before.before.before.before.before.before.before.before.before.loop-j-test.true)
+loop-less c = omega (arith, c.next-j-in-loop-j.ensures.on, c.loop-j-test.true)
 
 loop-again : tie.Need-loop-j-preserved invariant-loop decreases-loop
 loop-again c =
@@ -173,23 +173,23 @@ loop-again c =
     let (low, (signed, at)) = s.pre.1.0 in
     let (masked, ((own, noted), falling)) = s.pre.1.1 in
     let l = d.loop-j in
-    let all = d.before.before.before.before.before.before.before.before.many-n.ensures in
-    let on = c.before.before.before.before.before.before.before.before.before.loop-j-test.true in
+    let all = d.many-n.ensures in
+    let on = c.loop-j-test.true in
     let h : l.j < many a.t8.count = omega (arith, all, on) in
-    let word = c.before.still-left.ensures.candidates l.invariant.0 in (
+    let word = c.still-left.ensures.candidates l.invariant.0 in (
       word,
-      λ v board k. skips k low a.i at own masked noted a.all c.before.before.before.before.cut_by_sifted_pair-cut.result.0
-          d.before.before.before.mask_at-mask1.ensures word c.next-j-in-loop-j.ensures all
+      λ v board k. skips k low a.i at own masked noted a.all c.cut_by_sifted_pair-cut.result.0
+          d.mask_at-mask1.ensures word c.next-j-in-loop-j.ensures all
           ∙ walk-on a.all l.sofar.0 _ _ (l.invariant.1 v board k)
           (with-step (table_of a.coefficient.now a.monomial.now a.terms.now v) a.t8 board _ l.j _ h)
-          (cut-is c.before.before.before.before v board k) (sym c.before.before.before.stops.ensures ∙ c.before.before.if-stops.false),
+          (cut-is c.before.before.before.before v board k) (sym c.stops.ensures ∙ c.if-stops.false),
     )
 
 returns-2 : tie.Need-returns invariant-loop decreases-loop
 returns-2 c =
     let d = c.before in
     let s = start d in
-    let all = d.before.before.before.before.before.before.before.before.many-n.ensures in
+    let all = d.many-n.ensures in
     let h : many s.args.atoms.count ≤ d.loop-j.j = omega (arith, all) in
     walk_end s.args.all (d.loop-j.invariant.1 _ _ (stands s)) (with-end (table s) s.args.atoms _ _ _ _ h)
 

@@ -17,12 +17,12 @@ decreases-loop board floor n i₀ i = n - i
 
 loop-again : tie.Need-loop-i-preserved invariant-loop decreases-loop
 loop-again c =
-    let a = c.before.before.before.before.before.args in
-    let l = c.before.before.before.before.loop-i in
+    let a = c.args in
+    let l = c.loop-i in
     below_more (λ (j : ℕ). get_or a.t1.sets j 0 ≡ get_or a.t2.sets j 0) l.i l.invariant c.if-set-low.false
 
 returns-2 : tie.Need-returns invariant-loop decreases-loop
-returns-2 c e = record { each = λ j h. c.before.loop-i.invariant j (omega arith) }
+returns-2 c e = record { each = λ j h. c.loop-i.invariant j (omega arith) }
 
 pub above_spec : {M : Type 1} → statement M
 above_spec =

@@ -22,18 +22,18 @@ returns-2 c =
     let s = c.before.before.before.before.before.before.before in
     let (idle, same) = s.requires.1 in
     all-at-floor s.args.board s.args.floor s.requires.0.0.forms.variables same (table s) s.args.atoms refl idle
-    (c.before.above.ensures (not-true c.before.above.result c.if-not-above.true))
+    (c.above.ensures (not-true c.above.result c.if-not-above.true))
 
 words-of-requires : tie.Need-words_of-falls-requires
 words-of-requires c κs =
-    let s = c.before.before.before.before.before.before.before.before.before in
+    let s = c in
     let (ready, filled) = s.requires.0 in
     (form-slots ready.forms ready.places, (ready.forms.coefficients, (refl, refl)))
 
 search-board-by-requires : tie.Need-search_board_by-requires
 search-board-by-requires c κs =
-    let s = c.before.before.before.before.before.before.before.before.before.before.before.before.before.before in
-    (s.requires.0, (s.requires.1, c.before.before.before.before.words_of-falls.ensures))
+    let s = c in
+    (s.requires.0, (s.requires.1, c.words_of-falls.ensures))
 
 pub search_board_spec : {M : Type 1} → statement M
 search_board_spec =

@@ -34,7 +34,7 @@ goes-requires : tie.Need-goes-told-requires invariant-loop decreases-loop
 goes-requires c κs =
     let s = c.before.before.before.before.before.before.before.before.before.before.before.before.before in
     let (ready, from) = s.requires.0 in
-    let l = c.before.before.before.before.before.loop-i in
+    let l = c.loop-i in
     let afresh = afresh-others s.args.list (atoms_of (table s) l.auto.atoms) from (omega (arith, l.invariant.1.0)) l.invariant.1.1.1.0 (c.joined-others.ensures (table s)) in
     ((ready, (from.variables, omega arith)), ((s.requires.1.0.atoms l.i (omega arith), afresh), s.requires.1.1))
 
@@ -42,20 +42,20 @@ fresh-rounds-requires : tie.Need-fresh_rounds-rounds-requires invariant-loop dec
 fresh-rounds-requires c κs =
     let s = c.before.before.before.before.before.before.before.before.before.before.before.before.before.before.before in
     let (ready, from) = s.requires.0 in
-    let l = c.before.before.before.before.before.before.before.loop-i in
-    (ready.forms, afresh-others s.args.list (atoms_of (table s) l.auto.atoms) from (omega (arith, l.invariant.1.0)) l.invariant.1.1.1.0 (c.before.before.joined-others.ensures (table s)))
+    let l = c.loop-i in
+    (ready.forms, afresh-others s.args.list (atoms_of (table s) l.auto.atoms) from (omega (arith, l.invariant.1.0)) l.invariant.1.1.1.0 (c.joined-others.ensures (table s)))
 
 loop-again : tie.Need-loop-i-preserved invariant-loop decreases-loop
 loop-again c =
     let s = c.before.before.before.before.before.before.before.before.before.before.before.before.before.before.before.before.before in
     let a = s.args.list in
-    let l = c.before.before.before.before.before.before.before.before.before.loop-i in
+    let l = c.loop-i in
     let atom : Atom = atom_at (table s) a.number a.set l.i in
     let stays : Bool = stays_by s.args.variables (state_of (table s) s.args.state) atom in
-    let others = c.before.before.before.before.joined-others.ensures (table s) in
-    let out = c.before.before.before.goes-told.ensures ∙ ap (λ (others : List Atom). not stays && implied_by s.args.variables others atom) others in
-    let counted = rw others at c.before.fresh_rounds-rounds.ensures in
-    let more = c.before.before.before.before.before.before.before.before.loop-i-test.true in (
+    let others = c.joined-others.ensures (table s) in
+    let out = c.goes-told.ensures ∙ ap (λ (others : List Atom). not stays && implied_by s.args.variables others atom) others in
+    let counted = rw others at c.fresh_rounds-rounds.ensures in
+    let more = c.loop-i-test.true in (
       omega (arith, more),
       (
         l.invariant.1.0,
@@ -71,16 +71,16 @@ loop-again c =
 
 returns : tie.Need-returns invariant-loop decreases-loop
 returns c = (
-  removing-last c.before.loop-i.invariant.1.1.0 (omega arith),
-  counting-last c.before.loop-i.invariant.1.1.1.1 (omega arith),
+  removing-last c.loop-i.invariant.1.1.0 (omega arith),
+  counting-last c.loop-i.invariant.1.1.1.1 (omega arith),
 )
 
 pub remove_spec : {M : Type 1} → statement M
 remove_spec =
     tie.close
     (tie.spec invariant-loop decreases-loop (λ c κs. search rules) (λ c κs. search rules)
-    (λ c. (omega arith, (c.before.many-end.ensures, (removing-first _ _ _ _ _ _ (length-replicate {A = Bool} 64 false), (some_first _ _ _ _, counting-first _ _ _ _ _ _ _)))))
+    (λ c. (omega arith, (c.many-end.ensures, (removing-first _ _ _ _ _ _ (length-replicate {A = Bool} 64 false), (some_first _ _ _ _, counting-first _ _ _ _ _ _ _)))))
     (λ c. omega arith) (λ c. omega arith) (λ c. omega arith) (λ c. omega arith)
-    (λ c κs. omega (arith, c.before.before.before.before.loop-i.invariant.1.1.0.count)) goes-requires fresh-rounds-requires
-    (λ c κs. (omega (arith, c.before.before.before.before.before.before.before.loop-i-test.true, c.before.before.before.before.before.before.before.before.loop-i.invariant.1.0), omega (arith, c.before.before.before.before.before.before.before.loop-i-test.true, c.before.before.before.before.before.before.before.before.loop-i.invariant.1.0, c.before.before.before.before.before.before.before.before.loop-i.invariant.1.1.0.count)))
-    (λ c. omega (arith, c.before.before.before.before.before.before.before.before.loop-i-test.true, c.before.before.before.before.before.before.before.before.before.loop-i.invariant.1.0)) (λ c. omega (arith, c.before.before.before.before.before.before.before.before.loop-i-test.true)) loop-again returns)
+    (λ c κs. omega (arith, c.loop-i.invariant.1.1.0.count)) goes-requires fresh-rounds-requires
+    (λ c κs. (omega (arith, c.loop-i-test.true, c.loop-i.invariant.1.0), omega (arith, c.loop-i-test.true, c.loop-i.invariant.1.0, c.loop-i.invariant.1.1.0.count)))
+    (λ c. omega (arith, c.loop-i-test.true, c.loop-i.invariant.1.0)) (λ c. omega (arith, c.loop-i-test.true)) loop-again returns)

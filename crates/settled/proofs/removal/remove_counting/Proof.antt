@@ -35,7 +35,7 @@ goes-requires : tie.Need-goes-told-requires invariant-loop decreases-loop
 goes-requires c κs =
     let s = c.before.before.before.before.before.before.before.before.before.before.before.before.before.before in
     let (ready, from) = s.requires.0 in
-    let l = c.before.before.before.before.before.loop-i in
+    let l = c.loop-i in
     let afresh = afresh-others s.args.list (atoms_of (table s) l.auto.atoms) from (omega (arith, l.invariant.1.0)) l.invariant.1.1.1.0 (c.joined-others.ensures (table s)) in
     ((ready, (from.variables, omega arith)), ((s.requires.1.0.atoms l.i (omega arith), afresh), s.requires.1.1))
 
@@ -43,15 +43,15 @@ counted-requires : tie.Need-counted-counting-requires invariant-loop decreases-l
 counted-requires c κs =
     let s = c.before.before.before.before.before.before.before.before.before.before.before.before.before.before.before.before in
     let (ready, from) = s.requires.0 in
-    let l = c.before.before.before.before.before.before.before.loop-i in
-    let more = c.before.before.before.before.before.before.loop-i-test.true in (
+    let l = c.loop-i in
+    let more = c.loop-i-test.true in (
       ready.forms,
       (
         record {
           low = omega (arith, more, l.invariant.1.0);
           room = omega (arith, more, l.invariant.1.0, l.invariant.1.1.0.count);
           afresh = afresh-remaining s.args.list from l.invariant.1.1.1.0;
-          are = c.before.before.joined-others.ensures (table s);
+          are = c.joined-others.ensures (table s);
         },
         l.invariant.1.1.1.1.1,
       ),
@@ -61,13 +61,13 @@ loop-again : tie.Need-loop-i-preserved invariant-loop decreases-loop
 loop-again c =
     let s = c.before.before.before.before.before.before.before.before.before.before.before.before.before.before.before.before.before.before in
     let a = s.args.list in
-    let l = c.before.before.before.before.before.before.before.before.before.loop-i in
+    let l = c.loop-i in
     let atom : Atom = atom_at (table s) a.number a.set l.i in
     let stays : Bool = stays_by s.args.variables (state_of (table s) s.args.state) atom in
-    let others = c.before.before.before.before.joined-others.ensures (table s) in
-    let out = c.before.before.before.goes-told.ensures ∙ ap (λ (others : List Atom). not stays && implied_by s.args.variables others atom) others in
-    let counted = rw others at c.before.counted-counting.ensures.counts in
-    let more = c.before.before.before.before.before.before.before.before.loop-i-test.true in (
+    let others = c.joined-others.ensures (table s) in
+    let out = c.goes-told.ensures ∙ ap (λ (others : List Atom). not stays && implied_by s.args.variables others atom) others in
+    let counted = rw others at c.counted-counting.ensures.counts in
+    let more = c.loop-i-test.true in (
       omega (arith, more),
       (
         l.invariant.1.0,
@@ -77,7 +77,7 @@ loop-again c =
             some_more (table s) (omega (arith, more, l.invariant.1.0)) l.invariant.1.1.1.0 c.kept_unless-kept.ensures,
             (
               counting-next l.invariant.1.1.1.1.0 (omega (arith, more, l.invariant.1.0)) out counted c.kept_unless-kept.ensures,
-              known_next (table s) a l.auto c.kept_unless-kept.ensures c.before.counted-counting.ensures.known,
+              known_next (table s) a l.auto c.kept_unless-kept.ensures c.counted-counting.ensures.known,
             ),
           ),
         ),
@@ -86,16 +86,16 @@ loop-again c =
 
 returns : tie.Need-returns invariant-loop decreases-loop
 returns c = (
-  removing-last c.before.loop-i.invariant.1.1.0 (omega arith),
-  counting-last c.before.loop-i.invariant.1.1.1.1.0 (omega arith),
+  removing-last c.loop-i.invariant.1.1.0 (omega arith),
+  counting-last c.loop-i.invariant.1.1.1.1.0 (omega arith),
 )
 
 pub remove_counting_spec : {M : Type 1} → statement M
 remove_counting_spec =
     tie.close
     (tie.spec invariant-loop decreases-loop (λ c κs. search rules) (λ c κs. search rules) (λ c κs. search rules)
-    (λ c. (omega arith, (c.before.before.many-end.ensures, (removing-first _ _ _ _ _ _ (length-replicate {A = Bool} 64 false), (some_first _ _ _ _, (counting-first _ _ _ _ _ _ _, λ e. absurd (c.unknown.ensures e)))))))
+    (λ c. (omega arith, (c.many-end.ensures, (removing-first _ _ _ _ _ _ (length-replicate {A = Bool} 64 false), (some_first _ _ _ _, (counting-first _ _ _ _ _ _ _, λ e. absurd (c.unknown.ensures e)))))))
     (λ c. omega arith) (λ c. omega arith) (λ c. omega arith) (λ c. omega arith)
-    (λ c κs. omega (arith, c.before.before.before.before.loop-i.invariant.1.1.0.count)) goes-requires counted-requires
-    (λ c κs. (omega (arith, c.before.before.before.before.before.before.before.loop-i-test.true, c.before.before.before.before.before.before.before.before.loop-i.invariant.1.0), omega (arith, c.before.before.before.before.before.before.before.loop-i-test.true, c.before.before.before.before.before.before.before.before.loop-i.invariant.1.0, c.before.before.before.before.before.before.before.before.loop-i.invariant.1.1.0.count)))
-    (λ c. omega (arith, c.before.before.before.before.before.before.before.before.loop-i-test.true, c.before.before.before.before.before.before.before.before.before.loop-i.invariant.1.0)) (λ c. omega (arith, c.before.before.before.before.before.before.before.before.loop-i-test.true)) loop-again returns)
+    (λ c κs. omega (arith, c.loop-i.invariant.1.1.0.count)) goes-requires counted-requires
+    (λ c κs. (omega (arith, c.loop-i-test.true, c.loop-i.invariant.1.0), omega (arith, c.loop-i-test.true, c.loop-i.invariant.1.0, c.loop-i.invariant.1.1.0.count)))
+    (λ c. omega (arith, c.loop-i-test.true, c.loop-i.invariant.1.0)) (λ c. omega (arith, c.loop-i-test.true)) loop-again returns)

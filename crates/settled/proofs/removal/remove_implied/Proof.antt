@@ -43,7 +43,7 @@ signs-ready c =
     let s = start c in
     let (forms, from) = s.pre in
     both-ready s.args.state.board s.args.state.atoms s.args.list _ forms from.variables (length-replicate {A = ℕ} 1280 0)
-    c.before.before.before.sign_list.ensures c.sign_list-2.ensures
+    c.sign_list.ensures c.sign_list-2.ensures
 
 words-of-requires : tie.Need-words_of-falls-requires
 words-of-requires c κs =
@@ -54,7 +54,7 @@ remove-requires : tie.Need-remove-requires
 remove-requires c κs =
     let signs = c.before.before.before.before.before.before.before.before.before.before.before.before in
     let (ready, listed) = signs-ready signs in
-    ((ready, (start signs).requires.1), (listed, c.before.before.before.before.before.before.before.words_of-falls.ensures))
+    ((ready, (start signs).requires.1), (listed, c.words_of-falls.ensures))
 
 returns : tie.Need-returns-then-variables-many
 returns c =
@@ -65,7 +65,7 @@ remove-counting-requires : tie.Need-remove_counting-requires
 remove-counting-requires c κs =
     let signs = c.before.before.before.before.before.before.before.before.before.before.before.before in
     let (ready, listed) = signs-ready signs in
-    ((ready, (start signs).requires.1), (listed, c.before.before.before.before.before.before.before.words_of-falls.ensures))
+    ((ready, (start signs).requires.1), (listed, c.words_of-falls.ensures))
 
 returns-2 : tie.Need-returns
 returns-2 c =

@@ -7,23 +7,23 @@ use Rattle.sieve.proofs.tries.some_test.Statement.{statement}
 use Rattle.sieve.proofs.tries.some_test.Tie as tie
 
 returns : tie.Need-returns-then-not-cuts
-returns c = test-cannot (un_not {b = c.before.before.args.cuts} c.if-not-cuts.true)
+returns c = test-cannot (un_not {b = c.args.cuts} c.if-not-cuts.true)
 
 returns-5 : tie.Need-returns
 returns-5 c =
-    test-passed c.before.before.before.before.before.before.before.before.before.before.before.before.before.before.half-below1.ensures
-    c.before.before.before.before.before.before.before.before.before.before.before.before.before.half-above1.ensures
-    c.before.before.before.before.before.before.before.before.before.before.before.before.half-below2.ensures
-    c.before.before.before.before.before.before.before.before.before.before.before.half-above2.ensures
-    c.before.before.before.before.before.before.before.before.before.before.both.ensures
-    c.before.before.before.before.before.before.before.before.before.some_halves-row1.ensures
-    (omega (arith, c.before.before.before.before.before.before.before.before.if-n-row1.false))
-    c.before.before.before.before.before.before.before.both-2.ensures
-    c.before.before.before.before.before.before.some_halves-row2.ensures
-    (omega (arith, c.before.before.before.before.before.if-n-row2.false))
-    c.before.before.before.before.both-3.ensures c.before.before.before.some_halves-row3.ensures
-    (omega (arith, c.before.before.if-n-row3.false))
-    c.before.both-4.ensures c.some_halves-row4.ensures (λ e. leb-false _ _ e)
+    test-passed c.half-below1.ensures
+    c.half-above1.ensures
+    c.half-below2.ensures
+    c.half-above2.ensures
+    c.both.ensures
+    c.some_halves-row1.ensures
+    (omega (arith, c.if-n-row1.false))
+    c.both-2.ensures
+    c.some_halves-row2.ensures
+    (omega (arith, c.if-n-row2.false))
+    c.both-3.ensures c.some_halves-row3.ensures
+    (omega (arith, c.if-n-row3.false))
+    c.both-4.ensures c.some_halves-row4.ensures (λ e. leb-false _ _ e)
 
 pub some_test_spec : {M : Type 1} → statement M
 some_test_spec =
@@ -33,6 +33,6 @@ some_test_spec =
     (λ c κs. search rules) (λ c κs. search rules) (λ c. test-passes)
     (λ c κs. search rules)
     (λ c κs. (
-      c.before.before.before.before.before.before.before.before.before.before.before.before.before.before.before.before.requires,
+      c.requires,
       (omega arith, omega arith),
     )) returns-5)

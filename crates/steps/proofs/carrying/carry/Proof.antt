@@ -8,17 +8,17 @@ use Rattle.steps.proofs.carrying.carry.Tie as tie
 
 contradiction : tie.Need-returns-then-ran
 contradiction c l h =
-    let s = c.before.before.before.before.before.before.before.before in
-    let atoms = c.before.before.before.atoms_in-atoms.ensures in
-    contradicts l (atoms.0 ∙ h.size) (omega (arith, h.size, s.requires.1.1)) (atoms.1 _ l h) s.args.largest c.before.before.run_largest-ran.ensures c.if-ran.true _ h
+    let s = c in
+    let atoms = c.atoms_in-atoms.ensures in
+    contradicts l (atoms.0 ∙ h.size) (omega (arith, h.size, s.requires.1.1)) (atoms.1 _ l h) s.args.largest c.run_largest-ran.ensures c.if-ran.true _ h
 
 carries : tie.Need-returns
 carries c l h =
-    let s = c.before.before.before.before.before.before.before.before.before.before.before.before.before in
-    let atoms = c.before.before.before.before.before.before.before.before.atoms_in-atoms.ensures in
+    let s = c in
+    let atoms = c.atoms_in-atoms.ensures in
     carries-on l (atoms.0 ∙ h.size) (omega (arith, h.size, s.requires.1.1)) (atoms.1 _ l h) s.args.largest
-    c.before.before.before.before.before.before.before.run_largest-ran.ensures c.before.before.before.before.before.if-ran.false
-    c.before.before.before.before.carried-cut.ensures _ (c.before.before.with_sets.ensures l h)
+    c.run_largest-ran.ensures c.if-ran.false
+    c.carried-cut.ensures _ (c.with_sets.ensures l h)
 
 pub carry_spec : {M : Type 1} → statement M
 carry_spec =

@@ -7,14 +7,14 @@ use Rattle.steps.proofs.carrying.without_implied.Tie as tie
 
 remove-implied-requires : tie.Need-remove_implied-removed-requires
 remove-implied-requires c κs =
-    let (forms, (long, (few, left))) = c.before.before.before.before.before.requires in
+    let (forms, (long, (few, left))) = c.requires in
     (forms, rw (c.atoms_in-atoms.ensures.1 _ left.list left.lists) left.carries)
 
 returns : tie.Need-returns
 returns c l h =
-    let atoms = c.before.before.before.before.before.before.atoms_in-atoms in
-    let removed = c.before.before.before.before.before.remove_implied-removed in
-    remains atoms.result (atoms.ensures.1 _ l h) removed.ensures.0 removed.ensures.1 _ (c.before.before.kept_of-count.ensures l h)
+    let atoms = c.atoms_in-atoms in
+    let removed = c.remove_implied-removed in
+    remains atoms.result (atoms.ensures.1 _ l h) removed.ensures.0 removed.ensures.1 _ (c.kept_of-count.ensures l h)
 
 pub without_implied_spec : {M : Type 1} → statement M
 without_implied_spec =

@@ -8,15 +8,15 @@ use Rattle.steps.proofs.sweeping.sweep.Tie as tie
 
 words-of-requires : tie.Need-words_of-falls-requires
 words-of-requires c κs =
-    let worked-out = c.before.before.before.before.sign_table in
-    let forms = c.before.before.before.before.before.before.before.before.before.before.before.requires.0 in
+    let worked-out = c.sign_table in
+    let forms = c.requires.0 in
     (form-slots forms worked-out.auto.1.1.1.0, (forms.coefficients, (length-replicate {A = ℕ} 128 0, length-replicate {A = ℕ} 130 0)))
 
 walk-over-requires : tie.Need-walk_over-requires
 walk-over-requires c κs =
     let words = c.before.before.before.before.before in
-    let signs = words.before.before.before.before.before in
-    let pre = signs.before.before.before.before.before.before.before.requires in
+    let signs = words in
+    let pre = signs.requires in
     let worked-out = signs.sign_table in (
       record {
         forms = pre.0;

@@ -21,9 +21,9 @@ decreases-loop coefficient monomial terms variables list₀ n count₀ i₀ list
 
 is-open : tie.Need-loop-i-preserved-in-Open invariant-loop decreases-loop
 is-open c =
-    let called = c.before.before in
-    let loop = called.before.before.before.before.before.before.before.loop-i in
-    let test = called.before.before.before.before.before.before.loop-i-test.true in
+    let called = c in
+    let loop = called.loop-i in
+    let test = called.loop-i-test.true in
     let inv = loop.invariant in
     let ahead = inv.1.1.1.0 in
     let into = called.merge_into-count.ensures in (
@@ -36,8 +36,8 @@ is-open c =
             ahead-too (ahead-later (loop.i + 1) into.1.0 (omega (arith, inv.1.0))) (ahead-later (loop.i + 1) ahead (omega arith)),
             λ l h.
                 let m = rw (rest-ahead {i = loop.i} h (omega (arith, h.size, test)) ahead) at (inv.1.1.1.1 l h) in
-                merge-open m _ called.before.before.before.before.if_constant-constant.ensures called.before.before.enum_told-1.given.1 _
-                (into.1.1 _ m.list called.before.before.before.before.before.before.before.before.before.before.before.requires.0 m.lists),
+                merge-open m _ called.if_constant-constant.ensures called.enum_told-1.given.1 _
+                (into.1.1 _ m.list called.requires.0 m.lists),
           ),
         ),
       ),
@@ -45,8 +45,8 @@ is-open c =
 
 is_true : tie.Need-loop-i-preserved invariant-loop decreases-loop
 is_true c =
-    let loop = c.before.before.before.before.before.loop-i in
-    let test = c.before.before.before.before.loop-i-test.true in
+    let loop = c.loop-i in
+    let test = c.loop-i-test.true in
     let inv = loop.invariant in
     let ahead = inv.1.1.1.0 in (
       omega (arith, test),
@@ -56,7 +56,7 @@ is_true c =
           inv.1.1.0,
           (
             ahead-later (loop.i + 1) ahead (omega arith),
-            λ l h. merge-true (rw (rest-ahead {i = loop.i} h (omega (arith, h.size, test)) ahead) at (inv.1.1.1.1 l h)) _ c.before.before.if_constant-constant.ensures c.enum_told-in-True-1.given.1,
+            λ l h. merge-true (rw (rest-ahead {i = loop.i} h (omega (arith, h.size, test)) ahead) at (inv.1.1.1.1 l h)) _ c.if_constant-constant.ensures c.enum_told-in-True-1.given.1,
           ),
         ),
       ),
@@ -64,25 +64,25 @@ is_true c =
 
 is_false : tie.Need-returns-in-False invariant-loop decreases-loop
 is_false c =
-    let loop = c.before.before.before.before.before.loop-i in
+    let loop = c.loop-i in
     let inv = loop.invariant in (
       omega (arith, inv.0, inv.1.0),
       λ l h.
-          merge-false (rw (rest-ahead {i = loop.i} h (omega (arith, h.size, c.before.before.before.before.loop-i-test.true)) inv.1.1.1.0) at (inv.1.1.1.1 l h)) _ c.before.before.if_constant-constant.ensures
+          merge-false (rw (rest-ahead {i = loop.i} h (omega (arith, h.size, c.loop-i-test.true)) inv.1.1.1.0) at (inv.1.1.1.1 l h)) _ c.if_constant-constant.ensures
           c.enum_told-in-False-1.given.1,
     )
 
 returns : tie.Need-returns invariant-loop decreases-loop
 returns c = (
-  omega (arith, c.before.loop-i.invariant.0, c.before.loop-i.invariant.1.0),
-  λ l h. merge-end (rw (rest-none l c.before.loop-i.i (omega (arith, h.size, c.loop-i-test.false))) at (c.before.loop-i.invariant.1.1.1.1 l h)),
+  omega (arith, c.loop-i.invariant.0, c.loop-i.invariant.1.0),
+  λ l h. merge-end (rw (rest-none l c.loop-i.i (omega (arith, h.size, c.loop-i-test.false))) at (c.loop-i.invariant.1.1.1.1 l h)),
 )
 
 pub merge_spec : {M : Type 1} → statement M
 merge_spec =
     tie.close
     (tie.spec invariant-loop decreases-loop (λ c. (omega arith, (omega arith, (refl, (ahead-start _ 0, λ l h. merge-start _ l _ (record { is = refl; size = refl })))))) (λ c. omega arith) (λ c. omega arith) (λ c. omega arith)
-    (λ c κs. c.before.before.before.before.before.before.requires.0) (λ c. c.in-Open.keys1)
-    (λ c κs. omega (arith, c.before.before.before.before.before.loop-i-test.true, c.before.before.before.before.before.before.loop-i.invariant.1.0, c.before.before.before.before.before.before.loop-i.invariant.1.1.0, c.before.before.before.before.before.before.before.before.before.before.requires.1)) (λ c. omega (arith, c.before.before.before.before.before.before.before.before.loop-i-test.true)) is-open
-    (λ c. c.in-True.keys2) (λ c. omega (arith, c.before.before.before.before.loop-i-test.true)) is_true (λ c. c.in-False.keys3) (λ c. c.before.before.before.before.before.loop-i.invariant.1.1.0) is_false
-    (λ c. c.before.loop-i.invariant.1.1.0) returns)
+    (λ c κs. c.requires.0) (λ c. c.in-Open.keys1)
+    (λ c κs. omega (arith, c.loop-i-test.true, c.loop-i.invariant.1.0, c.loop-i.invariant.1.1.0, c.requires.1)) (λ c. omega (arith, c.loop-i-test.true)) is-open
+    (λ c. c.in-True.keys2) (λ c. omega (arith, c.loop-i-test.true)) is_true (λ c. c.in-False.keys3) (λ c. c.loop-i.invariant.1.1.0) is_false
+    (λ c. c.loop-i.invariant.1.1.0) returns)

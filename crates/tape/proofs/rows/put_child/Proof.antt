@@ -10,7 +10,7 @@ use Rattle.tape.proofs.rows.put_child.Tie as tie
 
 lay-requires : tie.Need-lay-requires
 lay-requires c κs =
-    let start = c.before.before.before.before in
+    let start = c in
     let row = start.args.row in
     let atoms = start.args.atoms in
     let long = length-set row.token row.count (atoms.count * 65536 + start.args.inner.count) ∙ length_unmapped ℕ row.token 256 start.well_formed.0.1.1.0.1.0.1 in
@@ -19,23 +19,23 @@ lay-requires c κs =
 
 lay-requires-2 : tie.Need-lay-requires-2
 lay-requires-2 c κs =
-    let start = c.before.before.before.before.before.before.before.before.before in
+    let start = c in
     let row = start.args.row in
     let inner = start.args.inner in
-    let long = c.before.before.before.before.lay.auto.0 ∙ length-set row.token row.count (start.args.atoms.count * 65536 + inner.count) ∙ length_unmapped ℕ row.token 256 start.well_formed.0.1.1.0.1.0.1 in
+    let long = c.lay.auto.0 ∙ length-set row.token row.count (start.args.atoms.count * 65536 + inner.count) ∙ length_unmapped ℕ row.token 256 start.well_formed.0.1.1.0.1.0.1 in
     let inner-long = length_unmapped ℕ inner.token 256 start.well_formed.1.1.0.1.1.0.1.0.1 in
     (omega arith, (omega (arith, start.requires, inner-long), omega (arith, start.requires, long)))
 
 returns : tie.Need-returns
 returns c =
-    let start = c.before.before.before.before.before.before.before.before.before.before.before in
+    let start = c in
     let row = start.args.row in
     let long = length_unmapped ℕ row.token 256 start.well_formed.0.1.1.0.1.0.1 in (
       omega arith,
       λ earlier l own a b d.
           let headed = stored row.token row.count _ (omega (arith, start.requires, long)) _ a in
-          let with-atoms = c.before.before.before.before.before.before.lay.ensures _ _ l headed b (omega (arith, b.size)) in
-          let with-inner = c.before.lay-2.ensures _ _ _ (counted with-atoms (omega arith)) d (omega (arith, d.size)) in
+          let with-atoms = c.lay.ensures _ _ l headed b (omega (arith, b.size)) in
+          let with-inner = c.lay-2.ensures _ _ _ (counted with-atoms (omega arith)) d (omega (arith, d.size)) in
           child-made earlier l own _ _ b.size d.size (counted with-inner (omega arith)),
     )
 

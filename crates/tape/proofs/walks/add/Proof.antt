@@ -7,23 +7,23 @@ use Rattle.tape.proofs.walks.add.Statement.{statement}
 use Rattle.tape.proofs.walks.add.Tie as tie
 
 falls : tie.Need-returns-then-end-eq0
-falls c t walk kids s h = goes-as (omega arith) (tells_none h c.before.before.if-n-eq0.true c.before.if-end-eq0.true) (c.fallen.ensures t walk s)
+falls c t walk kids s h = goes-as (omega arith) (tells_none h c.if-n-eq0.true c.if-end-eq0.true) (c.fallen.ensures t walk s)
 
 splices : tie.Need-returns-then-first-inner
 splices c t walk kids s h =
-    let atoms = c.before.before.before.atoms_of-first.ensures.0 in
-    let f = tells-child h _ _ atoms c.before.before.tokens_of-inner.ensures.0 (omega arith) c.before.before.before.before.before.before.if-n-eq0.true
-    c.before.before.before.before.before.if-end-eq0.false c.before.if-first-inner.true in
+    let atoms = c.atoms_of-first.ensures.0 in
+    let f = tells-child h _ _ atoms c.tokens_of-inner.ensures.0 (omega arith) c.if-n-eq0.true
+    c.if-end-eq0.false c.if-first-inner.true in
     goes-as (omega arith) f.1.1.1.1 (c.spliced.ensures t walk f.0 f.1.0 s f.1.1.0 f.1.1.1.0)
 
 joins : tie.Need-returns-then-end-eq0-2
-joins c t walk kids s h = goes-as (omega arith) (tells-atom h c.before.before.before.if-n-eq1.true c.before.before.if-end-eq0-2.true) (c.joined.ensures t walk s)
+joins c t walk kids s h = goes-as (omega arith) (tells-atom h c.if-n-eq1.true c.if-end-eq0-2.true) (c.joined.ensures t walk s)
 
 stays : tie.Need-returns
 stays c t walk kids s h =
     let f = tells_more h (omega arith)
-    (λ z. ⊎_elim (λ w. (w.1.left, λ e. w.5.left (omega (arith, e, w.3.ensures.0, w.4.ensures.0)))) (λ w. absurd (w.left z)) c.before.before.if-n-eq0.branch)
-    (λ z y. ⊎_elim (λ w. w.1.left y) (λ w. w.left z) c.before.if-n-eq1.branch) in
+    (λ z. ⊎_elim (λ w. (w.1.left, λ e. w.5.left (omega (arith, e, w.3.ensures.0, w.4.ensures.0)))) (λ w. absurd (w.left z)) c.if-n-eq0.branch)
+    (λ z y. ⊎_elim (λ w. w.1.left y) (λ w. w.left z) c.if-n-eq1.branch) in
     goes-as (omega arith) f.1 (c.stayed.ensures t walk h.list h.children s h.lists h.lies f.0)
 
 pub add_spec : {M : Type 1} → statement M

@@ -34,7 +34,7 @@ unfolding factors factor_at
 returns-7 c = rw c.in-6.keys7
 
 returns-8 : tie.Need-returns-in_default
-returns-8 c = last-factor c.before.args.i c.in_default.rest
+returns-8 c = last-factor c.args.i c.in_default.rest
 
 pub factor_spec : {M : Type 1} → statement M
 factor_spec = tie.close (tie.spec returns returns-2 returns-3 returns-4 returns-5 returns-6 returns-7 returns-8)

@@ -13,16 +13,16 @@ few : {o : Outcome} {count : ℕ} → o ≡ Explained count → Few o → count 
 few e h = subst (λ (o : Outcome). Few o) e h
 
 cast-result-2 : tie.Need-overflow-cast-result-2
-cast-result-2 c = omega (arith, few c.before.outcome-in-Explained-1.given.1 c.before.before.before.requires)
+cast-result-2 c = omega (arith, few c.outcome-in-Explained-1.given.1 c.requires)
 
 add-result : tie.Need-overflow_add-result
-add-result c = omega (arith, few c.before.outcome-in-Explained-1.given.1 c.before.before.before.requires)
+add-result c = omega (arith, few c.outcome-in-Explained-1.given.1 c.requires)
 
 returns : tie.Need-returns-in-Refused
-returns c = sym (ap (λ (o : Outcome). number_in o) c.before.outcome-1.given.1)
+returns c = sym (ap (λ (o : Outcome). number_in o) c.outcome-1.given.1)
 
 returns-2 : tie.Need-returns-in-Explained
-returns-2 c = sym (ap (λ (o : Outcome). number_in o) c.before.outcome-in-Explained-1.given.1)
+returns-2 c = sym (ap (λ (o : Outcome). number_in o) c.outcome-in-Explained-1.given.1)
 
 pub number_in_spec : {M : Type 1} → statement M
 number_in_spec = tie.close (tie.spec (λ c. search rules) (λ c. search rules) (λ c. search rules) cast-result-2 add-result returns returns-2)

@@ -13,49 +13,49 @@ use Rattle.why.proofs.reading.explain.Statement.{statement}
 use Rattle.why.proofs.reading.explain.Tie as tie
 
 and-of-atoms-requires : tie.Need-and_of_atoms-requires
-and-of-atoms-requires c κs = tokens-there c.before.before.before.before.requires.taken
+and-of-atoms-requires c κs = tokens-there c.requires.taken
 
 returns : tie.Need-returns-then-not-and_of_atoms
 returns c bytes taken =
-    let s = c.before.before.before.before.before.before.before in
-    tells-refusal c.refuse.result (refuses-19 taken s.args.room (sym c.before.before.and_of_atoms.ensures
-    ∙ not-true _ c.before.if-not-and_of_atoms.true)) c.refuse.ensures
+    let s = c in
+    tells-refusal c.refuse.result (refuses-19 taken s.args.room (sym c.and_of_atoms.ensures
+    ∙ not-true _ c.if-not-and_of_atoms.true)) c.refuse.ensures
 
 sub-atoms : tie.Need-overflow_sub-atoms
 sub-atoms c =
-    let s = c.before.before.before.before.before.before.before in
+    let s = c in
     omega (
       arith,
-      atoms-many s.requires.taken (sym c.before.before.and_of_atoms.ensures
-          ∙ not-false _ c.before.if-not-and_of_atoms.false),
+      atoms-many s.requires.taken (sym c.and_of_atoms.ensures
+          ∙ not-false _ c.if-not-and_of_atoms.false),
       c.behind_root.ensures,
     )
 
 returns-2 : tie.Need-returns-then-room-atoms
 returns-2 c bytes taken =
-    let s = c.before.before.before.before.before.before.before.before.before in
-    let behind = c.before.before.behind_root.ensures in
-    let only = sym c.before.before.before.before.and_of_atoms.ensures ∙ not-false _ c.before.before.before.if-not-and_of_atoms.false in
+    let s = c in
+    let behind = c.behind_root.ensures in
+    let only = sym c.and_of_atoms.ensures ∙ not-false _ c.if-not-and_of_atoms.false in
     tells-refusal c.refuse-then-room-atoms.result (refuses-20 taken only s.args.room (subst (λ (k : ℕ). s.args.room < s.args.count - k) behind
-    c.before.if-room-atoms.true)) c.refuse-then-room-atoms.ensures
+    c.if-room-atoms.true)) c.refuse-then-room-atoms.ensures
 
 records-of-requires : tie.Need-records_of-found-requires
 records-of-requires c κs =
-    let s = c.before.before.before.before.before.before.before.before.before in
+    let s = c in
     record {
       bytes = s.requires.bytes;
       taken = s.requires.taken;
-      only = sym c.before.before.before.before.and_of_atoms.ensures
-          ∙ not-false _ c.before.before.before.if-not-and_of_atoms.false;
+      only = sym c.and_of_atoms.ensures
+          ∙ not-false _ c.if-not-and_of_atoms.false;
     }
 
 returns-3 : tie.Need-returns
 returns-3 c bytes taken =
-    let here = c.before.before in
-    let s = here.before.before.before.before.before.before.before.before.before.before in
-    let behind = here.before.before.before.behind_root.ensures in
-    let only = sym here.before.before.before.before.before.and_of_atoms.ensures ∙ not-false _
-    here.before.before.before.before.if-not-and_of_atoms.false in
+    let here = c in
+    let s = here in
+    let behind = here.behind_root.ensures in
+    let only = sym here.and_of_atoms.ensures ∙ not-false _
+    here.if-not-and_of_atoms.false in
     told-reasons taken only s.args.room (subst (λ (k : ℕ). s.args.count - k ≤ s.args.room) behind (omega arith)) _ (ap
     (λ (k : ℕ). Explained (s.args.count - k)) behind) (here.records_of-found.ensures bytes taken)
 

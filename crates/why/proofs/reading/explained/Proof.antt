@@ -10,24 +10,24 @@ read-into-requires c κs = record { coefficients = omega arith; monomials = omeg
 
 explain-requires : tie.Need-explain-requires
 explain-requires c κs =
-    let chosen = c.before.before.before.before.before in
-    let reading = chosen.before.before.before.before.before.before in
-    let a = reading.before.before.before.before.before.before.args in
+    let chosen = c in
+    let reading = chosen in
+    let a = reading.args in
     record { bytes = a.input.now; taken = found-taken reading.read_into-contents.ensures chosen.contents-in-Numbers-1.given.1 }
 
 returns : tie.Need-returns-in-Refused
 returns c =
-    let chosen = c.before.before in
-    let reading = chosen.before.before.before.before.before.before in
-    let a = reading.before.before.before.before.before.before.args in
+    let chosen = c in
+    let reading = chosen in
+    let a = reading.args in
     tells-refusal c.refuse.result (found-refused reading.read_into-contents.ensures a.room chosen.contents-1.given.1) c.refuse.ensures
 
 returns-2 : tie.Need-returns-in-Numbers
 returns-2 c =
-    let told = c.before in
-    let chosen = told.before.before.before.before.before.before in
-    let reading = chosen.before.before.before.before.before.before in
-    let a = reading.before.before.before.before.before.before.args in
+    let told = c in
+    let chosen = told in
+    let reading = chosen in
+    let a = reading.args in
     told.explain.ensures a.input.now (found-taken reading.read_into-contents.ensures chosen.contents-in-Numbers-1.given.1)
 
 pub explained_spec : {M : Type 1} → statement M

@@ -54,11 +54,11 @@ module _ (c : tie.After-part-given) where
       let count = s.args.count in
       let tape = (giving c).give.ensures ∙ ap (placed_tokens count) (normal-of (giving c)).normal-tokens.ensures in
       reads taken s.pre.only (table worked) worked.work.ensures (λ k m lists enough.
-      subst (λ (f : ℕ). Lists c.part-given.result (take (count - f) (drop f m))) c.before.behind_root.ensures
+      subst (λ (f : ℕ). Lists c.part-given.result (take (count - f) (drop f m))) c.behind_root.ensures
       (c.part-given.ensures.1 k m (subst (λ (l : List ℕ). Lists (row_of l k) m) (sym tape) lists) enough))
 
 work-requires : tie.Need-work-requires
-work-requires c κs = let s = c.before.before.before.before.before.before.before.before in (table-read s.requires.taken, blank-table)
+work-requires c κs = let s = c in (table-read s.requires.taken, blank-table)
 
 normal-tokens-requires : tie.Need-normal_tokens-requires
 normal-tokens-requires c κs =
@@ -77,7 +77,7 @@ give-requires c κs =
 
 part-requires : tie.Need-part-given-requires
 part-requires c κs =
-    let here = c.before.before.before.before in
+    let here = c.before.before.before in
     let s = start (working (normal-of here)) in
     let taken = s.pre.taken in (
       omega (arith, atoms-many taken s.pre.only, c.behind_root.ensures),

@@ -25,23 +25,23 @@ pair-count-below t = and 0 pair-count-kinds.ps (falls 0 pair-count-kinds.ps ◌<
 pub +pair-count-spec : {M : Type 1} → statement M
 +pair-count-spec = close μ-pair-count λ t. pair-count-lts.spec (pair-count-below t, pair-count.Post, exponent-of-reads.Asked, exponent-of-reads.Learnt)
     (pair-count-at t) pair-count.Post
-    (λ c. let a = c.before.args in (λ n. sym (ap length (no_pairs n a.k a.monomial c.if-k-eq0.true)), omega arith))
+    (λ c. let a = c.args in (λ n. sym (ap length (no_pairs n a.k a.monomial c.if-k-eq0.true)), omega arith))
     (λ c. omega (arith, c.if-k-eq0.false))
-    (λ c κs. (omega (arith, c.if-k-eq0.false), omega (arith, c.before.requires.1)))
-    (λ c. omega (arith, c.before.if-k-eq0.false))
-    (λ c κs. omega (arith, c.before.before.requires.1, c.before.if-k-eq0.false))
+    (λ c κs. (omega (arith, c.if-k-eq0.false), omega (arith, c.requires.1)))
+    (λ c. omega (arith, c.if-k-eq0.false))
+    (λ c κs. omega (arith, c.requires.1, c.if-k-eq0.false))
     (λ c.
     let others = c.before.before in
-    let a = others.before.before.args in (
+    let a = others.args in (
       λ n. others.pair_count-others.ensures.0 n
-          ∙ sym (ap length (pair-skipped n a.k a.monomial others.before.if-k-eq0.false c.before.exponent_of.ensures c.if-exponent_of-eq0.true)),
+          ∙ sym (ap length (pair-skipped n a.k a.monomial others.if-k-eq0.false c.exponent_of.ensures c.if-exponent_of-eq0.true)),
       omega (arith, others.pair_count-others.ensures.1),
     ))
-    (λ c. let others = c.before.before in omega (arith, others.pair_count-others.ensures.1, others.before.before.requires.1))
+    (λ c. let others = c.before.before in omega (arith, others.pair_count-others.ensures.1, others.requires.1))
     (λ c.
-    let others = c.before.before in
-    let a = others.before.before.args in (
+    let others = c in
+    let a = others.args in (
       λ n. ap (λ (k : ℕ). k + 1) (others.pair_count-others.ensures.0 n)
-          ∙ sym (pair-counted n a.k a.monomial others.before.if-k-eq0.false c.before.exponent_of.ensures c.if-exponent_of-eq0.false),
-      omega (arith, others.pair_count-others.ensures.1, others.before.if-k-eq0.false),
+          ∙ sym (pair-counted n a.k a.monomial others.if-k-eq0.false c.exponent_of.ensures c.if-exponent_of-eq0.false),
+      omega (arith, others.pair_count-others.ensures.1, others.if-k-eq0.false),
     ))

@@ -30,51 +30,51 @@ pub +write-pairs-spec : {M : Type 1} → statement M
     (λ c. none_written _ _ _ c.if-k-eq0.true)
     (λ c. omega (arith, c.if-k-eq0.false))
     (λ c κs. let s = c.before.before in omega (arith, s.requires.1.0, s.requires.1.1, c.if-k-eq0.false))
-    (λ c. omega (arith, c.before.before.before.if-k-eq0.false))
+    (λ c. omega (arith, c.if-k-eq0.false))
     (λ c κs.
     let exponent = c.before.before in
     let s = exponent.before.before.before in
     let a = s.args in (
-      omega (arith, exponent.before.if-k-eq0.false),
+      omega (arith, exponent.if-k-eq0.false),
       (
         s.requires.1.0,
         omega (arith, s.requires.1.1),
-        rw (pair-skipped a.n a.k a.monomial exponent.before.if-k-eq0.false exponent.exponent_of-exponent.ensures c.before.if-exponent-eq0.true) at s.requires.1.2,
+        rw (pair-skipped a.n a.k a.monomial exponent.if-k-eq0.false exponent.exponent_of-exponent.ensures c.if-exponent-eq0.true) at s.requires.1.2,
       ),
     ))
-    (λ c. c.before.before.write_pairs.auto.0)
+    (λ c. c.write_pairs.auto.0)
     (λ c.
     let others = c.before.before in
     let exponent = others.before.before.before in
-    let a = exponent.before.before.before.args in
-    rw (pair-skipped a.n a.k a.monomial exponent.before.if-k-eq0.false exponent.exponent_of-exponent.ensures others.before.before.if-exponent-eq0.true)
+    let a = exponent.args in
+    rw (pair-skipped a.n a.k a.monomial exponent.if-k-eq0.false exponent.exponent_of-exponent.ensures others.if-exponent-eq0.true)
     others.write_pairs.ensures)
     (λ c. let s = c.before.before.before.before.before in s.requires.1.1)
     (λ c κs.
     let exponent = c.before.before in
     let s = exponent.before.before.before in
-    (omega arith, room-first (pair-split _ _ _ exponent.before.if-k-eq0.false exponent.exponent_of-exponent.ensures c.before.if-exponent-eq0.false) s.requires.1.2))
+    (omega arith, room-first (pair-split _ _ _ exponent.if-k-eq0.false exponent.exponent_of-exponent.ensures c.if-exponent-eq0.false) s.requires.1.2))
     (λ c κs.
     let variable = c.before.before.before in
     let tested = variable.before.before in
     let exponent = tested.before in
     let s = exponent.before.before.before in (
       omega arith,
-      room-first two_runs (room-second (pair-split _ _ _ exponent.before.if-k-eq0.false exponent.exponent_of-exponent.ensures tested.if-exponent-eq0.false) s.requires.1.2
+      room-first two_runs (room-second (pair-split _ _ _ exponent.if-k-eq0.false exponent.exponent_of-exponent.ensures tested.if-exponent-eq0.false) s.requires.1.2
           variable.write_field-variable.ensures variable.write_field-variable.auto.0),
     ))
-    (λ c. omega (arith, c.before.before.before.before.before.before.before.before.before.before.before.if-k-eq0.false))
+    (λ c. omega (arith, c.if-k-eq0.false))
     (λ c κs.
     let next = c.before.before.before in
     let variable = next.before.before.before.before in
     let tested = variable.before.before in
     let exponent = tested.before in
-    let s = exponent.before.before.before in (
-      omega (arith, exponent.before.if-k-eq0.false),
+    let s = exponent in (
+      omega (arith, exponent.if-k-eq0.false),
       (
         s.requires.1.0,
         omega (arith, s.requires.1.1),
-        room-second two_runs (room-second (pair-split _ _ _ exponent.before.if-k-eq0.false exponent.exponent_of-exponent.ensures tested.if-exponent-eq0.false) s.requires.1.2
+        room-second two_runs (room-second (pair-split _ _ _ exponent.if-k-eq0.false exponent.exponent_of-exponent.ensures tested.if-exponent-eq0.false) s.requires.1.2
             variable.write_field-variable.ensures variable.write_field-variable.auto.0)
             next.write_field-next.ensures next.write_field-next.auto.0,
       ),
@@ -85,10 +85,10 @@ pub +write-pairs-spec : {M : Type 1} → statement M
     let variable = next.before.before.before.before in
     others.write_pairs-2.auto.0 ∙ next.write_field-next.auto.0 ∙ variable.write_field-variable.auto.0)
     (λ c.
-    let others = c.before.before in
-    let next = others.before.before.before.before in
-    let variable = next.before.before.before.before in
-    let tested = variable.before.before in
-    let exponent = tested.before in
-    wrote-both (pair-split _ _ _ exponent.before.if-k-eq0.false exponent.exponent_of-exponent.ensures tested.if-exponent-eq0.false) variable.write_field-variable.ensures
+    let others = c in
+    let next = others in
+    let variable = next in
+    let tested = variable in
+    let exponent = tested in
+    wrote-both (pair-split _ _ _ exponent.if-k-eq0.false exponent.exponent_of-exponent.ensures tested.if-exponent-eq0.false) variable.write_field-variable.ensures
     (wrote-both two_runs next.write_field-next.ensures others.write_pairs-2.ensures))

@@ -10,46 +10,46 @@ use Rattle.deduce.proofs.merge.Cuts.by.Tie as tie
 returns : tie.Need-returns-in-1
 unfolding gather_row
 returns c =
-    let s = c.before.before.before.before.before.before.before in
+    let s = c in
     let f = s.ranges in
     let a = s.args in
-    let k = c.before.before.in-1.keys1 in
-    rw (c.before.cut_not_negative-l.ensures, c.cut_not_positive-u.ensures, c.before.before.before.before.before.by-vanishing.ensures)
+    let k = c.in-1.keys1 in
+    rw (c.cut_not_negative-l.ensures, c.cut_not_positive-u.ensures, c.by-vanishing.ensures)
     (simp (back f.a, back f.b, (cut-positive a.s a.a a.b (interval_of a.self.l) k).0, (cut-positive a.s a.a a.b (interval_of a.self.u) k).1))
 
 returns-2 : tie.Need-returns-in-4
 unfolding gather_row
 returns-2 c =
-    let s = c.before.before.before.before.before.before.before in
+    let s = c in
     let f = s.ranges in
     let a = s.args in
-    let k = c.before.before.in-4.keys2 in
-    rw (c.before.cut_not_positive-l.ensures, c.cut_not_negative-u.ensures, c.before.before.before.before.before.by-vanishing.ensures)
+    let k = c.in-4.keys2 in
+    rw (c.cut_not_positive-l.ensures, c.cut_not_negative-u.ensures, c.by-vanishing.ensures)
     (simp (back f.a, back f.b, (cut-negative a.s a.a a.b (interval_of a.self.l) k).0, (cut-negative a.s a.a a.b (interval_of a.self.u) k).1))
 
 returns-3 : tie.Need-returns-in-0
 unfolding gather_row
 returns-3 c =
-    let s = c.before.before.before.before.before in
+    let s = c in
     let f = s.ranges in
     let a = s.args in
     let k = c.in-0.keys3 in
-    rw c.before.before.before.by-vanishing.ensures
+    rw c.by-vanishing.ensures
     (simp (back f.a, back f.b, (cut-none a.s a.a a.b (interval_of a.self.l) k).0, (cut-none a.s a.a a.b (interval_of a.self.u) k).1))
 
 returns-4 : tie.Need-returns-in_default
 unfolding gather_row
 returns-4 c =
-    let s = c.before.before.before.before.before.before.before.before.before in
+    let s = c in
     let f = s.ranges in
     let a = s.args in
-    let m = c.before.before.before.before.in_default.rest in
+    let m = c.in_default.rest in
     rw (
-      c.before.before.cut_not_negative-l-in_default.ensures,
+      c.cut_not_negative-l-in_default.ensures,
       c.cut_not_negative-u-in_default.ensures,
-      c.before.before.before.cut_not_positive.ensures,
-      c.before.cut_not_positive-in_default.ensures,
-      c.before.before.before.before.before.before.before.by-vanishing.ensures,
+      c.cut_not_positive.ensures,
+      c.cut_not_positive-in_default.ensures,
+      c.by-vanishing.ensures,
     )
     (simp (
       back f.a,

@@ -9,10 +9,10 @@ use Rattle.interval.specs.Coefficients.{back}
 use Rattle.interval.proofs.vanishing.Vanishing.by.Statement.{statement}
 use Rattle.interval.proofs.vanishing.Vanishing.by.Tie as tie
 
-a-fits : (c : tie.After-struct_told-2-1) → SFits w32 c.before.before.args.self.a
+a-fits : (c : tie.After-struct_told-2-1) → SFits w32 c.args.self.a
 a-fits c = record { sfits = c.struct_told-2-1.given.0.1 }
 
-b-fits : (c : tie.After-struct_told-2-1) → SFits w32 c.before.before.args.self.b
+b-fits : (c : tie.After-struct_told-2-1) → SFits w32 c.args.self.b
 b-fits c = record { sfits = c.struct_told-2-1.given.1.0.1 }
 
 returns : tie.Need-returns-then-self
@@ -21,35 +21,35 @@ returns c = simp c.if-self.true
 
 returns-2 : tie.Need-returns-then-not-is_strict
 unfolding vanish_row counted
-returns-2 c = simp (c.before.before.if-self.false, sym c.before.is_strict.ensures ∙ not-true _ c.if-not-is_strict.true)
+returns-2 c = simp (c.if-self.false, sym c.is_strict.ensures ∙ not-true _ c.if-not-is_strict.true)
 
 returns-3 : tie.Need-returns-then-both_zero
 unfolding vanish_row counted
 returns-3 c =
     let s = c.before.before.before.before.before in
-    let f = s.before.before.ranges in
+    let f = s.ranges in
     simp (
       back f.a,
       back f.b,
-      c.before.before.before.before.if-self.false,
-      sym c.before.before.before.is_strict.ensures ∙ not-false _ c.before.before.if-not-is_strict.false,
-      (rw (back (a-fits s), back (b-fits s)) at (sym c.before.both_zero.ensures ∙ c.if-both_zero.true)),
+      c.if-self.false,
+      sym c.is_strict.ensures ∙ not-false _ c.if-not-is_strict.false,
+      (rw (back (a-fits s), back (b-fits s)) at (sym c.both_zero.ensures ∙ c.if-both_zero.true)),
     )
 
 returns-4 : tie.Need-returns
 unfolding vanish_row counted
 returns-4 c =
     let s = c.before.before.before.before.before.before in
-    let f = s.before.before.ranges in
+    let f = s.ranges in
     simp (
       back (a-fits s),
       back (b-fits s),
       back f.a,
       back f.b,
       c.apart-never.ensures,
-      c.before.before.before.before.before.if-self.false,
-      sym c.before.before.before.before.is_strict.ensures ∙ not-false _ c.before.before.before.if-not-is_strict.false,
-      (rw (back (a-fits s), back (b-fits s)) at (sym c.before.before.both_zero.ensures ∙ c.before.if-both_zero.false)),
+      c.if-self.false,
+      sym c.is_strict.ensures ∙ not-false _ c.if-not-is_strict.false,
+      (rw (back (a-fits s), back (b-fits s)) at (sym c.both_zero.ensures ∙ c.if-both_zero.false)),
     )
 
 pub by_spec : {M : Type 1} → statement M

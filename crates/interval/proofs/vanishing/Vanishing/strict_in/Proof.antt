@@ -12,21 +12,21 @@ use Rattle.interval.specs.Coefficients.{back}
 use Rattle.interval.proofs.vanishing.Vanishing.strict_in.Statement.{statement}
 use Rattle.interval.proofs.vanishing.Vanishing.strict_in.Tie as tie
 
-a-fits : (c : tie.After-struct_told-2-1) → SFits w32 c.before.before.args.self.a
+a-fits : (c : tie.After-struct_told-2-1) → SFits w32 c.args.self.a
 a-fits c = record { sfits = c.struct_told-2-1.given.0.1 }
 
-b-fits : (c : tie.After-struct_told-2-1) → SFits w32 c.before.before.args.self.b
+b-fits : (c : tie.After-struct_told-2-1) → SFits w32 c.args.self.b
 b-fits c = record { sfits = c.struct_told-2-1.given.1.0.1 }
 
 -- what was tested at the lowest t
-lowest : (c : tie.After-not_zero_at) → let a = c.before.before.before.before.before.args in
+lowest : (c : tie.After-not_zero_at) → let a = c.args in
     c.not_zero_at.result ≡ not_zero_at (end_of a.r.low) a.self.a a.self.b
 lowest c =
     let s = c.before.before.before in
-    c.not_zero_at.ensures ∙ ap₂ (λ (x y : ℤ). not_zero_at (end_of s.before.before.args.r.low) x y) (back (a-fits s)) (back (b-fits s))
+    c.not_zero_at.ensures ∙ ap₂ (λ (x y : ℤ). not_zero_at (end_of s.args.r.low) x y) (back (a-fits s)) (back (b-fits s))
 
 -- whether it vanishes everywhere
-vanishes : (c : tie.After-both_zero) → let a = c.before.before.before.before.before.before.before.before.before.args in
+vanishes : (c : tie.After-both_zero) → let a = c.args in
     c.both_zero.result ≡ (is_zero a.self.a && is_zero a.self.b)
 vanishes c =
     let s = c.before.before.before.before.before.before.before in
@@ -38,20 +38,20 @@ returns c = simp c.if-self.true
 
 returns-2 : tie.Need-returns-then-not_zero_at
 unfolding strict_by not_zero_in
-returns-2 c = simp (c.before.before.if-self.false, sym (lowest c.before) ∙ c.if-not_zero_at.true)
+returns-2 c = simp (c.if-self.false, sym (lowest c.before) ∙ c.if-not_zero_at.true)
 
 returns-3 : tie.Need-returns-then-has_more
 unfolding strict_by not_zero_in
 returns-3 c =
     let d = c.before.before.before.before in
-    simp (d.before.if-self.false, sym (lowest d) ∙ c.before.before.before.if-not_zero_at.false, sym c.before.before.Has-more.ensures ∙ c.before.if-has_more.true)
+    simp (d.if-self.false, sym (lowest d) ∙ c.if-not_zero_at.false, sym c.Has-more.ensures ∙ c.if-has_more.true)
     (ap not (vanishes c))
 
 returns-4 : tie.Need-returns-else-has_more
 unfolding strict_by not_zero_in
 returns-4 c =
     let d = c.before.before.before in
-    simp (d.before.if-self.false, sym (lowest d) ∙ c.before.before.if-not_zero_at.false, sym c.before.Has-more.ensures ∙ c.if-has_more.false)
+    simp (d.if-self.false, sym (lowest d) ∙ c.if-not_zero_at.false, sym c.Has-more.ensures ∙ c.if-has_more.false)
 
 pub strict_in_spec : {M : Type 1} → statement M
 strict_in_spec =
