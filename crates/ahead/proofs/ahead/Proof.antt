@@ -30,7 +30,7 @@ sign-list-requires c κs =
     let s = c.before.before.before.before.before.before.before.before.before in
     let (forms, (places, below)) = s.requires in
     let r = c.replay-reached in
-    (form-slots {t = table s} forms (r.auto.1.1.1.0 ∙ places), omega (arith, r.ensures.variables, forms.variables))
+    (form-slots {t = table s} forms (r.auto.sign ∙ places), omega (arith, r.ensures.variables, forms.variables))
 
 loop-holds : tie.Need-loop-made-init invariant-loop decreases-loop
 loop-holds c =
@@ -42,7 +42,7 @@ loop-holds c =
         variables = refl;
         after = no_turn;
         ready = rw c.sign_list.ensures (list-ready r.result s.args.atoms _ (forms-over _ _ _ (sym r.ensures.variables) forms) refl
-            (r.auto.1.1.1.0 ∙ places));
+            (r.auto.sign ∙ places));
       },
     )
 
@@ -73,7 +73,7 @@ loop-again c =
     let l = c.loop-made in
     let r = c.pass-passed in
     let before = l.invariant.1 in
-    (r.auto.1.1.1.0 ∙ l.invariant.0, after-pass before (ahead-over _ _ _ before.variables r.ensures))
+    (r.auto.sign ∙ l.invariant.0, after-pass before (ahead-over _ _ _ before.variables r.ensures))
 
 returns-2 : tie.Need-returns invariant-loop decreases-loop
 returns-2 c =
@@ -87,5 +87,5 @@ ahead_spec =
     tie.close
     (tie.spec invariant-loop decreases-loop (λ c. omega arith) (λ c. omega arith) (λ c κs. (c.requires.0, c.requires.1.0)) sign-list-requires loop-holds
     (λ c. omega arith) pass-requires
-    (λ c. c.pass-passed.auto.1.1.1.0 ∙ c.loop-made.invariant.0 ∙ c.sign_list.auto.1.1.1.1.0 ∙ c.replay-reached.auto.1.1.1.0) returns (λ c. omega arith) loop-again
-    (λ c. c.loop-made.invariant.0 ∙ c.sign_list.auto.1.1.1.1.0 ∙ c.replay-reached.auto.1.1.1.0) returns-2)
+    (λ c. c.pass-passed.auto.sign ∙ c.loop-made.invariant.0 ∙ c.sign_list.auto.sign ∙ c.replay-reached.auto.sign) returns (λ c. omega arith) loop-again
+    (λ c. c.loop-made.invariant.0 ∙ c.sign_list.auto.sign ∙ c.replay-reached.auto.sign) returns-2)

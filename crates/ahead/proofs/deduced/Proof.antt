@@ -22,11 +22,11 @@ sign-slot-requires-2 : tie.Need-sign_slot-requires-2
 sign-slot-requires-2 c κs =
     let s = c.before.before.before.before.before.before.before.before.before.before.before.before in
     let (forms, (places, (low, listed))) = s.requires in
-    (form-slots {t = table s} forms (c.sign_slot.auto.1.1.1.0 ∙ places), omega arith)
+    (form-slots {t = table s} forms (c.sign_slot.auto.sign ∙ places), omega arith)
 
 -- the signs of both slots
 signed : (c : tie.After-deduce-alone-arg) → let s = c.before.before.before.before.before.before.before.before.before.before.before.before.before.before.before.before in
-    BothSigned (table s) (sets_of s.args.board) c.sign_slot-2.new.1.1.1.0 (variable_slot s.args.i) (atom_slot s.args.atoms.number s.args.j)
+    BothSigned (table s) (sets_of s.args.board) c.sign_slot-2.new.sign (variable_slot s.args.i) (atom_slot s.args.atoms.number s.args.j)
 signed c =
     let s = c.before.before.before.before.before.before.before.before.before.before.before.before.before.before.before.before in
     let (forms, (places, (low, listed))) = s.requires in

@@ -52,7 +52,7 @@ loop-again c =
     let passing = l.invariant.1.1 in
     let r = c.step-passed in
     let is = c.place-j.ensures in
-    (r.auto.1.1.1.0 ∙ l.invariant.0, (omega arith, passing-next _ _ _ _ passing (omega arith) (rw is at (stepped-over _ _ _ passing.variables r.ensures))))
+    (r.auto.sign ∙ l.invariant.0, (omega arith, passing-next _ _ _ _ passing (omega arith) (rw is at (stepped-over _ _ _ passing.variables r.ensures))))
 
 returns : tie.Need-returns invariant-loop decreases-loop
 returns c = passing-last _ _ _ _ c.loop-i.invariant.1.1 c.loop-i-test.false

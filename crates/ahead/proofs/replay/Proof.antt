@@ -30,7 +30,7 @@ loop-again c =
     let l = c.loop-k in
     let reached = l.invariant.1.1 in
     let r = c.hint-at in
-    (r.auto.1.1.1.0 ∙ l.invariant.0, (l.invariant.1.0, reached-more _ _ _ _ _ reached (reached-over _ _ _ reached.variables _ _ _ r.ensures)))
+    (r.auto.sign ∙ l.invariant.0, (l.invariant.1.0, reached-more _ _ _ _ _ reached (reached-over _ _ _ reached.variables _ _ _ r.ensures)))
 
 pub replay_spec : {M : Type 1} → statement M
 replay_spec =

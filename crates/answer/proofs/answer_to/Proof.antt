@@ -67,20 +67,20 @@ table c =
 
 module _ (c : tie.After-normal_tokens) {bytes : List ℕ} (accepted : ReadFrom bytes (start (working c))) where
   -- The tape is in normal form,
-  prepared : Prepared accepted.given (held (start (working c))) (table (working c)) c.normal_tokens.new.0
-  prepared = prepares accepted (table (working c)) (working c).work.ensures c.normal_tokens.new.0 c.normal_tokens.ensures
+  prepared : Prepared accepted.given (held (start (working c))) (table (working c)) c.normal_tokens.new.token
+  prepared = prepares accepted (table (working c)) (working c).work.ensures c.normal_tokens.new.token c.normal_tokens.ensures
 
 module _ (c : tie.After-give) {bytes : List ℕ} (accepted : ReadFrom bytes (start (working (normal-of c)))) where
   -- with places,
-  placed : TreeHeld c.give.new.0 (start (working (normal-of c))).args.root (token_tree (prepared (normal-of c) accepted).tree)
+  placed : TreeHeld c.give.new.token (start (working (normal-of c))).args.root (token_tree (prepared (normal-of c) accepted).tree)
   placed =
       let s = start (working (normal-of c)) in
       subst (λ (l : List ℕ). TreeHeld l s.args.root (token_tree (prepared (normal-of c) accepted).tree)) (sym c.give.ensures)
       (asks-tree (prepared (normal-of c) accepted))
 
   -- as long as what was read,
-  long : length c.give.new.0 ≡ length (start (working (normal-of c))).args.token.now
-  long = c.give.auto.0 ∙ (normal-of c).normal-tokens.auto.0
+  long : length c.give.new.token ≡ length (start (working (normal-of c))).args.token.now
+  long = c.give.auto.token ∙ (normal-of c).normal_tokens.auto.0
 
 module _ (c : tie.After-simplified-short) {bytes : List ℕ} (accepted : ReadFrom bytes (start (working (normalising c)))) where
   -- simplified,
@@ -93,9 +93,9 @@ module _ (c : tie.After-simplified-short) {bytes : List ℕ} (accepted : ReadFro
 
 module _ (c : tie.After-plain_tokens) {bytes : List ℕ} (accepted : ReadFrom bytes (start (working (normalising (simplifying c))))) where
   -- plain,
-  holds : Holds c.plain_tokens.new.0 (simplifying c).simplified.result.tree.tokens.count (tree (simplifying c) accepted)
+  holds : Holds c.plain_tokens.new.token (simplifying c).simplified.result.tree.tokens.count (tree (simplifying c) accepted)
   holds =
-      simpler-holds (prepared (normalising (simplifying c)) accepted) (simplifying c).simplified.result.tree (simpler (simplifying c) accepted) c.plain_tokens.new.0
+      simpler-holds (prepared (normalising (simplifying c)) accepted) (simplifying c).simplified.result.tree (simpler (simplifying c) accepted) c.plain_tokens.new.token
       c.plain_tokens.ensures
 
 module _ (c : tie.After-collect-new_polynomials) where
@@ -120,20 +120,20 @@ module _ (c : tie.After-collect-new_polynomials) where
   module _ {bytes : List ℕ} (accepted : ReadFrom bytes first) where
     -- and collected to the new block,
     new_is : new ≡ new_held first.args.output.now accepted (prepared normal-at accepted) simplified-at.simplified.result.tree (simpler simplified-at accepted)
-        given-at.give.last.0
+        given-at.give.last.token
     new_is =
         collects first.args.output.now accepted (prepared normal-at accepted) simplified-at.simplified.result.tree (simpler simplified-at accepted)
-        given-at.give.last.0 (c.collect-new_polynomials.ensures (tree simplified-at accepted) (holds (plaining c) accepted))
+        given-at.give.last.token (c.collect-new_polynomials.ensures (tree simplified-at accepted) (holds (plaining c) accepted))
 
     -- which can be written.
     new-writable : Writable first.args.edition new (length first.args.output.now) (new_block accepted.given)
     new-writable =
         writes first.args.output.now accepted (prepared normal-at accepted) simplified-at.simplified.result.tree (simpler simplified-at accepted)
-        given-at.give.last.0 new new_is (long given-at accepted)
+        given-at.give.last.token new new_is (long given-at accepted)
 
     new-room : BlockRoom new.coefficient new.monomial new.terms new.token
     new-room =
-        let room = asks-room accepted given-at.give.last.0 (long given-at accepted) in
+        let room = asks-room accepted given-at.give.last.token (long given-at accepted) in
         let kept = c.collect-new_polynomials.auto.1.1.1.1.1.1 in
         record {
           coefficients = omega (arith, room.coefficients, kept.0);
@@ -173,7 +173,7 @@ give-requires : tie.Need-give-requires
 give-requires c κs =
     let here = c.before.before.before.before.before.before.before in
     let accepted = (start (working here)).requires.0.accepted in
-    (omega (arith, counts-tokens accepted, here.normal_tokens.auto.0), (prepared here accepted).holds.few)
+    (omega (arith, counts-tokens accepted, here.normal_tokens.auto.token), (prepared here accepted).holds.few)
 
 -- ---- the simplified tape
 
@@ -222,7 +222,7 @@ collect-requires c κs =
     let accepted = (start (working normal)).requires.0.accepted in (
       (working normal).work.ensures.forms,
       record { tree = tree (simplifying here) accepted; holds = holds here accepted },
-      asks-room accepted (giving (simplifying here)).give.new.0 (long (giving (simplifying here)) accepted),
+      asks-room accepted (giving (simplifying here)).give.new.token (long (giving (simplifying here)) accepted),
     )
 
 write-requires : tie.Need-write-length-requires
@@ -232,21 +232,21 @@ write-requires c κs =
     (new-room here accepted, record { block = new_block accepted.given; writable = new-writable here accepted })
 
 same-coefficients : tie.Need-shape_of-coefficient
-same-coefficients c = c.collect-new_polynomials.auto.1.1.1.1.1.1.0
+same-coefficients c = c.collect-new_polynomials.auto.new_coefficient
 
 same-monomials : tie.Need-shape_of-monomial
-same-monomials c = c.collect-new_polynomials.auto.1.1.1.1.1.1.1.0
+same-monomials c = c.collect-new_polynomials.auto.new_monomial
 
 same-counts : tie.Need-shape_of-terms
-same-counts c = c.collect-new_polynomials.auto.1.1.1.1.1.1.1.1.0
+same-counts c = c.collect-new_polynomials.auto.new_terms
 
 same-tokens : tie.Need-shape_of-token
 same-tokens c =
     let here = c.before.before.before.before.before.before.before.before.before.before.before.before.before.before.before.before in
-    here.collect-new_polynomials.auto.1.1.1.1.1.1.1.1.1.0 ∙ (given-at here).give.auto.0 ∙ (normal-at here).normal-tokens.auto.0
+    here.collect-new_polynomials.auto.new_token ∙ (given-at here).give.auto.token ∙ (normal-at here).normal_tokens.auto.0
 
 same-places : tie.Need-shape_of-places
-same-places c = (telling-of (plaining c.before.before.before.before.before.before.before.before.before.before.before.before)).tell.auto.1.1.0
+same-places c = (telling-of (plaining c.before.before.before.before.before.before.before.before.before.before.before.before)).tell.auto.places
 
 returns : tie.Need-returns
 returns c bytes accepted =
@@ -256,14 +256,14 @@ returns c bytes accepted =
     let counting = here.atoms-atoms_out in
     let simplified = simplified-at here in
     let counted = (giving simplified).before.before.before.before.before.before.atoms in
-    let uses = (giving simplified).before.before.forms-used in
+    let uses = (giving simplified).before.before.forms_used-polynomials_in in
     let told = (telling-of (plaining here)).tell in
     let ready = prepared (normal-at here) accepted in
     let worked = working (normal-at here) in
     let written = writing.ensures _ (new-writable here accepted) in
-    let tape = (given-at here).give.new.0 in (
+    let tape = (given-at here).give.new.token in (
       answers (first here).args.output.now accepted ready simplified.simplified.result.tree (simpler simplified accepted) tape (new here) (new_is here accepted)
-          writing.new.1.1.1.1.1.1.1.1.1.0 counted.result counting.result uses.result writing.result telling.result written.0 written.1
+          writing.new.out counted.result counting.result uses.result writing.result telling.result written.0 written.1
           (counted.ensures ready.tree ready.holds) (counting.ensures (tree simplified accepted) (holds (plaining here) accepted))
           (uses.ensures (first here).args.variables (table worked).coefficient ready.tree worked.work.ensures.forms ready.holds) telling.ensures,
       (

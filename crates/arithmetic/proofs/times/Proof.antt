@@ -13,7 +13,7 @@ returns-2 c =
     let differing = limiting.before in
     times-lost _ _ _ differing.differ-sign.ensures differing.before.if-magnitude-eq0.false limiting.limit.ensures c.if-limit-magnitude.true
 
-mul-t6 : tie.Need-overflow-mul-t6
+mul-t6 : tie.Need-overflow_mul-result
 mul-t6 c =
     let tested = c.before in
     let limiting = tested.before.before in

@@ -48,24 +48,24 @@ pub +read-node-read-parts-spec : {M : Type 1} → statement M
     close μ-node μ-parts
     (λ t. node-lts.spec (open-node-reads.Asked, open-node-reads.Learnt, parts_below t, parts.Post) (node_at t) node.Post
     (λ c κs. c.requires.1.0) (λ c. search rules) (λ c. search rules)
-    (λ c. let o = atom-is c.open_node-opening.ensures c.opening-in-Atom-1.given.1 in omega arith)
-    (λ c. let o = atom-is c.open_node-opening.ensures c.opening-in-Atom-1.given.1 in omega arith)
-    (λ c. let o = atom-is c.open_node-opening.ensures c.opening-in-Atom-1.given.1 in omega arith)
+    (λ c. let o = atom-is c.open_node-opening.ensures c.in-Atom.is in omega arith)
+    (λ c. let o = atom-is c.open_node-opening.ensures c.in-Atom.is in omega arith)
+    (λ c. let o = atom-is c.open_node-opening.ensures c.in-Atom.is in omega arith)
     (λ c. omega arith)
-    (λ c. let o = atom-is c.open_node-opening.ensures c.opening-in-Atom-1.given.1 in omega arith)
-    (λ c. let o = atom-is c.open_node-opening.ensures c.opening-in-Atom-1.given.1 in omega arith)
-    (λ c. let o = atom-is c.open_node-opening.ensures c.opening-in-Atom-1.given.1 in omega arith)
-    (λ c. let o = atom-is c.open_node-opening.ensures c.opening-in-Atom-1.given.1 in omega arith)
+    (λ c. let o = atom-is c.open_node-opening.ensures c.in-Atom.is in omega arith)
+    (λ c. let o = atom-is c.open_node-opening.ensures c.in-Atom.is in omega arith)
+    (λ c. let o = atom-is c.open_node-opening.ensures c.in-Atom.is in omega arith)
+    (λ c. let o = atom-is c.open_node-opening.ensures c.in-Atom.is in omega arith)
     (λ c. search rules)
-    (λ c. let o = join_is c.open_node-opening.ensures c.opening-in-Join-1.given.1 in omega arith)
-    (λ c. let o = join_is c.open_node-opening.ensures c.opening-in-Join-1.given.1 in omega arith)
+    (λ c. let o = join_is c.open_node-opening.ensures c.in-Join.is in omega arith)
+    (λ c. let o = join_is c.open_node-opening.ensures c.in-Join.is in omega arith)
     (λ c. omega arith)
-    (λ c. let o = join_is c.open_node-opening.ensures c.opening-in-Join-1.given.1 in omega arith)
-    (λ c. let o = join_is c.open_node-opening.ensures c.opening-in-Join-1.given.1 in omega arith)
-    (λ c. let o = join_is c.open_node-opening.ensures c.opening-in-Join-1.given.1 in omega arith)
-    (λ c. let o = join_is c.open_node-opening.ensures c.opening-in-Join-1.given.1 in omega arith)
-    (λ c. let o = join_is c.open_node-opening.ensures c.opening-in-Join-1.given.1 in omega arith)
-    (λ c κs. let o = join_is c.open_node-opening.ensures c.opening-in-Join-1.given.1 in (
+    (λ c. let o = join_is c.open_node-opening.ensures c.in-Join.is in omega arith)
+    (λ c. let o = join_is c.open_node-opening.ensures c.in-Join.is in omega arith)
+    (λ c. let o = join_is c.open_node-opening.ensures c.in-Join.is in omega arith)
+    (λ c. let o = join_is c.open_node-opening.ensures c.in-Join.is in omega arith)
+    (λ c. let o = join_is c.open_node-opening.ensures c.in-Join.is in omega arith)
+    (λ c κs. let o = join_is c.open_node-opening.ensures c.in-Join.is in (
       omega arith,
       (
         o.inside,
@@ -74,14 +74,14 @@ pub +read-node-read-parts-spec : {M : Type 1} → statement M
         o.children_small,
       ),
     ))
-    (λ c. node-refused c.open_node-opening.ensures c.opening-1.given.1)
+    (λ c. node-refused c.open_node-opening.ensures c.in-Refused.is)
     (λ c. simp length-set)
-    (λ c. atom-step (atom-is c.open_node-opening.ensures c.opening-in-Atom-1.given.1))
-    (λ c. c.read_parts.auto.1.0 ∙ simp length-set)
+    (λ c. atom-step (atom-is c.open_node-opening.ensures c.in-Atom.is))
+    (λ c. c.read_parts.auto.token ∙ simp length-set)
     (λ c.
     let kids = c in
     let opened = kids in
-    join_step (join_is opened.open_node-opening.ensures kids.opening-in-Join-1.given.1) opened.requires.1.1
+    join_step (join_is opened.open_node-opening.ensures kids.in-Join.is) opened.requires.1.1
     kids.read_parts.ensures))
     (λ t. parts-lts.spec (node-below t, node.Post) (parts_at t) parts.Post invariant-loop decreases-loop
     (λ c. let s = c.before.before in parts-begin _ s.requires.1.0 s.requires.1.1)
@@ -92,16 +92,16 @@ pub +read-node-read-parts-spec : {M : Type 1} → statement M
     let l = at.loop-left.invariant in
     (omega arith, (l.inside, l.allows, omega (arith, l.tape, s.requires.1.2))))
     (λ c. search rules)
-    (λ c. let first = c.before.before.before.before.before in first.read_node-step.auto.1.0 ∙ first.loop-left.invariant.tape)
+    (λ c. let first = c.before.before.before.before.before in first.read_node-step.auto.token ∙ first.loop-left.invariant.tape)
     (λ c.
     let first = c.before.before.before.before.before in
     let turn = first.before.before in
-    parts-stop _ turn.loop-left.invariant turn.loop-left-test.true first.read_node-step.ensures c.step-1.given.1)
+    parts-stop _ turn.loop-left.invariant turn.loop-left-test.true first.read_node-step.ensures c.in-Refused.is)
     (λ c. search rules) (λ c. omega arith)
     (λ c.
     let chosen = c in
     let first = chosen in
     let turn = first in
-    parts-go-on _ turn.loop-left.invariant turn.loop-left-test.true first.read_node-step.ensures chosen.step-in-Read-1.given.1 first.read_node-step.auto.1.0)
+    parts-go-on _ turn.loop-left.invariant turn.loop-left-test.true first.read_node-step.ensures chosen.in-Read.is first.read_node-step.auto.token)
     (λ c. c.loop-left.invariant.tape)
     (λ c. parts-end _ c.loop-left.invariant c.loop-left-test.false))

@@ -10,13 +10,13 @@ returns : tie.Need-returns-in-Refused
 returns c =
     let chosen = c in
     let reading = chosen in
-    c.refusal.ensures ∙ outcome-refused reading.read_into-contents.ensures chosen.contents-1.given.1
+    c.refusal.ensures ∙ outcome-refused reading.read_into-contents.ensures chosen.in-Refused.is
 
 returns-2 : tie.Need-returns-in-Numbers
 returns-2 c =
     let chosen = c in
     let reading = chosen in
-    outcome-held reading.read_into-contents.ensures chosen.contents-in-Numbers-1.given.1
+    outcome-held reading.read_into-contents.ensures chosen.in-Numbers.is
 
 pub read_spec : {M : Type 1} → statement M
 read_spec =

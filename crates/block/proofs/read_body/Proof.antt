@@ -25,7 +25,7 @@ read-tree-requires c κs =
     let table = chosen in
     let start = table in
     let head = start.requires.0 in
-    let read = chosen.step-in-Read-1.given.1 in (
+    let read = chosen.in-Read.is in (
       inside-after table.read_table-step.ensures read,
       omega (arith, allowed-behind head table.read_table-step.ensures read),
       start.requires.1.tokens,
@@ -36,7 +36,7 @@ returns c =
     let chosen = c in
     let table = chosen in
     let start = table in
-    (contents-refused _ _ _ _ _ _ _ _ (table-refuses start.requires.0 table.read_table-step.ensures chosen.step-1.given.1), none-held _ _)
+    (contents-refused _ _ _ _ _ _ _ _ (table-refuses start.requires.0 table.read_table-step.ensures chosen.in-Refused.is), none-held _ _)
 
 returns-2 : tie.Need-returns-in-Refused-found
 returns-2 c =
@@ -46,7 +46,7 @@ returns-2 c =
     let table = chosen in
     let start = table in (
       contents-refused _ _ _ _ _ _ _ _
-          (tree-refuses start.requires.0 table.read_table-step.ensures chosen.step-in-Read-1.given.1 tree.read_tree-found.ensures root.found-1.given.1),
+          (tree-refuses start.requires.0 table.read_table-step.ensures chosen.in-Read.is tree.read_tree-found.ensures root.in-Refused-found.is),
       none-held _ _,
     )
 
@@ -57,7 +57,7 @@ returns-3 c =
     let chosen = tree in
     let table = chosen in
     let start = table in
-    (all-stored start.requires.0 table.read_table-step.ensures chosen.step-in-Read-1.given.1 tree.read_tree-found.ensures root.found-in-Kind-1.given.1, held-are _ _ _ _)
+    (all-stored start.requires.0 table.read_table-step.ensures chosen.in-Read.is tree.read_tree-found.ensures root.in-Kind.is, held-are _ _ _ _)
 
 pub read_body_spec : {M : Type 1} → statement M
 read_body_spec =

@@ -9,7 +9,7 @@ returns : tie.Need-returns-then-polynomials-gt16
 returns c =
     let chosen = c in
     let head = chosen in
-    few-more (head-held head.read_head-numbers.ensures chosen.numbers-in-Numbers-1.given.1) c.if-polynomials-gt16.true
+    few-more (head-held head.read_head-numbers.ensures chosen.in-Numbers.is) c.if-polynomials-gt16.true
 
 read-body-requires : tie.Need-read_body-requires
 read-body-requires c κs =
@@ -17,14 +17,14 @@ read-body-requires c κs =
     let chosen = tested in
     let head = chosen in
     let start = head in
-    let held = head-held head.read_head-numbers.ensures chosen.numbers-in-Numbers-1.given.1 in
+    let held = head-held head.read_head-numbers.ensures chosen.in-Numbers.is in
     (held, room-for-few held tested.if-polynomials-gt16.false start.requires)
 
 returns-2 : tie.Need-returns-in-Refused
 returns-2 c =
     let chosen = c in
     let head = chosen in
-    few-read (contents-refused _ _ _ _ _ _ _ _ (head-refused head.read_head-numbers.ensures chosen.numbers-1.given.1)) (none-held _ _)
+    few-read (contents-refused _ _ _ _ _ _ _ _ (head-refused head.read_head-numbers.ensures chosen.in-Refused.is)) (none-held _ _)
 
 returns-3 : tie.Need-returns-else-polynomials-gt16
 returns-3 c =

@@ -10,14 +10,14 @@ read-body-requires c κs =
     let chosen = c in
     let head = chosen in
     let start = head in
-    let held = head-held head.read_head-numbers.ensures chosen.numbers-in-Numbers-1.given.1 in
+    let held = head-held head.read_head-numbers.ensures chosen.in-Numbers.is in
     (held, room-for-all held start.requires)
 
 returns : tie.Need-returns-in-Refused
 returns c =
     let chosen = c in
     let head = chosen in
-    contents-refused _ _ _ _ _ _ _ _ (head-refused head.read_head-numbers.ensures chosen.numbers-1.given.1)
+    contents-refused _ _ _ _ _ _ _ _ (head-refused head.read_head-numbers.ensures chosen.in-Refused.is)
 
 pub read_into_spec : {M : Type 1} → statement M
 read_into_spec =

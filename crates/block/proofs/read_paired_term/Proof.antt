@@ -25,7 +25,7 @@ read_paired_term_spec =
     let pairs = chosen.before.before in
     let magnitude = pairs.before.before in
     paired-rising _ _ _ magnitude.before.before.left.ensures magnitude.before.if-left-lt37.false magnitude.get-magnitude.ensures pairs.before.if-magnitude-eq0.false
-    pairs.read_pairs-found.ensures chosen.found-in-Number-1.given.1 c.before.falls.ensures c.if-not-falls.true)
+    pairs.read_pairs-found.ensures chosen.in-Number.is c.before.falls.ensures c.if-not-falls.true)
     (λ c κs. search rules)
     (λ c κs.
     let magnitude = c.before.before.before.before.before.before.before.before in
@@ -37,7 +37,7 @@ read_paired_term_spec =
     let pairs = chosen.before.before in
     let magnitude = pairs.before.before in
     paired-refused _ _ _ magnitude.before.before.left.ensures magnitude.before.if-left-lt37.false magnitude.get-magnitude.ensures pairs.before.if-magnitude-eq0.false
-    pairs.read_pairs-found.ensures chosen.found-1.given.1)
+    pairs.read_pairs-found.ensures chosen.in-Refused.is)
     (λ c. search rules) (λ c. search rules)
     (λ c.
     let minus = c.before in
@@ -46,5 +46,5 @@ read_paired_term_spec =
     let pairs = chosen.before.before in
     let magnitude = pairs.before.before in
     paired-read _ _ _ magnitude.before.before.left.ensures magnitude.before.if-left-lt37.false magnitude.get-magnitude.ensures pairs.before.if-magnitude-eq0.false
-    pairs.read_pairs-found.ensures chosen.found-in-Number-1.given.1 fall.falls.ensures minus.before.if-not-falls.false minus.get.ensures
+    pairs.read_pairs-found.ensures chosen.in-Number.is fall.falls.ensures minus.before.if-not-falls.false minus.get.ensures
     (to_z-of_z w32 c.coefficient_of.result (record { sfits = c.coefficient_of.type-inv }) ∙ c.coefficient_of.ensures)))

@@ -10,7 +10,7 @@ returns-3 c =
     let long = told in
     let count = long in
     not-rising _ _ _ count.get-count.ensures long.if-n-count.false long.left.ensures long.if-left-count.false told.tell-told.ensures
-    c.enum_told-1.given.1
+    c.in-NotRising.is
 
 returns-4 : tie.Need-returns-in-SomeZero
 returns-4 c =
@@ -18,7 +18,7 @@ returns-4 c =
     let long = told in
     let count = long in
     some-zero _ _ _ count.get-count.ensures long.if-n-count.false long.left.ensures long.if-left-count.false told.tell-told.ensures
-    c.enum_told-in-SomeZero-1.given.1
+    c.in-SomeZero.is
 
 returns-5 : tie.Need-returns-in-Exponents
 returns-5 c =
@@ -26,7 +26,7 @@ returns-5 c =
     let long = told in
     let count = long in
     pairs-read _ _ _ count.get-count.ensures long.if-n-count.false long.left.ensures long.if-left-count.false told.tell-told.ensures
-    c.told-1.given.1 count.requires.0
+    c.in-Exponents.is count.requires.0
 
 pub read_pairs_spec : {M : Type 1} → statement M
 read_pairs_spec =

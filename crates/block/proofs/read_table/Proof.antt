@@ -34,7 +34,7 @@ loop-again c =
     let one = chosen in
     let turn = one in
     let kept = one.read_polynomial-step.auto.1 in (
-      table-go-on _ _ _ turn.loop-i.invariant.0 turn.loop-i-test.true one.read_polynomial-step.ensures chosen.step-in-Read-1.given.1 kept.0 kept.1.0 kept.1.1.0,
+      table-go-on _ _ _ turn.loop-i.invariant.0 turn.loop-i-test.true one.read_polynomial-step.ensures chosen.in-Read.is kept.0 kept.1.0 kept.1.1.0,
       omega (arith, turn.loop-i-test.true),
     )
 
@@ -43,15 +43,15 @@ read_table_spec =
     tie.close
     (tie.spec invariant-loop decreases-loop (λ c. (table-begin _ _ _ c.requires.0, omega arith)) read-polynomial-requires (λ c. search rules)
     (λ c. let one = c.before.before.before.before.before.before.before.before in
-    one.read_polynomial-step.auto.1.0 ∙ one.loop-i.invariant.0.coefficients)
+    one.read_polynomial-step.auto.coefficient ∙ one.loop-i.invariant.0.coefficients)
     (λ c. let one = c.before.before.before.before.before.before.before.before in
-    one.read_polynomial-step.auto.1.1.0 ∙ one.loop-i.invariant.0.monomials)
+    one.read_polynomial-step.auto.monomial ∙ one.loop-i.invariant.0.monomials)
     (λ c. let one = c.before.before.before.before.before.before.before.before in
-    one.read_polynomial-step.auto.1.1.1.0 ∙ one.loop-i.invariant.0.numbers)
+    one.read_polynomial-step.auto.counts ∙ one.loop-i.invariant.0.numbers)
     (λ c.
     let one = c in
     let turn = one in
-    table-stop _ _ _ turn.loop-i.invariant.0 turn.loop-i-test.true one.read_polynomial-step.ensures c.step-1.given.1)
+    table-stop _ _ _ turn.loop-i.invariant.0 turn.loop-i-test.true one.read_polynomial-step.ensures c.in-Refused.is)
     (λ c. search rules) (λ c. omega arith) (λ c. omega arith) loop-again
     (λ c. c.loop-i.invariant.0.coefficients) (λ c. c.loop-i.invariant.0.monomials) (λ c. c.loop-i.invariant.0.numbers)
     (λ c. table-end _ _ _ c.loop-i.invariant.0 (omega (arith, c.loop-i.invariant.1, c.loop-i-test.false))))

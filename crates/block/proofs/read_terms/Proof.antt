@@ -26,18 +26,18 @@ loop-again c =
     let one = chosen in
     let turn = one in
     let l = turn.loop-i in
-    terms-go-on _ _ _ _ l.invariant turn.loop-i-test.true one.read_term_in-step.ensures chosen.step-in-Read-1.given.1 one.read_term_in-step.auto.1.0 one.read_term_in-step.auto.1.1.0
+    terms-go-on _ _ _ _ l.invariant turn.loop-i-test.true one.read_term_in-step.ensures chosen.in-Read.is one.read_term_in-step.auto.coefficient one.read_term_in-step.auto.monomial
     (omega (arith, l.invariant.monomials)) refl
 
 pub read_terms_spec : {M : Type 1} → statement M
 read_terms_spec =
     tie.close
     (tie.spec invariant-loop decreases-loop (λ c. terms-begin _ _ _ _ c.requires.0) (λ c. omega arith) read-term-in-requires (λ c. search rules)
-    (λ c. let one = c.before.before.before.before.before.before in one.read_term_in-step.auto.1.0 ∙ one.loop-i.invariant.coefficients)
-    (λ c. let one = c.before.before.before.before.before.before in one.read_term_in-step.auto.1.1.0 ∙ one.loop-i.invariant.monomials)
+    (λ c. let one = c.before.before.before.before.before.before in one.read_term_in-step.auto.coefficient ∙ one.loop-i.invariant.coefficients)
+    (λ c. let one = c.before.before.before.before.before.before in one.read_term_in-step.auto.monomial ∙ one.loop-i.invariant.monomials)
     (λ c.
     let one = c in
     let turn = one in
-    terms-stop _ _ _ _ turn.loop-i.invariant turn.loop-i-test.true one.read_term_in-step.ensures c.step-1.given.1)
+    terms-stop _ _ _ _ turn.loop-i.invariant turn.loop-i-test.true one.read_term_in-step.ensures c.in-Refused.is)
     (λ c. search rules) (λ c. omega arith) (λ c. omega arith) (λ c. omega arith) (λ c. omega arith) (λ c. omega arith) loop-again
     (λ c. c.loop-i.invariant.coefficients) (λ c. c.loop-i.invariant.monomials) (λ c. terms-end _ _ _ _ c.loop-i.invariant c.loop-i-test.false))

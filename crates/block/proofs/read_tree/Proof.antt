@@ -13,12 +13,12 @@ pub read_tree_spec : {M : Type 1} → statement M
 read_tree_spec =
     tie.close
     (tie.spec (λ c κs. search rules) (λ c. search rules) (λ c. search rules)
-    (λ c κs. inside-after c.before.before.before.before.before.read_node-step.ensures c.before.step-in-Read-1.given.1)
+    (λ c κs. inside-after c.before.before.before.before.before.read_node-step.ensures c.before.in-Read.is)
     (λ c. search rules) (λ c. search rules)
     (λ c κs. let chosen = c.before.before.before.before in omega (
       arith,
       root-inside _ chosen.before.before.before.before.read_node-step.ensures
-          chosen.step-in-Read-1.given.1,
+          chosen.in-Read.is,
     ))
     (λ c. let a = c.before.before.before.before.before.before.before.before.before.before.before.before.before.args in omega (
       arith,
@@ -27,12 +27,12 @@ read_tree_spec =
       c.get.ensures,
     ))
     (λ c. search rules)
-    (λ c. tree-refused _ c.before.before.before.before.before.read_node-step.ensures c.before.step-1.given.1)
+    (λ c. tree-refused _ c.before.before.before.before.before.read_node-step.ensures c.before.in-Refused.is)
     (λ c. search rules)
     (λ c. let chosen = c.before.before.before.before.before in end_refused _ chosen.before.before.before.before.read_node-step.ensures
-    chosen.step-in-Read-1.given.1 c.before.before.before.read_end-last.ensures c.before.last-1.given.1)
+    chosen.in-Read.is c.before.before.before.read_end-last.ensures c.before.in-Refused-last.is)
     (λ c. search rules)
     (λ c.
     let chosen = c.before.before.before.before.before in
-    tree-read _ chosen.before.before.before.before.read_node-step.ensures chosen.step-in-Read-1.given.1 c.before.before.before.read_end-last.ensures
-    c.before.enum_told-1.given.1 c.get.ensures))
+    tree-read _ chosen.before.before.before.before.read_node-step.ensures chosen.in-Read.is c.before.before.before.read_end-last.ensures
+    c.before.in-Read-last.is c.get.ensures))

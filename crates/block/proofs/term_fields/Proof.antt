@@ -12,7 +12,7 @@ use Rattle.block.proofs.term_fields.Tie as tie
 shifted : (n : ℕ) → n ≤ 6 → 1 * 2 ^ (4 * n) % 2 ^ 64 ≡ 2 ^ (4 * n)
 shifted n few = let small : 4 * n < 64 = omega arith in rw one-mul (mod-eq_of_lt (pow-lt small))
 
-rem-t16 : tie.Need-nonzero-rem-t16
+rem-t16 : tie.Need-nonzero_rem-result
 rem-t16 c = rw (shifted c.args.n c.if-n-gt6.false) (pow_pos (4 * c.args.n))
 
 returns-2 : tie.Need-returns

@@ -20,7 +20,7 @@ decreases-loop n p columns need₀ low₀ high₀ need low high = need
 cast-k : tie.Need-overflow_cast-k invariant-loop decreases-loop
 cast-k c = let l = c.loop-need in let h = lowest-below 64 l.need (omega arith) l.invariant.small in search rules
 
-mul_low : tie.Need-overflow-mul-low invariant-loop decreases-loop
+mul_low : tie.Need-offset_bounds-columns-k invariant-loop decreases-loop
 mul_low c = let l = c.loop-need in let h = lowest-below 64 l.need (omega arith) l.invariant.small in search rules
 
 shared-slice-read-low-2 : tie.Need-bounds-columns-k invariant-loop decreases-loop
@@ -33,7 +33,7 @@ shared-slice-read-low-2 c =
 add-high : tie.Need-overflow_add-high invariant-loop decreases-loop
 add-high c = let l = c.loop-need in let h = lowest-below 64 l.need (omega arith) l.invariant.small in search rules
 
-mul-high : tie.Need-overflow-mul-high invariant-loop decreases-loop
+mul-high : tie.Need-offset_bounds-columns-k-in-loop-need invariant-loop decreases-loop
 mul-high c = let l = c.loop-need in let h = lowest-below 64 l.need (omega arith) l.invariant.small in search rules
 
 shared-slice-read-high-2 : tie.Need-bounds-columns-k-in-loop-need invariant-loop decreases-loop

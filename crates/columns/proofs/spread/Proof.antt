@@ -23,7 +23,7 @@ cast-k c = let l = c.loop-rest in let h = lowest-below 64 l.rest (omega arith) l
 add-column : tie.Need-overflow_add-column invariant-loop decreases-loop
 add-column c = let l = c.loop-rest in let h = lowest-below 64 l.rest (omega arith) l.invariant.small in search rules
 
-mul-column : tie.Need-overflow-mul-column invariant-loop decreases-loop
+mul-column : tie.Need-offset_bounds-columns-from invariant-loop decreases-loop
 mul-column c = let l = c.loop-rest in let h = lowest-below 64 l.rest (omega arith) l.invariant.small in search rules
 
 slice-read-column : tie.Need-bounds-columns-from invariant-loop decreases-loop
@@ -36,7 +36,7 @@ slice-read-column c =
 add-columns : tie.Need-overflow_add-columns invariant-loop decreases-loop
 add-columns c = let l = c.loop-rest in let h = lowest-below 64 l.rest (omega arith) l.invariant.small in search rules
 
-mul-columns : tie.Need-overflow-mul-columns invariant-loop decreases-loop
+mul-columns : tie.Need-offset_bounds-columns-from-in-loop-rest invariant-loop decreases-loop
 mul-columns c = let l = c.loop-rest in let h = lowest-below 64 l.rest (omega arith) l.invariant.small in search rules
 
 shl-rest : tie.Need-overflow_shl-rest invariant-loop decreases-loop

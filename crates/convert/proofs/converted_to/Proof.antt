@@ -17,7 +17,7 @@ finish-requires c κs =
     let reading = chosen.before.before.before.before.before.before in
     let kept = reading.read_into-contents.auto.1 in
     let s = start reading in
-    let given = found-accepted reading.read_into-contents.ensures s.args.edition s.pre chosen.contents-in-Numbers-1.given.1 in (
+    let given = found-accepted reading.read_into-contents.ensures s.args.edition s.pre chosen.in-Numbers.is in (
       record {
         coefficients = omega (arith, kept.0);
         monomials = omega (arith, kept.1.0);
@@ -31,7 +31,7 @@ returns : tie.Need-returns-in-Refused
 returns c =
     let chosen = c.before in
     let reading = chosen.before.before.before.before.before.before in
-    converts-refused _ (found-refused reading.read_into-contents.ensures chosen.contents-1.given.1)
+    converts-refused _ (found-refused reading.read_into-contents.ensures chosen.in-Refused.is)
 
 returns-2 : tie.Need-returns-in-Numbers
 returns-2 c =
@@ -39,7 +39,7 @@ returns-2 c =
     let chosen = finishing.before.before.before.before.before.before.before in
     let reading = chosen.before.before.before.before.before.before in
     let s = start reading in
-    let given = found-accepted reading.read_into-contents.ensures s.args.edition s.pre chosen.contents-in-Numbers-1.given.1 in
+    let given = found-accepted reading.read_into-contents.ensures s.args.edition s.pre chosen.in-Numbers.is in
     converts-finished _ given.reading (finishing.finish.ensures given.block given.writable)
 
 pub converted_to_spec : {M : Type 1} → statement M

@@ -18,10 +18,10 @@ abbrev start : tie.After-write-size → tie.Start
 start c = c.before.before.before.before.before.before
 
 -- What was written apart has room there.
-fits : (c : tie.After-write-size) → c.write-size.result ≤ length c.write-size.new.1.1.1.1.1.1.1.1.1.0
+fits : (c : tie.After-write-size) → c.write-size.result ≤ length c.write-size.new.out
 fits c =
     let some = (start c).requires.1 in
-    omega (arith, (c.write-size.ensures some.block some.writable).0, some.writable.room, c.write-size.auto.1.1.1.1.1.1.1.1.1.0)
+    omega (arith, (c.write-size.ensures some.block some.writable).0, some.writable.room, c.write-size.auto.out)
 
 module _ (c : tie.After-write-size) (block : Block) (w : let a = (start c).args in Writable a.edition (held_by a.variables a.polynomials a.root
     a.tokens a.coefficient.now a.monomial.now a.terms.now a.token.now) 21516 block) where
@@ -37,7 +37,7 @@ lends c = let writing = c.before.before.before.before in sym (length-take-le wri
 room : tie.Need-put_bytes-requires
 room c κs =
     let writing = c.before.before.before.before in
-    omega (arith, length-take-le writing.write-size.result writing.write-size.new.1.1.1.1.1.1.1.1.1.0 (fits writing), c.before.before.if-output-size.false)
+    omega (arith, length-take-le writing.write-size.result writing.write-size.new.out (fits writing), c.before.before.if-output-size.false)
 
 returns : tie.Need-returns-then-output-size
 returns c block w =

@@ -8,7 +8,7 @@ use Rattle.convert_vectors.proofs.one.Tie as tie
 slice-aggregate-run : tie.Need-slice_bounds-run-end-in-Block
 slice-aggregate-run c =
     let read = c.before.before.before.before.before.next-frame in
-    sym (length-take-le read.result.length read.new.0 read.ensures.0)
+    sym (length-take-le read.result.length read.new.block read.ensures.0)
 
 pub one_spec : {M : Type 1} → statement M
 one_spec =

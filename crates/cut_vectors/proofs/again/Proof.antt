@@ -16,13 +16,13 @@ decreases-loop image₀ torn₀ block old size counted₀ k₀ image torn counte
 loop-again : tie.Need-loop-k-preserved invariant-loop decreases-loop
 loop-again c =
     let held = c.before.before.before.before.before.before.before.before.before.before.loop-k.invariant in
-    (c.before.before.step.auto.0 ∙ held.0, c.before.before.before.before.before.before.again_in-counted.auto.1.1.0 ∙ held.1)
+    (c.before.before.step.auto.area ∙ held.0, c.before.before.before.before.before.before.again_in-counted.auto.torn ∙ held.1)
 
 same_length : tie.Need-shape_of-image invariant-loop decreases-loop
 same_length c = c.before.before.before.before.before.before.loop-k.invariant.0
 
 same-length-2 : tie.Need-shape_of-torn invariant-loop decreases-loop
-same-length-2 c = c.before.before.again_in.auto.1.1.0 ∙ c.before.before.before.before.before.before.loop-k.invariant.1
+same-length-2 c = c.before.before.again_in.auto.torn ∙ c.before.before.before.before.before.before.loop-k.invariant.1
 
 pub again_spec : {M : Type 1} → statement M
 again_spec =

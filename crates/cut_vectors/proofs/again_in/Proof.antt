@@ -15,8 +15,8 @@ decreases-loop image torn₀ block old k at counted₀ v₀ torn counted v = 256
 
 loop-again : tie.Need-loop-v-preserved invariant-loop decreases-loop
 loop-again c =
-    c.before.before.cuts-counted.auto.1.0 ∙ c.before.before.before.before.before.before.put.auto.0
-    ∙ c.before.before.before.before.before.before.before.before.before.before.copy.auto.1.0
+    c.before.before.cuts-counted.auto.image ∙ c.before.before.before.before.before.before.put.auto.to
+    ∙ c.before.before.before.before.before.before.before.before.before.before.copy.auto.to
     ∙ c.before.before.before.before.before.before.before.before.before.before.before.before.before.loop-v.invariant
 
 same_length : tie.Need-shape_of-torn invariant-loop decreases-loop

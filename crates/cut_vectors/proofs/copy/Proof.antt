@@ -17,4 +17,4 @@ pub copy_spec : {M : Type 1} → statement M
 copy_spec =
     tie.close
     (tie.spec invariant-loop decreases-loop (λ c. refl) (λ c κs. search rules) (λ c κs. search rules) (λ c. omega arith) (λ c. omega arith)
-    (λ c. c.before.before.put.auto.0 ∙ c.before.before.before.before.before.before.loop-i.invariant) (λ c. c.before.loop-i.invariant) (λ c. tt))
+    (λ c. c.before.before.put.auto.to ∙ c.before.before.before.before.before.before.loop-i.invariant) (λ c. c.before.loop-i.invariant) (λ c. tt))

@@ -15,12 +15,12 @@ decreases-loop image₀ block old steps size counted₀ k₀ image counted k = s
 
 loop-again : tie.Need-loop-k-preserved invariant-loop decreases-loop
 loop-again c =
-    c.before.before.step.auto.0 ∙ c.before.before.before.before.before.before.cut_in-counted.auto.1.0
+    c.before.before.step.auto.area ∙ c.before.before.before.before.before.before.cut_in-counted.auto.image
     ∙ c.before.before.before.before.before.before.before.before.before.loop-k.invariant
 
 same_length : tie.Need-shape_of-image invariant-loop decreases-loop
 same_length c =
-    c.before.before.step-2.auto.0 ∙ c.before.before.before.before.before.before.cut_in-counted-2.auto.1.0
+    c.before.before.step-2.auto.area ∙ c.before.before.before.before.before.before.cut_in-counted-2.auto.image
     ∙ c.before.before.before.before.before.before.before.before.before.loop-k.invariant
 
 pub cuts_spec : {M : Type 1} → statement M

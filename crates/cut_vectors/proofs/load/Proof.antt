@@ -11,7 +11,7 @@ use Rattle.cut_vectors.proofs.load.Tie as tie
 area-lent : tie.Need-slice_bounds-one-end-2
 area-lent c =
     let read = c.before.before.before.before.before.before.before.before.before.before.next-area in
-    sym (length-take-le read.result.length read.new.0 read.ensures.0)
+    sym (length-take-le read.result.length read.new.block read.ensures.0)
 
 image_lent : tie.Need-slice_bounds-one-end-4
 image_lent c =
@@ -30,7 +30,7 @@ torn-lent c =
 block-lent : tie.Need-slice_bounds-one-end-8
 block-lent c =
     let read = c.before.before.before.before.before.before.before.before.before.next-block in
-    sym (length-take-le read.result.length read.new.0 read.ensures.0)
+    sym (length-take-le read.result.length read.new.block read.ensures.0)
 
 pub load_spec : {M : Type 1} → statement M
 load_spec =

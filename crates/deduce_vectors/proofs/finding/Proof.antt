@@ -35,7 +35,7 @@ deduce-requires c κs =
     let worked-out = c.before.before.before.before.before.before.sign_terms in
     let cs : length start.args.held.coefficient ≡ 1024 = search rules in
     let ms : length start.args.held.monomial ≡ 1024 = search rules in
-    let ss : length worked-out.new.1.1.0 ≡ 1024 = search rules in (
+    let ss : length worked-out.new.sign ≡ 1024 = search rules in (
       run-held _ _ _ _ _ _ _ worked-out.ensures (omega arith) cs ms ss (omega arith) (omega arith),
       run-held _ _ _ _ _ _ _ worked-out.ensures (omega arith) cs ms ss (omega arith) (omega arith),
     )

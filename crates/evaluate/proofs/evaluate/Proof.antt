@@ -10,14 +10,14 @@ run-requires c κs =
     let reading = chosen.before.before.before.before.before.before in
     record {
       bytes = reading.before.before.before.before.before.before.args.input.now;
-      stands = few-read reading.read_few_into-few.ensures chosen.few-1.given.1;
+      stands = few-read reading.read_few_into-few.ensures chosen.in-Read.is;
     }
 
 returns-2 : tie.Need-returns-in-Read
 returns-2 c =
     let chosen = c.before.before.before.before.before.before in
     let reading = chosen.before.before.before.before.before.before in
-    c.run.ensures reading.before.before.before.before.before.before.args.input.now (few-read reading.read_few_into-few.ensures chosen.few-1.given.1)
+    c.run.ensures reading.before.before.before.before.before.before.args.input.now (few-read reading.read_few_into-few.ensures chosen.in-Read.is)
 
 pub evaluate_spec : {M : Type 1} → statement M
 evaluate_spec =

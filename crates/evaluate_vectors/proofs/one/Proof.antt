@@ -7,7 +7,7 @@ use Rattle.evaluate_vectors.proofs.one.Tie as tie
 
 slice-aggregate-run : tie.Need-slice_bounds-run-end-in-Block
 slice-aggregate-run c = let read = c.before.before.before.before.before in
-    sym (length-take-le read.next-frame.result.length read.next-frame.new.0 read.next-frame.ensures.0)
+    sym (length-take-le read.next-frame.result.length read.next-frame.new.block read.next-frame.ensures.0)
 
 pub one_spec : {M : Type 1} → statement M
 one_spec =

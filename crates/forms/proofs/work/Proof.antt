@@ -14,8 +14,8 @@ use Rattle.forms.proofs.work.Tie as tie
 
 -- The arrays as they are lent.
 lent-sized : (s : tie.Start) → let a = s.args in
-    Sized (working_by a.normal-coefficient.now a.normal-monomial.now a.normal-terms.now a.number.now a.turned.now)
-lent-sized s = subst Sized (sym s.requires.1) (blank-sized (is_plain s.args.normal-terms.now))
+    Sized (working_by a.normal_coefficient-1.now a.normal_monomial-1.now a.normal_terms-1.now a.number.now a.turned.now)
+lent-sized s = subst Sized (sym s.requires.1) (blank-sized (is_plain s.args.normal_terms-1.now))
 
 normalize-all-requires : tie.Need-normalize_all-requires
 normalize-all-requires c κs =
@@ -27,7 +27,7 @@ normalize-all-requires c κs =
       omega (arith, start.requires.0.polynomials, sized.flags),
     )
 
-mul-copy-monomials : tie.Need-overflow-mul-copy-monomials
+mul-copy-monomials : tie.Need-overflow_mul-polynomials
 mul-copy-monomials c = omega (arith, c.requires.0.polynomials)
 
 copy-monomials-requires : tie.Need-copy_monomials-requires
@@ -62,27 +62,27 @@ module _ (c : tie.After-slice_known-7-1) where
   given = first c
 
   abbrev plain : Bool
-  plain = is_plain given.args.normal-terms.now
+  plain = is_plain given.args.normal_terms-1.now
 
   abbrev forms : WorkingTable
   forms = with_forms given.args.coefficient.now given.args.monomial.now given.args.terms.now given.args.polynomials (blank plain)
 
-  coefficients : (normalizing c).normalize-all.new.1.1.0 ≡ forms.coefficient
+  coefficients : (normalizing c).normalize_all.new.1.1.0 ≡ forms.coefficient
   coefficients =
-      (normalizing c).normalize-all.ensures.0
+      (normalizing c).normalize_all.ensures.0
       ∙ ap (λ (w : WorkingTable). normal_slots given.args.coefficient.now given.args.terms.now w.coefficient 0 given.args.polynomials) given.pre.1
 
-  flags : (normalizing c).normalize-all.new.1.1.1.0 ≡ forms.turned
+  flags : (normalizing c).normalize_all.new.1.1.1.0 ≡ forms.turned
   flags =
-      (normalizing c).normalize-all.ensures.1
+      (normalizing c).normalize_all.ensures.1
       ∙ ap (λ (w : WorkingTable). turned_slots given.args.coefficient.now given.args.terms.now w.turned-1 given.args.polynomials) given.pre.1
 
-  monomials : (copying c).copy-monomials.new.1.0 ≡ forms.monomial
+  monomials : (copying c).copy_monomials.new.1.0 ≡ forms.monomial
   monomials =
-      (copying c).copy-monomials.ensures ∙ ap (λ (w : WorkingTable). copied given.args.monomial.now w.monomial (16 * given.args.polynomials)) given.pre.1
+      (copying c).copy_monomials.ensures ∙ ap (λ (w : WorkingTable). copied given.args.monomial.now w.monomial (16 * given.args.polynomials)) given.pre.1
 
-  counts : (counting c).copy-counts.new.1.0 ≡ forms.terms
-  counts = (counting c).copy-counts.ensures ∙ ap (λ (w : WorkingTable). copied given.args.terms.now w.terms given.args.polynomials) given.pre.1
+  counts : (counting c).copy_counts.new.1.0 ≡ forms.terms
+  counts = (counting c).copy_counts.ensures ∙ ap (λ (w : WorkingTable). copied given.args.terms.now w.terms given.args.polynomials) given.pre.1
 
   forms-sized : Sized forms
   forms-sized =
@@ -91,7 +91,7 @@ module _ (c : tie.After-slice_known-7-1) where
       (readable a.coefficient.now a.monomial.now a.terms.now a.polynomials a.variables given.pre.0)
       (blank plain) (blank-sized plain)
 
-  forms-laid : Laid (normalizing c).normalize-all.new.1.1.0 (copying c).copy-monomials.new.1.0 (counting c).copy-counts.new.1.0
+  forms-laid : Laid (normalizing c).normalize_all.new.1.1.0 (copying c).copy_monomials.new.1.0 (counting c).copy_counts.new.1.0
   forms-laid = subst₃ Laid (sym coefficients) (sym monomials) (sym counts) forms-sized.laid
 
 number-all-requires : tie.Need-number_all-requires
@@ -109,7 +109,7 @@ fill-requires c κs =
       omega (arith, laid.coefficients),
       omega (arith, laid.monomials),
       omega (arith, laid.counts),
-      omega (arith, start.pre.0.polynomials, numbering.number_all.auto.1.1.1.0, (lent-sized start).numbers),
+      omega (arith, start.pre.0.polynomials, numbering.number_all.auto.number, (lent-sized start).numbers),
     )
 
 put-variables-requires : tie.Need-put_variables-requires
@@ -117,9 +117,9 @@ put-variables-requires c κs =
     let filling = c in
     let here = filling.before.before.before.before.before.before.before.before.before.before.before.before in
     let laid = forms-laid here in (
-      omega (arith, filling.fill.auto.0, laid.coefficients),
-      omega (arith, filling.fill.auto.1.0, laid.monomials),
-      omega (arith, filling.fill.auto.1.1.0, laid.counts),
+      omega (arith, filling.fill.auto.coefficient, laid.coefficients),
+      omega (arith, filling.fill.auto.monomial, laid.monomials),
+      omega (arith, filling.fill.auto.terms, laid.counts),
       (first here).requires.0.variables,
     )
 
@@ -128,7 +128,7 @@ same_length c =
     let ending = c in
     let filling = ending in
     let here = filling.before.before.before.before.before.before.before.before.before.before.before.before in
-    ending.put_variables.auto.0 ∙ filling.fill.auto.0 ∙ (normalizing here).normalize-all.auto.1.1.0
+    ending.put_variables.auto.coefficient ∙ filling.fill.auto.coefficient ∙ (normalizing here).normalize_all.auto.1.1.0
 
 returns : tie.Need-returns
 returns c =
@@ -141,8 +141,8 @@ returns c =
     subst⁻¹ (Worked (plain here) a.coefficient.now a.monomial.now a.terms.now a.polynomials a.variables)
     (assembled (plain here) a.coefficient.now a.monomial.now a.terms.now a.polynomials a.variables (coefficients here) (flags here) (monomials here) (counts here)
     (numbering.number_all.ensures
-    ∙ ap (λ (w : WorkingTable). numbered_slots (normalizing here).normalize-all.new.1.1.0 (copying here).copy-monomials.new.1.0
-    (counting here).copy-counts.new.1.0 w.number-1 a.polynomials) start.pre.1)
+    ∙ ap (λ (w : WorkingTable). numbered_slots (normalizing here).normalize_all.new.1.1.0 (copying here).copy_monomials.new.1.0
+    (counting here).copy_counts.new.1.0 w.number-1 a.polynomials) start.pre.1)
     filling.fill.ensures ending.put_variables.ensures)
     (worked (plain here) a.coefficient.now a.monomial.now a.terms.now a.polynomials a.variables start.pre.0)
 

@@ -43,10 +43,10 @@ says-inside-requires c κs =
     let forms = s.requires.0 in
     let worked-out = c.sign_table in
     let low : c.slot_of.result < 64 = omega (arith, c.slot_of.ensures) in
-    let places : length worked-out.new.1.1.1.0 ≡ 1280 = search rules in
+    let places : length worked-out.new.sign ≡ 1280 = search rules in
     let ran = c.afresh-fresh in
     let settled = ends-settled s.args.variables _ ran.ensures.outcome c.if-ran.false in
-    let signed : SignedTable t (sets_of ran.result.ran.state.board) worked-out.new.1.1.1.0 = rw worked-out.ensures (table-signed _ _ forms (search rules)) in
+    let signed : SignedTable t (sets_of ran.result.ran.state.board) worked-out.new.sign = rw worked-out.ensures (table-signed _ _ forms (search rules)) in
     ((table-ready ran.result.ran.state.atoms forms places signed, (ran.ensures.variables, low)), (signed _ (omega (arith, low)), settled))
 
 returns : tie.Need-returns-then-ran

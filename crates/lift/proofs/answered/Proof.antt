@@ -22,7 +22,7 @@ answer-to-requires c κs =
     let a = (start reading).args in (
       record {
         bytes = a.input.now;
-        accepted = found-accepted reading.read_into-contents.ensures (length a.output.now) chosen.contents-in-Numbers-1.given.1 (start reading).requires.0
+        accepted = found-accepted reading.read_into-contents.ensures (length a.output.now) chosen.in-Numbers.is (start reading).requires.0
             edition.edition-number.ensures;
       },
       (start reading).requires.1,
@@ -33,7 +33,7 @@ returns c =
     let chosen = c.before in
     let reading = chosen.before.before.before.before.before.before in
     let a = (start reading).args in
-    let is = found-refused reading.read_into-contents.ensures chosen.contents-1.given.1 in (
+    let is = found-refused reading.read_into-contents.ensures chosen.in-Refused.is in (
       answers-refused a.input.now a.output.now (start reading).requires.0 is,
       (places-refused a.input.now (length a.output.now) (start reading).requires.0 a.places.now is, refused-counts a.largest is),
     )
@@ -45,7 +45,7 @@ returns-2 c =
     let chosen = edition.before.before in
     let reading = chosen.before.before.before.before.before.before in
     let a = (start reading).args in
-    let accepted = found-accepted reading.read_into-contents.ensures (length a.output.now) chosen.contents-in-Numbers-1.given.1 (start reading).requires.0
+    let accepted = found-accepted reading.read_into-contents.ensures (length a.output.now) chosen.in-Numbers.is (start reading).requires.0
     edition.edition-number.ensures in
     let told = answering.answer_to.ensures a.input.now accepted in
     (told.0, (places-accepted a.input.now (length a.output.now) (start reading).requires.0 a.places.now accepted.accepted told.1.0, told.1.1))

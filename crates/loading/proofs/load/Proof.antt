@@ -14,20 +14,20 @@ returns c =
     let chosen = c.before.before in
     let reading = chosen.before.before in
     let a = reading.before.before.before.args in
-    short-load a.block.now a.area.now _ (sym chosen.answer-in-Starts-1.given.1 ∙ reading.accepted-answer.ensures) (omega (arith, c.if-area-size.true))
+    short-load a.block.now a.area.now _ (sym chosen.in-Starts.is ∙ reading.accepted-answer.ensures) (omega (arith, c.if-area-size.true))
 
 write-all-requires : tie.Need-write_all-requires
 write-all-requires c κs =
     let chosen = c.before.before.before in
     let reading = chosen.before.before in
     let a = reading.before.before.before.args in
-    head-found a.block.now a.area.now _ (sym chosen.answer-in-Starts-1.given.1 ∙ reading.accepted-answer.ensures)
+    head-found a.block.now a.area.now _ (sym chosen.in-Starts.is ∙ reading.accepted-answer.ensures)
 
 returns-2 : tie.Need-returns-in-Refused
 returns-2 c =
     let reading = c.before.before.before in
     let a = reading.before.before.before.args in
-    refused-load a.block.now a.area.now _ (sym c.before.answer-1.given.1 ∙ reading.accepted-answer.ensures)
+    refused-load a.block.now a.area.now _ (sym c.before.in-Refused.is ∙ reading.accepted-answer.ensures)
 
 same_length : tie.Need-shape_of-area
 same_length c =
@@ -42,7 +42,7 @@ returns-3 c =
     let chosen = tested.before.before in
     let reading = chosen.before.before in
     let a = reading.before.before.before.args in
-    let whole = whole-load a.block.now a.area.now _ (sym chosen.answer-in-Starts-1.given.1
+    let whole = whole-load a.block.now a.area.now _ (sym chosen.in-Starts.is
     ∙ reading.accepted-answer.ensures) (omega (arith, tested.if-area-size.false)) in
     (whole.0, writing.write_all.ensures ∙ whole.1)
 

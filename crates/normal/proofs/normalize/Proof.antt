@@ -35,7 +35,7 @@ module _ (c : tie.After-first_is_negative) where
   given = c.before.before.before.before.before.before
 
   -- The divided run, by the content.
-  divided-is : c.divide.new.1.0
+  divided-is : c.divide.new.target
       ≡ divided_run (content (coefficients given.args.coefficient.now given.args.from given.args.to)) given.args.coefficient.now
       given.args.target.now given.args.from given.args.to
   divided-is = c.divide.ensures

@@ -17,5 +17,5 @@ arguments_spec =
     tie.close
     (tie.spec invariant-loop decreases-loop (λ c κs. tt) (λ c κs. tt) (λ c. (refl, refl)) (λ c κs. tt) (λ c. omega arith) (λ c. omega arith)
     (λ c. let loop = c.before.before.before.before.before.before.before.loop-i in
-    (c.before.before.before.argument-line.auto.1.0 ∙ loop.invariant.0, c.before.before.before.argument-line.auto.1.1.1.0 ∙ loop.invariant.1))
-    (λ c κs. tt) (λ c. c.before.before.before.before.loop-i.invariant.0) (λ c. c.before.over.auto.1.0 ∙ c.before.before.before.before.loop-i.invariant.1) (λ c. tt))
+    (c.before.before.before.argument-line.auto.word ∙ loop.invariant.0, c.before.before.before.argument-line.auto.numbers ∙ loop.invariant.1))
+    (λ c κs. tt) (λ c. c.before.before.before.before.loop-i.invariant.0) (λ c. c.before.over.auto.readings ∙ c.before.before.before.before.loop-i.invariant.1) (λ c. tt))

@@ -14,5 +14,5 @@ decreases-loop block bytes numbers₀ next₀ i₀ numbers next i = length bytes
 
 pub lines_spec : {M : Type 1} → statement M
 lines_spec =
-    tie.close (tie.spec invariant-loop decreases-loop (λ c. refl) (λ c. omega arith) (λ c κs. tt) (λ c. omega arith) (λ c. omega arith) (λ c. c.before.heard-next.auto.1.1.1.0 ∙ c.before.before.before.before.before.loop-i.invariant)
+    tie.close (tie.spec invariant-loop decreases-loop (λ c. refl) (λ c. omega arith) (λ c κs. tt) (λ c. omega arith) (λ c. omega arith) (λ c. c.before.heard-next.auto.numbers ∙ c.before.before.before.before.before.loop-i.invariant)
     (λ c. c.before.loop-i.invariant) (λ c. tt))

@@ -16,7 +16,7 @@ stream_spec =
     tie.close
     (tie.spec invariant-loop decreases-loop (λ c κs. tt) (λ c. (refl, refl)) (λ c. omega arith) (λ c κs. tt) (λ c. omega arith)
     (λ c. let loop = c.before.before.before.before.before.before.before.before.before.loop-turns in
-    (c.before.before.before.before.some_lines-now.auto.1.0 ∙ loop.invariant.0, c.before.before.before.before.some_lines-now.auto.1.1.1.0 ∙ loop.invariant.1))
+    (c.before.before.before.before.some_lines-now.auto.bytes ∙ loop.invariant.0, c.before.before.before.before.some_lines-now.auto.numbers ∙ loop.invariant.1))
     (λ c κs. tt) (λ c. c.before.before.before.before.before.loop-turns.invariant.0)
-    (λ c. c.before.heard.auto.1.1.1.0 ∙ c.before.before.before.before.before.loop-turns.invariant.1) (λ c. tt) (λ c. c.before.before.loop-turns.invariant.0)
+    (λ c. c.before.heard.auto.numbers ∙ c.before.before.before.before.before.loop-turns.invariant.1) (λ c. tt) (λ c. c.before.before.loop-turns.invariant.0)
     (λ c. c.before.before.loop-turns.invariant.1) (λ c. tt))

@@ -8,7 +8,7 @@ use Rattle.placardpan_many.proofs.one.Tie as tie
 slice-aggregate-print-asked : tie.Need-slice_bounds-print_asked-end-in-Block
 slice-aggregate-print-asked c =
     let read = c.before.before.before.before.before.next-frame in
-    sym (length-take-le read.result.length read.new.0 read.ensures.0)
+    sym (length-take-le read.result.length read.new.block read.ensures.0)
 
 pub one_spec : {M : Type 1} → statement M
 one_spec =

@@ -19,5 +19,5 @@ lines_spec =
     (tie.spec invariant-loop decreases-loop (λ c. (refl, refl)) (λ c. omega arith) (λ c κs. tt) (λ c. omega arith) (λ c. omega arith)
     (λ c. let loop = c.before.before.before.before.before.before.before.before.before.loop-i in
     let heard = c.before.before.before.before.heard-next in
-    (heard.auto.0 ∙ loop.invariant.0, heard.auto.1.1.1.0 ∙ loop.invariant.1))
+    (heard.auto.words ∙ loop.invariant.0, heard.auto.text ∙ loop.invariant.1))
     (λ c. c.before.loop-i.invariant.0) (λ c. c.before.loop-i.invariant.1) (λ c. tt))

@@ -16,13 +16,13 @@ loop-again : tie.Need-loop-turns-preserved invariant-loop decreases-loop
 loop-again c =
     let loop = c.before.before.before.before.before.before.before.before.before.before.before.before.before.loop-turns in
     let lines = c.before.before.before.before.before.before.before.some_lines-now in
-    (lines.auto.0 ∙ loop.invariant.0, lines.auto.1.0 ∙ loop.invariant.1, lines.auto.1.1.1.0 ∙ loop.invariant.2)
+    (lines.auto.words ∙ loop.invariant.0, lines.auto.bytes ∙ loop.invariant.1, lines.auto.text ∙ loop.invariant.2)
 
 pub stream_spec : {M : Type 1} → statement M
 stream_spec =
     tie.close
     (tie.spec invariant-loop decreases-loop (λ c κs. tt) (λ c. (refl, refl, refl)) (λ c. omega arith) (λ c κs. tt) (λ c. omega arith) loop-again (λ c κs. tt)
-    (λ c. c.before.before.before.before.heard.auto.0 ∙ c.before.before.before.before.before.before.before.before.before.loop-turns.invariant.0)
+    (λ c. c.before.before.before.before.heard.auto.words ∙ c.before.before.before.before.before.before.before.before.before.loop-turns.invariant.0)
     (λ c. c.before.before.before.before.before.before.before.before.before.loop-turns.invariant.1)
-    (λ c. c.before.before.before.before.heard.auto.1.1.1.0 ∙ c.before.before.before.before.before.before.before.before.before.loop-turns.invariant.2) (λ c. tt)
+    (λ c. c.before.before.before.before.heard.auto.text ∙ c.before.before.before.before.before.before.before.before.before.loop-turns.invariant.2) (λ c. tt)
     (λ c. c.before.before.loop-turns.invariant.0) (λ c. c.before.before.loop-turns.invariant.1) (λ c. c.before.before.loop-turns.invariant.2) (λ c. tt))

@@ -13,10 +13,10 @@ abbrev decreases-loop : tie.decreases-loop-left
 decreases-loop input output₀ text times asked left₀ output left = left
 
 loop-again : tie.Need-loop-left-preserved invariant-loop decreases-loop
-loop-again c = c.before.before.call.auto.1.0 ∙ c.before.before.before.before.before.loop-left.invariant
+loop-again c = c.before.before.call.auto.output ∙ c.before.before.before.before.before.loop-left.invariant
 
 same_length : tie.Need-shape_of-output invariant-loop decreases-loop
-same_length c = c.before.before.before.before.print_asked.auto.1.0 ∙ c.before.before.before.before.before.before.before.before.loop-left.invariant
+same_length c = c.before.before.before.before.print_asked.auto.output ∙ c.before.before.before.before.before.before.before.before.loop-left.invariant
 
 pub repeat_spec : {M : Type 1} → statement M
 repeat_spec =

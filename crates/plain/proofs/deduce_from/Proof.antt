@@ -19,8 +19,8 @@ seen-requires c κs =
     record {
       first = s.requires.0;
       second = s.requires.1;
-      first_small = d.small.ensures.yes (not-false _ c.if-not-small.false);
-      second_small = c.small-2.ensures.yes (not-false _ c.if-not-small-2.false);
+      first_small = d.small.ensures.yes (c.if-not-small.false);
+      second_small = c.small-2.ensures.yes (c.if-not-small-2.false);
     }
 
 returns-4 : tie.Need-returns

@@ -12,14 +12,14 @@ unfolding block_from
 returns c =
     let a = c.before.before.before.before.before.before.args in
     add-closed a.number (block_from a.variables a.coefficient.now a.monomial.now a.terms.now a.polynomials) a.pool.now
-    (sym c.before.is_open.ensures ∙ not-true _ c.if-not-is_open.true)
+    (sym c.before.is_open.ensures ∙ c.if-not-is_open.true)
 
 returns-2 : tie.Need-returns-then-not-allows
 unfolding block_from
 returns-2 c =
     let a = c.before.before.before.before.before.before.before.before.before.args in
     add-other a.number (block_from a.variables a.coefficient.now a.monomial.now a.terms.now a.polynomials) a.pool.now
-    (sym c.before.before.before.before.is_open.ensures ∙ not-false _ c.before.before.before.if-not-is_open.false) (sym c.before.allows.ensures ∙ not-true _ c.if-not-allows.true)
+    (sym c.before.before.before.before.is_open.ensures ∙ c.before.before.before.if-not-is_open.false) (sym c.before.allows.ensures ∙ c.if-not-allows.true)
 
 forms-of-requires : tie.Need-forms_of-count-requires
 forms-of-requires c κs = search rules
@@ -28,7 +28,7 @@ fill-requires : tie.Need-fill-requires
 fill-requires c κs =
     let s = c.before.before.before.before.before.before.before.before.before.before.before.before.before.before.before.before.before.before.before.before.before.before.before in
     let h = c.before.before.before.before.before.before.before.before.before.forms_of-count.ensures in
-    (s.requires.0, below-32 s.args.number _ (sym c.before.before.before.before.before.before.before.before.before.before.before.before.before.before.before.before.before.before.is_open.ensures ∙ not-false _ c.before.before.before.before.before.before.before.before.before.before.before.before.before.before.before.before.before.if-not-is_open.false), h.room, h.slots, h.most)
+    (s.requires.0, below-32 s.args.number _ (sym c.before.before.before.before.before.before.before.before.before.before.before.before.before.before.before.before.before.before.is_open.ensures ∙ c.before.before.before.before.before.before.before.before.before.before.before.before.before.before.before.before.before.if-not-is_open.false), h.room, h.slots, h.most)
 
 returns-3 : tie.Need-returns
 unfolding block_from
@@ -36,7 +36,7 @@ returns-3 c =
     let s = c.before.before.before.before.before.before.before.before.before.before.before.before.before.before.before.before.before.before.before.before.before.before.before.before.before.before in
     let a = s.args in
     gives-forms a.number _ (block_from a.variables a.coefficient.now a.monomial.now a.terms.now a.polynomials) a.pool.now _ _ _ _ _ _
-    s.requires.0 (sym c.before.before.before.before.before.before.before.before.before.before.before.before.before.before.before.before.before.before.before.before.before.is_open.ensures ∙ not-false _ c.before.before.before.before.before.before.before.before.before.before.before.before.before.before.before.before.before.before.before.before.if-not-is_open.false) (sym c.before.before.before.before.before.before.before.before.before.before.before.before.before.before.before.before.before.before.allows.ensures ∙ not-false _ c.before.before.before.before.before.before.before.before.before.before.before.before.before.before.before.before.before.if-not-allows.false)
+    s.requires.0 (sym c.before.before.before.before.before.before.before.before.before.before.before.before.before.before.before.before.before.before.before.before.before.is_open.ensures ∙ c.before.before.before.before.before.before.before.before.before.before.before.before.before.before.before.before.before.before.before.before.if-not-is_open.false) (sym c.before.before.before.before.before.before.before.before.before.before.before.before.before.before.before.before.before.before.allows.ensures ∙ c.before.before.before.before.before.before.before.before.before.before.before.before.before.before.before.before.before.if-not-allows.false)
     c.before.before.before.before.before.before.before.before.before.before.before.before.forms_of-count.ensures c.before.before.fill.ensures
 
 pub add_read_spec : {M : Type 1} → statement M

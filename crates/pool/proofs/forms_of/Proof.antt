@@ -27,7 +27,7 @@ returns c =
     let s = c.before.before.before.before.before.before.before.before.before.before.before.before.before.before.before.before.before.before.before.before.before.before.before.before.before in
     let a = s.args in
     holds-forms a.coefficient.now a.monomial.now a.terms.now a.polynomials a.variables s.requires.0.polynomials _
-    c.before.before.before.before.before.before.before.before.before.before.before.before.before.before.work.ensures _ _ (c.before.before.listed.auto.1.1.1.1.0 ∙ s.requires.1.slots) c.before.before.listed.ensures
+    c.before.before.before.before.before.before.before.before.before.before.before.before.before.before.work.ensures _ _ (c.before.before.listed.auto.order ∙ s.requires.1.slots) c.before.before.listed.ensures
 
 pub forms_of_spec : {M : Type 1} → statement M
 forms_of_spec =

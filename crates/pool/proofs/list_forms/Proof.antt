@@ -32,7 +32,7 @@ shared-slice-read-wide-2 c =
     let s = c.before.before.before.before.before.before.before.before.before in
     omega (arith, c.before.wide-slot.ensures, s.requires.3.below c.before.before.before.before.loop-i.i (omega arith), s.requires.2.counts)
 
-mul-list-form : tie.Need-overflow-mul-list-form invariant-loop decreases-loop
+mul-list-form : tie.Need-overflow_mul-slot invariant-loop decreases-loop
 mul-list-form c =
     let s = c.before.before.before.before.before.before.before.before.before.before.before in
     omega (arith, c.before.before.before.wide-slot.ensures, s.requires.3.below c.before.before.before.before.before.before.loop-i.i (omega arith))
@@ -57,7 +57,7 @@ loop-again c =
     let k : ℕ = get_or a.order.now l.i 0 in
     let p : Polynomial = slot_of a.coefficient.now a.monomial.now a.terms.now k in
     let rest : List Polynomial = forms_left a.coefficient.now a.monomial.now a.terms.now a.order.now a.count (l.i + 1) in
-    let is : c.before.before.list_form.new.0 ≡ listed_words a.number l.pool p =
+    let is : c.before.before.list_form.new.pool ≡ listed_words a.number l.pool p =
     c.before.before.list_form.ensures
     ∙ ap (listed_words a.number l.pool) (run_is a.coefficient.now a.monomial.now a.terms.now k c.before.before.before.before.before.before.wide-slot.result c.before.before.before.before.wide-size.result
     c.before.before.before.before.before.before.wide-slot.ensures c.before.before.before.before.wide-size.ensures) in (

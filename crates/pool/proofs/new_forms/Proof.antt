@@ -33,7 +33,7 @@ shared-slice-read-wide-2 c =
     let s = c.before.before.before.before.before.before.before.before.before in
     omega (arith, c.before.wide-slot.ensures, s.requires.1.below c.before.before.before.before.loop-i.i (omega arith), s.requires.0.counts)
 
-mul-find : tie.Need-overflow-mul-find invariant-loop decreases-loop
+mul-find : tie.Need-overflow_mul-slot invariant-loop decreases-loop
 mul-find c =
     let s = c.before.before.before.before.before.before.before.before.before.before in
     omega (arith, c.before.before.wide-slot.ensures, s.requires.1.below c.before.before.before.before.before.loop-i.i (omega arith))

@@ -15,5 +15,5 @@ decreases-loop word numbers₀ next₀ i₀ numbers next i = length word - i
 pub word_taken_spec : {M : Type 1} → statement M
 word_taken_spec =
     tie.close
-    (tie.spec invariant-loop decreases-loop (λ c. refl) (λ c. omega arith) (λ c κs. tt) (λ c. omega arith) (λ c. omega arith) (λ c. c.before.taken-next.auto.1.1.0 ∙ c.before.before.before.before.before.loop-i.invariant)
-    (λ c κs. tt) (λ c. c.before.taken.auto.1.1.0 ∙ c.before.before.before.before.loop-i.invariant) (λ c. tt))
+    (tie.spec invariant-loop decreases-loop (λ c. refl) (λ c. omega arith) (λ c κs. tt) (λ c. omega arith) (λ c. omega arith) (λ c. c.before.taken-next.auto.readings ∙ c.before.before.before.before.before.loop-i.invariant)
+    (λ c κs. tt) (λ c. c.before.taken.auto.readings ∙ c.before.before.before.before.loop-i.invariant) (λ c. tt))

@@ -34,7 +34,7 @@ returns-2 c =
 
 -- no atom is cut
 uncut : (c : tie.Else-not-no_atom_cut) → Uncut c.start-first.result c.run-ran.result
-uncut c = c.no_atom_cut.ensures (not-false _ c.if-not-no_atom_cut.false)
+uncut c = c.no_atom_cut.ensures (c.if-not-no_atom_cut.false)
 
 turned-largest-requires : tie.Need-turned_largest-most-requires
 turned-largest-requires c κs =

@@ -25,7 +25,7 @@ words-of-requires : tie.Need-words_of-falls-requires invariant-loop decreases-lo
 words-of-requires c κs =
     let signs = c.before.before.before.before.before.before.before in
     let start = signs.before.before.before.before.before.before.before.before in
-    let places : length signs.sign_table.new.1.1.1.0 ≡ 1280 = search rules in
+    let places : length signs.sign_table.new.sign ≡ 1280 = search rules in
     let slots = form-slots {t = table_of start.args.variables start.args.table} start.requires.0 places in
     (slots, (start.requires.0.coefficients, (length-replicate {A = ℕ} 128 0, length-replicate {A = ℕ} 130 0)))
 
@@ -37,7 +37,7 @@ says-requires c κs =
     let start = signs.before.before.before.before.before.before.before.before in
     let worked-out = signs.sign_table in
     let low : loop.loop-i.i < 64 = omega (arith, loop.loop-i.invariant.0, c.before.before.before.before.before.before.loop-i-test.true) in
-    let places : length worked-out.new.1.1.1.0 ≡ 1280 = search rules in (
+    let places : length worked-out.new.sign ≡ 1280 = search rules in (
       (start.requires.0, (start.requires.1.0, low)),
       ((places, (rw worked-out.ensures (table-signed _ _ start.requires.0 (search rules)), start.requires.1.1)), words.words_of-falls.ensures),
     )

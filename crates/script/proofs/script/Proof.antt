@@ -9,13 +9,13 @@ use Rattle.script.proofs.script.Tie as tie
 answered-requires : tie.Need-answered-requires
 answered-requires c κs =
     let chosen = c.before in
-    found-read chosen.before.before.before.before.before.before.read_into-contents.ensures chosen.enum_told-1.given.1
+    found-read chosen.before.before.before.before.before.before.read_into-contents.ensures chosen.in-Numbers.is
 
 returns : tie.Need-returns-in-Refused
 unfolding script_answer
 returns c =
     let chosen = c.before in
-    tells-refused _ (simplified-refused _ (found-refused chosen.before.before.before.before.before.before.read_into-contents.ensures chosen.contents-1.given.1))
+    tells-refused _ (simplified-refused _ (found-refused chosen.before.before.before.before.before.before.read_into-contents.ensures chosen.in-Refused.is))
 
 returns-2 : tie.Need-returns-in-Numbers
 unfolding script_answer

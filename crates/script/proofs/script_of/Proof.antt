@@ -8,19 +8,19 @@ use Rattle.script.proofs.script_of.Tie as tie
 told-requires : tie.Need-told-requires
 told-requires c κs =
     let chosen = c.before.before.before.before.before.before in
-    let standing = found-standing chosen.before.before.before.before.before.before.read_into-contents.ensures chosen.contents-in-Numbers-1.given.1 in
+    let standing = found-standing chosen.before.before.before.before.before.before.read_into-contents.ensures chosen.in-Numbers.is in
     record { block = standing.block; stands = standing.stands }
 
 returns : tie.Need-returns-in-Refused
 returns c =
     let chosen = c.before in
-    tells-refused _ (found-refused chosen.before.before.before.before.before.before.read_into-contents.ensures chosen.contents-1.given.1)
+    tells-refused _ (found-refused chosen.before.before.before.before.before.before.read_into-contents.ensures chosen.in-Refused.is)
 
 returns-2 : tie.Need-returns-in-Numbers
 returns-2 c =
     let telling = c.before.before in
     let chosen = telling.before.before.before.before.before.before.before in
-    let standing = found-standing chosen.before.before.before.before.before.before.read_into-contents.ensures chosen.contents-in-Numbers-1.given.1 in
+    let standing = found-standing chosen.before.before.before.before.before.before.read_into-contents.ensures chosen.in-Numbers.is in
     tells-read _ standing.accepted (telling.told.ensures standing.block standing.stands)
 
 pub script_of_spec : {M : Type 1} → statement M

@@ -10,7 +10,7 @@ put-block-requires c κs =
     let chosen = c.before.before.before.before.before.before in
     let read = chosen.before.before.before.before.before.before in
     let kept = read.read_into-script.auto.1 in
-    let given = text-read read.before.before.before.before.before.before.before.args.text.now read.read_into-script.ensures chosen.script-in-Numbers-1.given.1 in (
+    let given = text-read read.before.before.before.before.before.before.before.args.text.now read.read_into-script.ensures chosen.in-Numbers.is in (
       record {
         coefficients = omega (arith, kept.0);
         monomials = omega (arith, kept.1.0);
@@ -21,7 +21,7 @@ put-block-requires c κs =
     )
 
 returns : tie.Need-returns-in-Stopped
-returns c = let read = c.before.before.before.before.before.before.before in gives_none read.before.before.before.before.before.before.before.args.text.now read.read_into-script.ensures c.before.script-1.given.1
+returns c = let read = c.before.before.before.before.before.before.before in gives_none read.before.before.before.before.before.before.before.args.text.now read.read_into-script.ensures c.before.in-Stopped.is
 
 returns-2 : tie.Need-returns-in-Numbers
 returns-2 c =
@@ -29,8 +29,8 @@ returns-2 c =
     let chosen = put.before.before.before.before.before.before.before in
     let read = chosen.before.before.before.before.before.before in
     let text = read.before.before.before.before.before.before.before.args.text.now in
-    let given = text-read text read.read_into-script.ensures chosen.script-in-Numbers-1.given.1 in
-    gives-block text read.read_into-script.ensures chosen.script-in-Numbers-1.given.1 (put.put_block-converted.ensures given.block given.writes)
+    let given = text-read text read.read_into-script.ensures chosen.in-Numbers.is in
+    gives-block text read.read_into-script.ensures chosen.in-Numbers.is (put.put_block-converted.ensures given.block given.writes)
 
 pub block_of_spec : {M : Type 1} → statement M
 block_of_spec = tie.close (tie.spec (λ c. search rules) (λ c. search rules) (λ c. search rules) (λ c. search rules) (λ c κs. search rules) (λ c. search rules) (λ c. search rules) (λ c. search rules) (λ c. search rules) (λ c. search rules) (λ c. search rules) put-block-requires returns (λ c. search rules) returns-2)

@@ -18,10 +18,10 @@ abbrev start : tie.After-write-size → tie.Start
 start c = c.before.before.before.before.before.before
 
 -- What was written apart has room there.
-fits : (c : tie.After-write-size) → c.write-size.result ≤ length c.write-size.new.1.1.1.1.1.1.1.1.1.0
+fits : (c : tie.After-write-size) → c.write-size.result ≤ length c.write-size.new.out
 fits c =
     let some = (start c).requires.1 in
-    omega (arith, (c.write-size.ensures some.block some.writable).0, some.writable.room, c.write-size.auto.1.1.1.1.1.1.1.1.1.0)
+    omega (arith, (c.write-size.ensures some.block some.writable).0, some.writable.room, c.write-size.auto.out)
 
 lends : tie.Need-slice_bounds-to_edition1-end
 lends c = let writing = c.before.before in sym (length-take-le writing.write-size.result _ (fits writing))

@@ -13,7 +13,7 @@ find-requires c κs =
     let told = c.before.before.before.before.before in
     let one = told.before.before.before.before.before in
     let s = one.before.before.before.before.before.before in
-    let room = (read _ _ _ 0 [] [] [] one.read_polynomial-found.ensures told.before.found-in-Read-1.given.1).room in
+    let room = (read _ _ _ 0 [] [] [] one.read_polynomial-found.ensures told.before.in-Read.is).room in
     let kept = one.read_polynomial-found.auto.1 in (
       some_read s.requires.0,
       record {
@@ -27,7 +27,7 @@ returns : tie.Need-returns-then-number-known
 returns c =
     let found = c.before in
     let one = found.before.before.before.before.before.before.before.before.before.before.before in
-    piece-old _ _ _ _ _ _ _ one.read_polynomial-found.ensures found.before.before.before.before.before.before.before.found-in-Read-1.given.1
+    piece-old _ _ _ _ _ _ _ one.read_polynomial-found.ensures found.before.before.before.before.before.before.before.in-Read.is
     found.find-number.ensures c.if-number-known.true
 
 longest-requires : tie.Need-longest-requires
@@ -42,7 +42,7 @@ returns-2 c =
     let tested = c.before.before.before.before in
     let found = tested.before.before in
     let one = found.before.before.before.before.before.before.before.before.before.before.before in
-    piece-full _ _ _ _ _ _ _ one.read_polynomial-found.ensures found.before.before.before.before.before.before.before.found-in-Read-1.given.1
+    piece-full _ _ _ _ _ _ _ one.read_polynomial-found.ensures found.before.before.before.before.before.before.before.in-Read.is
     found.find-number.ensures tested.before.if-number-known.false (omega (arith, tested.if-known-ge64.true))
     c.longest.ensures
 
@@ -54,7 +54,7 @@ store-requires c κs =
     let s = one.before.before.before.before.before.before in
     let table = some_read s.requires.0 in
     let room = (read _ _ _ 0 [] [] [] one.read_polynomial-found.ensures
-    found.before.before.before.before.before.before.before.found-in-Read-1.given.1).room in
+    found.before.before.before.before.before.before.before.in-Read.is).room in
     let kept = one.read_polynomial-found.auto.1 in (
       record { coefficients = omega (arith, table.coefficients, tested.if-known-ge64.false); monomials = omega (arith, table.monomials, tested.if-known-ge64.false) },
       omega (arith, table.counts, tested.if-known-ge64.false),
@@ -66,7 +66,7 @@ returns-3 : tie.Need-returns-in-Stopped
 returns-3 c =
     let told = c.before.before.before.before in
     let one = told.before.before.before.before.before in
-    piece-stopped _ _ _ _ _ _ _ one.read_polynomial-found.ensures told.before.found-1.given.1 c.stops_at.ensures
+    piece-stopped _ _ _ _ _ _ _ one.read_polynomial-found.ensures told.before.in-Stopped.is c.stops_at.ensures
 
 returns-4 : tie.Need-returns-else-known-ge64
 returns-4 c =
@@ -75,7 +75,7 @@ returns-4 c =
     let found = tested.before.before in
     let one = found.before.before.before.before.before.before.before.before.before.before.before in
     let put = stored.store.ensures in
-    piece-new _ _ _ _ _ _ _ one.read_polynomial-found.ensures found.before.before.before.before.before.before.before.found-in-Read-1.given.1
+    piece-new _ _ _ _ _ _ _ one.read_polynomial-found.ensures found.before.before.before.before.before.before.before.in-Read.is
     found.find-number.ensures tested.before.if-number-known.false tested.if-known-ge64.false
     put.0 put.1 put.2
 

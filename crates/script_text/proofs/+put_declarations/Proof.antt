@@ -68,7 +68,7 @@ pub +put-declarations-spec : {M : Type 1} → statement M
     let last = others.before.before.before.before in
     let letter = last.before.before.before.before.before in
     let first = letter.before.before.before.before in
-    others.put_declarations.auto.0 ∙ last.put_bytes-next.auto.0 ∙ letter.put_byte-rest.auto.0 ∙ first.put_bytes-letter.auto.0)
+    others.put_declarations.auto.text ∙ last.put_bytes-next.auto.text ∙ letter.put_byte-rest.auto.text ∙ first.put_bytes-letter.auto.text)
     (λ c.
     let others = c.before.before in
     let last = others.before.before.before.before in

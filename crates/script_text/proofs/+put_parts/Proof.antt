@@ -53,7 +53,7 @@ pub +put-parts-spec : {M : Type 1} → statement M
     let others = c.before.before in
     let first = others.before.before.before.before in
     let space = first.before.before.before.before.before in
-    others.put_parts.auto.0 ∙ first.put_atom-next.auto.0 ∙ space.put_byte-start.auto.0)
+    others.put_parts.auto.text ∙ first.put_atom-next.auto.text ∙ space.put_byte-start.auto.text)
     (λ c.
     let others = c.before.before in
     let first = others.before.before.before.before in
@@ -107,7 +107,7 @@ pub +put-parts-spec : {M : Type 1} → statement M
     let inner = end.before.before.before.before in
     let join = inner.before.before.before.before in
     let space = join.before.before.before.before.before in
-    others.put_parts-2.auto.0 ∙ end.put_byte-next.auto.0 ∙ inner.put_parts-inner.auto.0 ∙ join.put_join-kids.auto.0 ∙ space.put_byte-start.auto.0)
+    others.put_parts-2.auto.text ∙ end.put_byte-next.auto.text ∙ inner.put_parts-inner.auto.text ∙ join.put_join-kids.auto.text ∙ space.put_byte-start.auto.text)
     (λ c.
     let others = c.before.before in
     let end = others.before.before.before.before in

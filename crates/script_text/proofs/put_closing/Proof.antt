@@ -11,7 +11,7 @@ put_closing_spec =
     tie.close
     (tie.spec (λ c. search rules) (λ c κs. fits-as (closing-other _ c.before.before.in-0.keys2) c.before.before.before.before.requires) (λ c. search rules)
     (λ c κs. let m = c.before.before.in-0.rest in fits-as (closing-one _ m.0.1 m.1) c.before.before.before.before.requires)
-    (λ c. wrote_as wrote_nothing (closing-empty _ c.in-0.keys1)) (λ c. search rules)
+    (λ c. wrote_as wrote_nothing (closing-empty _ c.in-0.is)) (λ c. search rules)
     (λ c. let put = c.before.before in wrote_as put.put_bytes.ensures (closing-other _ put.before.before.before.in-0.keys2)) (λ c. search rules)
     (λ c.
     let put = c.before.before in

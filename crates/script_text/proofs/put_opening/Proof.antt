@@ -18,7 +18,7 @@ put_opening_spec =
     (λ c. search rules)
     (λ c κs. let m = c.before.before.in-0.rest in fits-as (opening-most _ m.0.0.0.0.0.1 m.0.0.0.0.1 m.0.0.0.1 m.0.0.1 m.0.1 m.1)
     c.before.before.before.before.requires)
-    (λ c. wrote_as wrote_nothing (opening-empty _ c.in-0.keys1))
+    (λ c. wrote_as wrote_nothing (opening-empty _ c.in-0.is))
     (λ c. search rules) (λ c. let put = c.before.before in wrote_as put.put_bytes.ensures (opening-above _ put.before.before.before.in-0.keys2))
     (λ c. search rules) (λ c. let put = c.before.before in wrote_as put.put_bytes-in-2.ensures (opening-equal _ put.before.before.before.in-0.keys3))
     (λ c. search rules) (λ c. let put = c.before.before in wrote_as put.put_bytes-in-3.ensures (opening-least _ put.before.before.before.in-0.keys4))

@@ -11,21 +11,21 @@ use Rattle.settled.proofs.carried_one.Tie as tie
 
 -- there is an atom left; the variable is one of the board's
 more : (c : tie.In-Form) → c.args.next < 64
-more c = c.requires.1.1 (ap variable_of c.enum_told-1.given.1)
+more c = c.requires.1.1 (ap variable_of c.in-Form.is)
 
-low : (c : tie.In-Variable-2) → let s = c.before.before in c.holds-1.given.0.0 < s.args.board.variables
-low c = let s = c in subst (λ h. Below s.args.board.variables h) c.holds-1.given.1 s.requires.1.0
+low : (c : tie.In-Variable-2) → let s = c.before.before in c.in-Variable.i < s.args.board.variables
+low c = let s = c in subst (λ h. Below s.args.board.variables h) c.in-Variable.is s.requires.1.0
 
 returns : tie.Need-returns-in-Form
 unfolding carried_set carried_next
-returns c = rw c.enum_told-1.given.1 (refl, refl)
+returns c = rw c.in-Form.is (refl, refl)
 
 returns-2 : tie.Need-returns-in-Variable
 unfolding carried_set carried_next
 returns-2 c =
     let s = c in
     let l = low c.before.before in
-    rw c.holds-1.given.1 (sym (set_at s.args.board.sets _ _ (omega (arith, s.requires.0))), refl)
+    rw c.in-Variable.is (sym (set_at s.args.board.sets _ _ (omega (arith, s.requires.0))), refl)
 
 pub carried_one_spec : {M : Type 1} → statement M
 carried_one_spec =

@@ -9,13 +9,13 @@ returns : tie.Need-returns-then-others-end
 returns c =
     let s = c in
     let which = c.which-holds in
-    idle-listed s.requires.0 s.args.state s.args.number which.ensures.0 c.enum_told-1.given.1 s.requires.1.1
+    idle-listed s.requires.0 s.args.state s.args.number which.ensures.0 c.in-Form.is s.requires.1.1
     (omega (arith, c.if-others-end.true, c.many-end.ensures))
 
 returns-2 : tie.Need-returns-in-Variable
 returns-2 c =
     let s = c in
-    idle-variable s.requires.0 s.args.state s.args.number c.which-holds.ensures.0 c.holds-1.given.1
+    idle-variable s.requires.0 s.args.state s.args.number c.which-holds.ensures.0 c.in-Variable.is
 
 returns-3 : tie.Need-returns-else-others-end
 returns-3 c = may-matter _ _

@@ -8,17 +8,17 @@ use Rattle.telling.proofs.put_word.Tie as tie
 returns : tie.Need-returns-in-Formula
 returns c =
     let told = c.before.before.before.before.before in
-    wrote_as c.before.before.put_bytes.ensures (word-formula told.before.before.before.args.verdict told.enum_told-1.given.1)
+    wrote_as c.before.before.put_bytes.ensures (word-formula told.before.before.before.args.verdict told.in-Formula.is)
 
 returns-2 : tie.Need-returns-in-Always
 returns-2 c =
     let told = c.before.before.before.before.before in
-    wrote_as c.before.before.put_bytes-in-Always.ensures (word-always told.before.before.before.args.verdict told.enum_told-in-Always-1.given.1)
+    wrote_as c.before.before.put_bytes-in-Always.ensures (word-always told.before.before.before.args.verdict told.in-Always.is)
 
 returns-3 : tie.Need-returns-in-Unsatisfiable
 returns-3 c =
     let told = c.before.before.before.before.before in
-    wrote_as c.before.before.put_bytes-in-Unsatisfiable.ensures (word-unsatisfiable told.before.before.before.args.verdict told.enum_told-in-Unsatisfiable-1.given.1)
+    wrote_as c.before.before.put_bytes-in-Unsatisfiable.ensures (word-unsatisfiable told.before.before.before.args.verdict told.in-Unsatisfiable.is)
 
 pub put_word_spec : {M : Type 1} → statement M
 put_word_spec =

@@ -18,7 +18,7 @@ returns c =
 lends-line : tie.Need-slice_bounds-put_bytes-end
 lends-line c =
     let line = c.before.before.before.before.before.make_answer-n in
-    sym (length-take-le line.result line.new.0 line.ensures.inside)
+    sym (length-take-le line.result line.new.line line.ensures.inside)
 
 room-line : tie.Need-put_bytes-second-requires
 room-line c κs = omega (arith, ap length c.before.before.before.before.before.make_answer-n.ensures.is)

@@ -12,7 +12,7 @@ use Rattle.telling.proofs.tell_refusal.Tie as tie
 lends-line : tie.Need-slice_bounds-put_bytes-end
 lends-line c =
     let line = c.before.before.before.before.make_refusal-n in
-    sym (length-take-le line.result line.new.0 line.ensures.inside)
+    sym (length-take-le line.result line.new.line line.ensures.inside)
 
 room : tie.Need-put_bytes-requires
 room c κs = omega (arith, ap length c.before.before.before.before.make_refusal-n.ensures.is)

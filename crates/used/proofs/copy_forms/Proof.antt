@@ -35,7 +35,7 @@ source c = let p = (start c).requires.0 in (omega (arith, slot-below c, few c, p
 
 -- and there is room for them.
 target : (c : tie.In-loop-i invariant-loop decreases-loop) → let l = c.loop-i in let count = get_or (start c).args.terms.now (slot c) 0 in
-    (16 * l.i + count ≤ length l.new-coefficient) × (16 * l.i + count ≤ length l.new-monomial) × (l.i < length l.new-terms)
+    (16 * l.i + count ≤ length l.new_coefficient-1) × (16 * l.i + count ≤ length l.new_monomial-1) × (l.i < length l.new-terms)
 target c =
     let p = (start c).requires.2 in
     let k = c.loop-i.invariant 0 in
@@ -54,7 +54,7 @@ copy_forms_spec =
     (tie.spec invariant-loop decreases-loop
     (λ c n.
     let a = c.args in
-    copying-starts (lent n a.coefficient.now a.monomial.now a.terms.now) a.order.now a.used a.new-coefficient.now a.new-monomial.now a.new-terms.now)
+    copying-starts (lent n a.coefficient.now a.monomial.now a.terms.now) a.order.now a.used a.new_coefficient-1.now a.new_monomial-1.now a.new-terms.now)
     (λ c. omega arith)
     (λ c. omega (arith, slot-below c.before))
     (λ c. omega (arith, slot-below c.before.before, (start c.before.before).pre.0.counts))

@@ -24,12 +24,12 @@ slot-below c = (start c).requires.2.slots c.loop-i.i c.loop-i-test.true
 loop-again : tie.Need-loop-i-preserved-then-not-is_constant invariant-loop decreases-loop
 loop-again c =
     let here = c in
-    counting-form here.loop-i-test.true here.loop-i.invariant (λ n cs. sym (not-true _ c.if-not-is_constant.true) ∙ c.is_constant.ensures n cs)
+    counting-form here.loop-i-test.true here.loop-i.invariant (λ n cs. sym (c.if-not-is_constant.true) ∙ c.is_constant.ensures n cs)
 
 loop-again-2 : tie.Need-loop-i-preserved invariant-loop decreases-loop
 loop-again-2 c =
     let here = c in
-    counting-constant here.loop-i-test.true here.loop-i.invariant (λ n cs. sym (not-false _ c.if-not-is_constant.false) ∙ c.is_constant.ensures n cs)
+    counting-constant here.loop-i-test.true here.loop-i.invariant (λ n cs. sym (c.if-not-is_constant.false) ∙ c.is_constant.ensures n cs)
 
 pub count_forms_spec : {M : Type 1} → statement M
 count_forms_spec =

@@ -41,9 +41,9 @@ pub +write-parts-spec : {M : Type 1} → statement M
     let read = first.before.before.before in
     let s = read.before.before.before.before in (
       omega (arith, first-there s.requires.1 read.if-count-eq0.false),
-      after-atom s.requires.1 read.if-count-eq0.false first.if-first-lt16777216.true first.write_atom-next.ensures first.write_atom-next.auto.0,
+      after-atom s.requires.1 read.if-count-eq0.false first.if-first-lt16777216.true first.write_atom-next.ensures first.write_atom-next.auto.out,
     ))
-    (λ c. c.write_parts.auto.0 ∙ c.write_atom-next.auto.0)
+    (λ c. c.write_parts.auto.out ∙ c.write_atom-next.auto.out)
     (λ c.
     let others = c.before.before in
     let first = others.before.before.before.before in
@@ -68,7 +68,7 @@ pub +write-parts-spec : {M : Type 1} → statement M
     let read = first.before.before.before in
     let s = read.before.before.before.before in (
       omega (arith, first-there s.requires.1 read.if-count-eq0.false),
-      inside-join s.requires.1 read.if-count-eq0.false first.if-first-lt16777216.false first.write_join-next.ensures first.write_join-next.auto.0,
+      inside-join s.requires.1 read.if-count-eq0.false first.if-first-lt16777216.false first.write_join-next.ensures first.write_join-next.auto.out,
     ))
     (λ c. omega arith)
     (λ c κs.
@@ -82,10 +82,10 @@ pub +write-parts-spec : {M : Type 1} → statement M
         further s.requires.1 read.if-count-eq0.false first.if-first-lt16777216.false first.write_join-next.ensures inner.write_parts-inner.ensures,
       ),
       after-join s.requires.1 read.if-count-eq0.false first.if-first-lt16777216.false first.write_join-next.ensures inner.write_parts-inner.ensures
-          (inner.write_parts-inner.auto.0 ∙ first.write_join-next.auto.0),
+          (inner.write_parts-inner.auto.out ∙ first.write_join-next.auto.out),
     ))
-    (λ c. c.write_parts-2.auto.0 ∙ c.write_parts-inner.auto.0
-    ∙ c.write_join-next.auto.0)
+    (λ c. c.write_parts-2.auto.out ∙ c.write_parts-inner.auto.out
+    ∙ c.write_join-next.auto.out)
     (λ c.
     let others = c in
     let inner = others in

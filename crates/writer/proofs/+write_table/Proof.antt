@@ -46,10 +46,10 @@ pub +write-table-spec : {M : Type 1} → statement M
         s.requires.1.3,
         s.requires.1.4,
         room-second (table-split _ _ _ _ _ _ _ s.requires.1.1 first.if-i-m.false) s.requires.1.5 first.write_polynomial-next.ensures
-            first.write_polynomial-next.auto.0,
+            first.write_polynomial-next.auto.out,
       ),
     ))
-    (λ c. c.write_table.auto.0 ∙ c.write_polynomial-next.auto.0)
+    (λ c. c.write_table.auto.out ∙ c.write_polynomial-next.auto.out)
     (λ c.
     let others = c in
     let first = others in

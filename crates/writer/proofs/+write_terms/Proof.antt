@@ -43,10 +43,10 @@ pub +write-terms-spec : {M : Type 1} → statement M
         omega arith,
         omega arith,
         room-second (terms-split _ _ _ _ _ _ value.if-count-eq0.false (to_z-of_z w32 _ (record { sfits = value.value-1.given }))) s.requires.1.3
-            first.write_term-next.ensures first.write_term-next.auto.0,
+            first.write_term-next.ensures first.write_term-next.auto.out,
       ),
     ))
-    (λ c. c.write_terms.auto.0 ∙ c.write_term-next.auto.0)
+    (λ c. c.write_terms.auto.out ∙ c.write_term-next.auto.out)
     (λ c.
     let others = c in
     let first = others in

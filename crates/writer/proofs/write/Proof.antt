@@ -24,7 +24,7 @@ write-parts-requires : tie.Need-write_parts-last-requires
 write-parts-requires c κs =
     let table = c in
     let start = table in
-    tree-ahead _ _ _ _ start.requires.1.writable table.write_table-tree.ensures table.write_table-tree.auto.0
+    tree-ahead _ _ _ _ start.requires.1.writable table.write_table-tree.ensures table.write_table-tree.auto.out
 
 add-size : tie.Need-overflow_add-size
 add-size c =
@@ -34,7 +34,7 @@ add-size c =
     let w = start.requires.1.writable in
     omega (arith, end-small _ _ _ _ w table.write_table-tree.ensures (tree.write_parts-last.ensures (alone start.requires.1.block.tree) w.holds.tree (one-child start.requires.1.block.tree)))
 
-mul-write-field : tie.Need-overflow-mul-write-field
+mul-write-field : tie.Need-overflow_mul-size
 mul-write-field c =
     let tree = c in
     let table = tree in
@@ -50,7 +50,7 @@ write-field-requires c κs =
     let w = start.requires.1.writable in (
       omega arith,
       room-padding _ _ _ _ w table.write_table-tree.ensures (tree.write_parts-last.ensures (alone start.requires.1.block.tree) w.holds.tree (one-child start.requires.1.block.tree))
-          (tree.write_parts-last.auto.0 ∙ table.write_table-tree.auto.0),
+          (tree.write_parts-last.auto.out ∙ table.write_table-tree.auto.out),
     )
 
 write-head-requires : tie.Need-write_head-requires
@@ -63,9 +63,9 @@ write-head-requires c κs =
     omega (
       arith,
       five-bytes _ _ _ _ w table.write_table-tree.ensures (tree.write_parts-last.ensures (alone start.requires.1.block.tree) w.holds.tree (one-child start.requires.1.block.tree)),
-      padding.write_field.auto.0,
-      tree.write_parts-last.auto.0,
-      table.write_table-tree.auto.0,
+      padding.write_field.auto.out,
+      tree.write_parts-last.auto.out,
+      table.write_table-tree.auto.out,
     )
 
 returns : tie.Need-returns
@@ -79,7 +79,7 @@ returns c block w =
       length_is _ _ _ _ w table.write_table-tree.ensures parts,
       block_written _ _ _ _ w table.write_table-tree.ensures parts padding.write_field.ensures head.write_head.ensures (λ i. (known.slice_known-1.given i).fits)
           (λ i. (c.slice_known-5-1.given i).fits)
-          (head.write_head.auto.0 ∙ padding.write_field.auto.0 ∙ tree.write_parts-last.auto.0 ∙ table.write_table-tree.auto.0) refl,
+          (head.write_head.auto.out ∙ padding.write_field.auto.out ∙ tree.write_parts-last.auto.out ∙ table.write_table-tree.auto.out) refl,
     )
 
 pub write_spec : {M : Type 1} → statement M

@@ -13,14 +13,14 @@ write_atom_spec =
     (λ c. search rules)
     (λ c κs.
     let kind = c.before.before.before in
-    (omega arith, room-first two_runs (room-second (atom-split _) kind.requires kind.write_field-kind.ensures kind.write_field-kind.auto.0)))
+    (omega arith, room-first two_runs (room-second (atom-split _) kind.requires kind.write_field-kind.ensures kind.write_field-kind.auto.out)))
     (λ c. search rules)
     (λ c κs.
     let number = c.before.before.before in
     let kind = number in (
       omega arith,
-      room-second two_runs (room-second (atom-split _) kind.requires kind.write_field-kind.ensures kind.write_field-kind.auto.0)
-          number.write_field-number.ensures number.write_field-number.auto.0,
+      room-second two_runs (room-second (atom-split _) kind.requires kind.write_field-kind.ensures kind.write_field-kind.auto.out)
+          number.write_field-number.ensures number.write_field-number.auto.out,
     ))
     (λ c. search rules)
     (λ c.

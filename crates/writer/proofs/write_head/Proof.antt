@@ -19,7 +19,7 @@ write_head_spec =
     let s = edition.before.before.before in (
       omega arith,
       room-first two_runs (room-second (head-split s.args.edition s.args.variables s.args.polynomials s.args.nodes s.args.size) (room-head _ _ _ _ _ s.requires)
-          edition.write_field-start.ensures edition.write_field-start.auto.0),
+          edition.write_field-start.ensures edition.write_field-start.auto.out),
     ))
     (λ c κs.
     let first = c.before.before.before in
@@ -28,8 +28,8 @@ write_head_spec =
       omega arith,
       room-first two_runs (room-second two_runs
           (room-second (head-split s.args.edition s.args.variables s.args.polynomials s.args.nodes s.args.size) (room-head _ _ _ _ _ s.requires)
-          edition.write_field-start.ensures edition.write_field-start.auto.0)
-          first.write_field-first.ensures first.write_field-first.auto.0),
+          edition.write_field-start.ensures edition.write_field-start.auto.out)
+          first.write_field-first.ensures first.write_field-first.auto.out),
     ))
     (λ c κs.
     let second = c.before.before.before in
@@ -39,9 +39,9 @@ write_head_spec =
       omega arith,
       room-first two_runs (room-second two_runs (room-second two_runs
           (room-second (head-split s.args.edition s.args.variables s.args.polynomials s.args.nodes s.args.size) (room-head _ _ _ _ _ s.requires)
-          edition.write_field-start.ensures edition.write_field-start.auto.0)
-          first.write_field-first.ensures first.write_field-first.auto.0)
-          second.write_field-second.ensures second.write_field-second.auto.0),
+          edition.write_field-start.ensures edition.write_field-start.auto.out)
+          first.write_field-first.ensures first.write_field-first.auto.out)
+          second.write_field-second.ensures second.write_field-second.auto.out),
     ))
     (λ c κs.
     let third = c.before.before.before in
@@ -52,10 +52,10 @@ write_head_spec =
       omega arith,
       room-second two_runs (room-second two_runs (room-second two_runs
           (room-second (head-split s.args.edition s.args.variables s.args.polynomials s.args.nodes s.args.size) (room-head _ _ _ _ _ s.requires)
-          edition.write_field-start.ensures edition.write_field-start.auto.0)
-          first.write_field-first.ensures first.write_field-first.auto.0)
-          second.write_field-second.ensures second.write_field-second.auto.0)
-          third.write_field-third.ensures third.write_field-third.auto.0,
+          edition.write_field-start.ensures edition.write_field-start.auto.out)
+          first.write_field-first.ensures first.write_field-first.auto.out)
+          second.write_field-second.ensures second.write_field-second.auto.out)
+          third.write_field-third.ensures third.write_field-third.auto.out,
     ))
     (λ c. search rules)
     (λ c.

@@ -13,7 +13,7 @@ write_join_spec =
     (λ c κs. let kind = c in (
       omega arith,
       room-second (join-split _ _) kind.requires kind.write_field-next.ensures
-          kind.write_field-next.auto.0,
+          kind.write_field-next.auto.out,
     ))
     (λ c. search rules)
     (λ c. wrote-both (join-split _ _) c.write_field-next.ensures c.write_field.ensures))

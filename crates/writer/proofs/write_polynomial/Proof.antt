@@ -14,7 +14,7 @@ write_polynomial_spec =
     (λ c κs.
     let count = c.before.before.before in
     let s = count.before.before.before.before.before.before in
-    (s.requires.0, s.requires.3, s.requires.4, room-second (polynomial-split _ _ _ _ _ _) s.requires.5 count.write_field-next.ensures count.write_field-next.auto.0))
+    (s.requires.0, s.requires.3, s.requires.4, room-second (polynomial-split _ _ _ _ _ _) s.requires.5 count.write_field-next.ensures count.write_field-next.auto.out))
     (λ c. search rules)
     (λ c. wrote-both (polynomial-split _ _ _ _ _ _) c.before.before.before.before.before.before.write_field-next.ensures
     c.before.before.write_terms.ensures))

@@ -27,7 +27,7 @@ write_term_spec =
       omega arith,
       room-first two_runs
           (room-second (term-split _ _ _ (sign.before.minus_of.ensures ∙ ap minus_bit (back s)) (c.magnitude_of.ensures ∙ ap nat_abs (back s))) s.requires.1
-          sign.write_field-sign.ensures sign.write_field-sign.auto.0),
+          sign.write_field-sign.ensures sign.write_field-sign.auto.out),
     ))
     (λ c κs.
     let size = c.before.before.before in
@@ -37,8 +37,8 @@ write_term_spec =
       room-second two_runs
           (room-second (term-split _ _ _ (sign.before.minus_of.ensures ∙ ap minus_bit (back s)) (size.before.magnitude_of.ensures ∙ ap nat_abs (back s)))
           s.requires.1
-          sign.write_field-sign.ensures sign.write_field-sign.auto.0)
-          size.write_field-size.ensures size.write_field-size.auto.0,
+          sign.write_field-sign.ensures sign.write_field-sign.auto.out)
+          size.write_field-size.ensures size.write_field-size.auto.out,
     ))
     (λ c. search rules)
     (λ c.

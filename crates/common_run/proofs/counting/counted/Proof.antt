@@ -9,7 +9,7 @@ use Rattle.common_run.proofs.counting.counted.Tie as tie
 form-counted-requires : tie.Need-form_counted-requires
 form-counted-requires c κs =
     let s = c in
-    (s.requires, (refl, sym c.which-holds.ensures.0 ∙ ap variable_of c.enum_told-1.given.1))
+    (s.requires, (refl, sym c.which-holds.ensures.0 ∙ ap variable_of c.in-Form.is))
 
 fresh-rounds-requires : tie.Need-fresh_rounds-rounds-requires
 fresh-rounds-requires c κs = let s = c in (s.requires.0, others-afresh s.requires.1.0)

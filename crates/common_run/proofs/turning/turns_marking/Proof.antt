@@ -35,7 +35,7 @@ loop-again c =
     let more = c.loop-i-test.true in
     let r = c.turn_marking-passed in
     let turnings = l.invariant.1.1 in
-    (r.auto.1.1.1.0 ∙ l.invariant.0, (omega (arith, more), turnings-next turnings more (turn-over _ _ _ turnings.variables r.ensures)))
+    (r.auto.sign ∙ l.invariant.0, (omega (arith, more), turnings-next turnings more (turn-over _ _ _ turnings.variables r.ensures)))
 
 returns : tie.Need-returns invariant-loop decreases-loop
 returns c = turnings-last c.loop-i.invariant.1.1 c.loop-i-test.false

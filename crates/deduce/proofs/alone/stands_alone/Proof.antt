@@ -19,7 +19,7 @@ returns c = simp (ne_eqb _ 1 c.if-p-i-ne1.true)
 returns-2 : tie.Need-returns-then-not-asks_zero
 unfolding stands_alone
 returns-2 c =
-    let asks = sym c.asks_zero.ensures ∙ not-true _ c.if-not-asks_zero.true in
+    let asks = sym c.asks_zero.ensures ∙ c.if-not-asks_zero.true in
     simp (eq-eqb _ 1 c.if-p-i-ne1.false, asks)
 
 returns-3 : tie.Need-returns-then-a-eq0
@@ -27,7 +27,7 @@ unfolding stands_alone
 returns-3 c =
     let d = c in
     let s = d.args in
-    let asks = sym d.asks_zero.ensures ∙ not-false _ d.if-not-asks_zero.false in
+    let asks = sym d.asks_zero.ensures ∙ d.if-not-asks_zero.false in
     let zero = is-zero {z = get_or s.coefficient.now s.p.from (pos 0)} (record { sfits = c.a-1.given }) c.if-a-eq0.true in
     simp (eq-eqb _ 1 d.if-p-i-ne1.false, asks, zero)
 
@@ -36,7 +36,7 @@ unfolding stands_alone
 returns-4 c =
     let d = c in
     let s = d.args in
-    let asks = sym d.asks_zero.ensures ∙ not-false _ d.if-not-asks_zero.false in
+    let asks = sym d.asks_zero.ensures ∙ d.if-not-asks_zero.false in
     let fits = c.a-1.given in
     let filled = not_zero {z = get_or s.coefficient.now s.p.from (pos 0)} (record { sfits = fits }) c.if-a-eq0.false in
     simp (eq-eqb _ 1 d.if-p-i-ne1.false, asks, filled) (ap not c.meets.ensures)

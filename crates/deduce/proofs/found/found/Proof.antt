@@ -106,7 +106,7 @@ returns-3 : tie.Need-returns-then-not-has_t invariant-loop decreases-loop
 returns-3 c =
     let w = walked c.before.before in
     let r = c.by-c.result in
-    let none = (neither (has_t (interval_of r.l)) (has_t (interval_of r.u))).0 (sym c.has_t.ensures ∙ not-true _ c.if-not-has_t.true) in
+    let none = (neither (has_t (interval_of r.l)) (has_t (interval_of r.u))).0 (sym c.has_t.ensures ∙ c.if-not-has_t.true) in
     record { found = λ s t. finding-nothing _ (gathered_of r) _ none.0 none.1 ∙ ap (found_from _) (w.rest s t) }
 
 returns-4 : tie.Need-returns invariant-loop decreases-loop

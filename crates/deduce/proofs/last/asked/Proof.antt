@@ -6,5 +6,5 @@ use Rattle.deduce.proofs.last.asked.Tie as tie
 pub asked_spec : {M : Type 1} → statement M
 asked_spec =
     tie.close
-    (tie.spec (λ c. asked-positive _ c.in-1.keys1) (λ c. asked-negative _ c.in-4.keys2) (λ c. asked-none _ c.in-0.keys3)
-    (λ c. let m = c.in_default.rest in asked-zero _ m.0.0.1 m.0.1 m.1))
+    (tie.spec (λ c. asked-positive _ c.in-1.is) (λ c. asked-negative _ c.in-4.is) (λ c. asked-none _ c.in-0.is)
+    (λ c. let m = c.in_default.in_default-own.rest in asked-zero _ m.0.0.1 m.0.1 m.1))

@@ -30,7 +30,7 @@ loop-again c =
     let own = is_own a.number.now a.polynomials in
     let put = c.put_term.ensures in
     let test = c in
-    let fails : own l.i ≡ false = sym test.is_own.ensures ∙ not-true _ c.if-not-is_own.true in (
+    let fails : own l.i ≡ false = sym test.is_own.ensures ∙ c.if-not-is_own.true in (
       omega arith,
       ap length put.0 ∙ length-set l.coefficient (16 * l.i) (pos 0) ∙ l.invariant.1,
       ap length put.1 ∙ length-set l.monomial (16 * l.i) (l.i + 1) ∙ l.invariant.2,
@@ -48,7 +48,7 @@ loop-again-2 c =
     let l = c.loop-i in
     let a = c.args in
     let own = is_own a.number.now a.polynomials in
-    let passes : own l.i ≡ true = sym c.is_own.ensures ∙ not-false _ c.if-not-is_own.false in (
+    let passes : own l.i ≡ true = sym c.is_own.ensures ∙ c.if-not-is_own.false in (
       omega arith,
       l.invariant.1,
       l.invariant.2,

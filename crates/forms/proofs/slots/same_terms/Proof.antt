@@ -22,14 +22,14 @@ returns c =
     let l = c.loop-i in
     let a = c.args in
     same-stops a.coefficient.now a.monomial.now a.first a.second l.i a.count (omega arith)
-    (sym c.same_term.ensures ∙ not-true _ c.if-not-same_term.true) ∙ l.invariant
+    (sym c.same_term.ensures ∙ c.if-not-same_term.true) ∙ l.invariant
 
 loop-again : tie.Need-loop-i-preserved invariant-loop decreases-loop
 loop-again c =
     let l = c.loop-i in
     let a = c.args in
     same-goes-on a.coefficient.now a.monomial.now a.first a.second l.i a.count (omega arith)
-    (sym c.same_term.ensures ∙ not-false _ c.if-not-same_term.false) ∙ l.invariant
+    (sym c.same_term.ensures ∙ c.if-not-same_term.false) ∙ l.invariant
 
 returns-2 : tie.Need-returns invariant-loop decreases-loop
 returns-2 c =

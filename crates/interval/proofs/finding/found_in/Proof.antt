@@ -12,7 +12,7 @@ use Rattle.interval.proofs.finding.found_in.Tie as tie
 
 returns : tie.Need-returns-then-not-has_t
 unfolding found_by found
-returns c = simp (sym c.has_t.ensures ∙ not-true _ c.if-not-has_t.true)
+returns c = simp (sym c.has_t.ensures ∙ c.if-not-has_t.true)
 
 -- the strict test
 strict-is : (c : tie.After-strictly) → let a = c.args in
@@ -23,13 +23,13 @@ returns-2 : tie.Need-returns-then-strictly
 unfolding found_by found
 returns-2 c =
     let d = c in
-    simp (sym d.has_t.ensures ∙ not-false _ d.if-not-has_t.false, sym (strict-is c.before) ∙ c.if-strictly.true)
+    simp (sym d.has_t.ensures ∙ d.if-not-has_t.false, sym (strict-is c.before) ∙ c.if-strictly.true)
 
 returns-3 : tie.Need-returns-else-strictly
 unfolding found_by found
 returns-3 c =
     let d = c in
-    simp (sym d.has_t.ensures ∙ not-false _ d.if-not-has_t.false, sym (strict-is c.before) ∙ c.if-strictly.false)
+    simp (sym d.has_t.ensures ∙ d.if-not-has_t.false, sym (strict-is c.before) ∙ c.if-strictly.false)
 
 pub found_in_spec : {M : Type 1} → statement M
 found_in_spec =

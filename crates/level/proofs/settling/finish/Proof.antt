@@ -31,7 +31,7 @@ lay-requires c κs =
 settle-requires : tie.Need-settle-stage-requires
 settle-requires c κs =
     let (forms, g) = c.requires in
-    (forms, gathered-ready g (laid-down _ _ g.list g.stands.new (c.lay.ensures _ g.list _ g.lists g.stands.lists (omega (arith, g.stands.lists.size))) g.stands.lists.size) (c.lay.auto.0 ∙ long c.before.before.before.before.before.before.before.before.before.before.before.before.before.before) (wide c.before.before.before.before.before.before.before.before.before.before.before.before.before.before))
+    (forms, gathered-ready g (laid-down _ _ g.list g.stands.new (c.lay.ensures _ g.list _ g.lists g.stands.lists (omega (arith, g.stands.lists.size))) g.stands.lists.size) (c.lay.auto.out ∙ long c.before.before.before.before.before.before.before.before.before.before.before.before.before.before) (wide c.before.before.before.before.before.before.before.before.before.before.before.before.before.before))
 
 goes : tie.Need-returns
 goes c l walk h s =

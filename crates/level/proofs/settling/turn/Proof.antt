@@ -32,7 +32,7 @@ alone-requires c κs =
     let (forms, ready) = c.requires in
     let f = c.tidy-kept.ensures ready.list ready.lists in
     let g = c.carry-carrying.ensures f.list f.lists in
-    (forms, (omega (arith, f.few, f.lists.size, c.carry-carrying.auto.1.1.1.1.0, c.tidy-kept.auto.1.1.1.1.0, ready.long), (omega (arith, f.few, g.same, g.lists.size), left_by f c.if-kept.false g c.if-carrying.false)))
+    (forms, (omega (arith, f.few, f.lists.size, c.carry-carrying.auto.list, c.tidy-kept.auto.list, ready.long), (omega (arith, f.few, g.same, g.lists.size), left_by f c.if-kept.false g c.if-carrying.false)))
 
 alone : tie.Need-returns-then-m-eq0
 alone c l children h k =
@@ -63,7 +63,7 @@ lay-list-requires c κs =
     let ready = c.requires.1 in
     let f = c.tidy-kept.ensures ready.list ready.lists in
     let w = c.sweep-walked.ensures ready.children ready.lies in
-    (omega arith, (row-long w.stands.lists, omega (arith, f.small, f.lists.size, ready.lists.size, w.small, ready.fits, ready.lies.size, c.carry-carrying.auto.1.1.1.1.0, c.tidy-kept.auto.1.1.1.1.0, ready.long)))
+    (omega arith, (row-long w.stands.lists, omega (arith, f.small, f.lists.size, ready.lists.size, w.small, ready.fits, ready.lies.size, c.carry-carrying.auto.list, c.tidy-kept.auto.list, ready.long)))
 
 moved : tie.Need-returns-then-walked-2
 moved c l children h k =
@@ -79,7 +79,7 @@ without-implied-requires c κs =
     let (forms, ready) = c.requires in
     let f = c.tidy-kept.ensures ready.list ready.lists in
     let g = c.carry-carrying.ensures f.list f.lists in
-    (forms, (omega (arith, f.few, f.lists.size, c.carry-carrying.auto.1.1.1.1.0, c.tidy-kept.auto.1.1.1.1.0, ready.long), (omega (arith, f.few, g.same, g.lists.size), left_by f c.if-kept.false g c.if-carrying.false)))
+    (forms, (omega (arith, f.few, f.lists.size, c.carry-carrying.auto.list, c.tidy-kept.auto.list, ready.long), (omega (arith, f.few, g.same, g.lists.size), left_by f c.if-kept.false g c.if-carrying.false)))
 
 over : tie.Need-returns
 over c l children h k =
@@ -90,7 +90,7 @@ over c l children h k =
     (laid-first _ (laid w.stands.children) (c.lay.ensures _ [] _ (record { is = refl; size = refl }) w.stands.lies (omega (arith, w.stands.lies.size))) w.stands.lies.size) c.if-walked-2.false
     (c.without_implied-remaining.ensures g.list g.lists)
 
-adds : tie.Need-overflow-add-t48
+adds : tie.Need-overflow_add-result
 adds c =
     let ready = c.requires.1 in
     let f = c.tidy-kept.ensures ready.list ready.lists in
@@ -102,8 +102,8 @@ turn_spec =
     tie.close
     (tie.spec tidy-requires (λ c κs. omega (arith, c.requires.1.wide)) (λ c. search rules) (λ c. search rules) broken carry-requires
     (λ c κs. omega (arith, c.requires.1.wide)) (λ c. search rules) (λ c. search rules) contradiction alone-requires
-    (λ c. c.without_implied-alone.auto.1.1.1.1.0 ∙ c.carry-carrying.auto.1.1.1.1.0 ∙ c.tidy-kept.auto.1.1.1.1.0) alone sweep-requires
+    (λ c. c.without_implied-alone.auto.list ∙ c.carry-carrying.auto.list ∙ c.tidy-kept.auto.list) alone sweep-requires
     (λ c κs. omega (arith, c.requires.1.wide)) (λ c. search rules) (λ c. search rules) falls
     (λ c. search rules) lay-ors-requires (λ c. search (rules, c.sweep-walked.type-inv)) lay-list-requires adds
-    (λ c. c.lay-then-walked-2.auto.0 ∙ c.carry-carrying.auto.1.1.1.1.0 ∙ c.tidy-kept.auto.1.1.1.1.0) (λ c. c.lay.auto.0) moved without-implied-requires
-    (λ c. c.without_implied-remaining.auto.1.1.1.1.0 ∙ c.carry-carrying.auto.1.1.1.1.0 ∙ c.tidy-kept.auto.1.1.1.1.0) (λ c. c.lay.auto.0) over)
+    (λ c. c.lay-then-walked-2.auto.out ∙ c.carry-carrying.auto.list ∙ c.tidy-kept.auto.list) (λ c. c.lay.auto.out) moved without-implied-requires
+    (λ c. c.without_implied-remaining.auto.list ∙ c.carry-carrying.auto.list ∙ c.tidy-kept.auto.list) (λ c. c.lay.auto.out) over)

@@ -63,9 +63,9 @@ again c =
       (
         omega (arith, inv.1.0),
         (
-          tell-atoms.auto.0 ∙ length-set loop.out loop.end _ ∙ inv.1.1.0,
+          tell-atoms.auto.out ∙ length-set loop.out loop.end _ ∙ inv.1.1.0,
           (
-            mark.auto.1.1.1.1.0 ∙ inv.1.1.1.0,
+            mark.auto.marks ∙ inv.1.1.1.0,
             λ children b l lies heads lists.
                 let g = inv.1.1.1.1 children b l lies heads lists in
                 let r = told_here g _ _ lies atoms-is tokens-is (omega (arith, lies.size, taken)) (omega (arith, lies.size, told.fits)) in

@@ -22,7 +22,7 @@ tell-atoms-requires c κs =
     let start = c in
     let opened = c.opened-place in
     let long : length start.args.level.atoms.token ≡ 256 = search rules in
-    (omega arith, (omega (arith, start.requires.0, long), omega (arith, start.requires.0, opened.ensures.1, opened.auto.0)))
+    (omega arith, (omega (arith, start.requires.0, long), omega (arith, start.requires.0, opened.ensures.1, opened.auto.out)))
 
 tell-children-requires : tie.Need-tell_children-count-requires
 tell-children-requires c κs =
@@ -33,11 +33,11 @@ tell-children-requires c κs =
     let mark = c.mark-marked in
     let tell-atoms = c.tell_atoms in
     let long : length start.args.level.ors.token ≡ 256 = search rules in (
-      tell-atoms.auto.0 ∙ opened.auto.0,
+      tell-atoms.auto.out ∙ opened.auto.out,
       (
         long,
         (
-          mark.auto.1.1.1.1.0,
+          mark.auto.marks,
           record {
             children = s.children;
             kind = not start.args.conjunction;

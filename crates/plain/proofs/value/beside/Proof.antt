@@ -25,7 +25,7 @@ first c = let there = c.requires.0.0 in c.listed-x.ensures there.fraction there.
 first_small : (c : tie.After-listed-x) → Small largest c.requires.0.0.fraction
 first_small c = let there = c.requires.0.0 in c.requires.0.1.small there.fraction there.is
 
-add-t7 : tie.Need-overflow-add-t7
+add-t7 : tie.Need-overflow_add-result
 add-t7 c =
     let d = c.before.before.before.before in
     let r = d.listed-x.result in
@@ -56,7 +56,7 @@ second c = c.listed-y.ensures (other c.before).fraction (other c.before).is
 second_small : (c : tie.After-listed-y) → Small largest (other c.before).fraction
 second_small c = c.requires.1.small (other c.before).fraction (other c.before).is
 
-add-t8 : tie.Need-overflow-add-t8
+add-t8 : tie.Need-overflow_add-result-2
 add-t8 c =
     let e = c.before.before.before.before in
     let d = e.before.before.before in
@@ -65,7 +65,7 @@ add-t8 c =
     rw (back x.c (term_in (listed-c (first d) (first_small d))), back y.c (term_in (listed-c (second e) (second_small e))))
     (fits (sum-in x.c y.c (listed-c (first d) (first_small d)) (listed-c (second e) (second_small e))))
 
-add-t9 : tie.Need-overflow-add-t9
+add-t9 : tie.Need-overflow_add-result-3
 add-t9 c =
     let e = c.before.before.before.before.before.before.before.before in
     let d = e.before.before.before in

@@ -19,10 +19,10 @@ cast-a c = rw (to_z-of_z w32 _ (a-fits c)) (widened (a-fits c))
 cast-b : tie.Need-overflow_cast-b
 cast-b c = rw (to_z-of_z w32 _ (b-fits c)) (widened (b-fits c))
 
-sub-t6 : tie.Need-overflow-sub-t6
+sub-t6 : tie.Need-overflow_sub-result
 sub-t6 c = rw (wide (b-fits c.before)) (negated_fits (b-fits c.before))
 
-sub-t7 : tie.Need-overflow-sub-t7
+sub-t7 : tie.Need-overflow_sub-result-else-b-lt0
 sub-t7 c = let f = a-fits c.before.before.before in rw (wide f) (negated_fits f)
 
 returns : tie.Need-returns-then-b-lt0

@@ -9,7 +9,7 @@ use Rattle.plain.proofs.Numbers.{fits, back, term_in, listed-c, listed-d, differ
 use Rattle.plain.proofs.value.under.Statement.{statement}
 use Rattle.plain.proofs.value.under.Tie as tie
 
-sub-t3 : tie.Need-overflow-sub-t3
+sub-t3 : tie.Need-overflow_sub-result
 sub-t3 c =
     let s = c in
     let there = s.requires.0 in

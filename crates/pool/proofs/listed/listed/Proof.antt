@@ -46,7 +46,7 @@ loop-again c =
       ap (λ (x : List ℕ). listing_from (constant_in a.monomial.now a.terms.now) a.number.now a.polynomials x (l.i + 1))
           (one-behind l.order l.count v room)
           ∙ listing-in (constant_in a.monomial.now a.terms.now) a.number.now a.polynomials (numbers_from l.order 0 l.count) l.i
-          (omega arith) (sym c.before.is_out.ensures ∙ not-true _ c.if-not-is_out.true)
+          (omega arith) (sym c.before.is_out.ensures ∙ c.if-not-is_out.true)
           ∙ l.invariant.3,
       stored-below l.order l.count v room (s.requires.1.below l.i (omega arith)) l.invariant.4,
     )
@@ -59,7 +59,7 @@ loop-again-2 c =
       omega arith,
       l.invariant.2,
       listing-out (constant_in a.monomial.now a.terms.now) a.number.now a.polynomials (numbers_from l.order 0 l.count) l.i
-          (omega arith) (sym c.before.is_out.ensures ∙ not-false _ c.if-not-is_out.false) ∙ l.invariant.3,
+          (omega arith) (sym c.before.is_out.ensures ∙ c.if-not-is_out.false) ∙ l.invariant.3,
       l.invariant.4,
     )
 

@@ -46,7 +46,7 @@ loop-again c =
     let a = s.args in
     let m = get_or a.monomial.now (a.from + l.i) 0 in
     let z = get_or a.coefficient.now (a.from + l.i) (pos 0) in
-    let is : put.put_term.new.0 ≡ put_term l.pool (a.k + l.i) (coefficient_word z) m =
+    let is : put.put_term.new.pool ≡ put_term l.pool (a.k + l.i) (coefficient_word z) m =
     put.put_term.ensures
     ∙ ap (λ (v : ℕ). put_term l.pool (a.k + l.i) v m)
     (word.coefficient_word.ensures ∙ ap coefficient_word (read_back z (record { sfits = element.c-1.given }))) in (

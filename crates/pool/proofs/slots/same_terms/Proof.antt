@@ -29,7 +29,7 @@ returns c =
     same-stops a.pool.now a.k a.coefficient.now a.monomial.now a.from l.i a.count (omega arith)
     (ap (λ (z : ℤ). same_term a.pool.now (a.k + l.i) z (get_or a.monomial.now (a.from + l.i) 0))
     (sym (read_back (get_or a.coefficient.now (a.from + l.i) (pos 0)) (record { sfits = c.before.before.before.c-1.given })))
-    ∙ sym c.before.same_term.ensures ∙ not-true _ c.if-not-same_term.true) ∙ l.invariant
+    ∙ sym c.before.same_term.ensures ∙ c.if-not-same_term.true) ∙ l.invariant
 
 loop-again : tie.Need-loop-i-preserved invariant-loop decreases-loop
 loop-again c =
@@ -38,7 +38,7 @@ loop-again c =
     same-goes-on a.pool.now a.k a.coefficient.now a.monomial.now a.from l.i a.count (omega arith)
     (ap (λ (z : ℤ). same_term a.pool.now (a.k + l.i) z (get_or a.monomial.now (a.from + l.i) 0))
     (sym (read_back (get_or a.coefficient.now (a.from + l.i) (pos 0)) (record { sfits = c.before.before.before.c-1.given })))
-    ∙ sym c.before.same_term.ensures ∙ not-false _ c.if-not-same_term.false) ∙ l.invariant
+    ∙ sym c.before.same_term.ensures ∙ c.if-not-same_term.false) ∙ l.invariant
 
 returns-2 : tie.Need-returns invariant-loop decreases-loop
 returns-2 c =

@@ -20,14 +20,14 @@ loop-again : tie.Need-loop-slot-preserved-then-not-is_free invariant-loop decrea
 loop-again c =
     let l = c.before.before.before.loop-slot in
     let a = c.before.before.before.before.before.args in
-    let e = used_step a.pool.now l.slot (omega arith) (sym c.before.is_free.ensures ∙ not-true _ c.if-not-is_free.true) in
+    let e = used_step a.pool.now l.slot (omega arith) (sym c.before.is_free.ensures ∙ c.if-not-is_free.true) in
     (omega arith, omega arith, omega (arith, l.invariant.2, e))
 
 loop-again-2 : tie.Need-loop-slot-preserved invariant-loop decreases-loop
 loop-again-2 c =
     let l = c.before.before.before.loop-slot in
     let a = c.before.before.before.before.before.args in
-    let e = free_step a.pool.now l.slot (omega arith) (sym c.before.is_free.ensures ∙ not-false _ c.if-not-is_free.false) in
+    let e = free_step a.pool.now l.slot (omega arith) (sym c.before.is_free.ensures ∙ c.if-not-is_free.false) in
     (omega arith, omega arith, omega (arith, l.invariant.2, e))
 
 returns : tie.Need-returns invariant-loop decreases-loop

@@ -28,7 +28,7 @@ mul-result c =
     let m = negative-magnitude z (below c) c.before.ranges.c.sfits in
     rw (minus-back z c.before.ranges.c) (record { fits = omega (arith, m.1) })
 
-sub-result-2 : tie.Need-overflow-sub-result-2
+sub-result-2 : tie.Need-overflow_sub-result-then-wide-lt0
 sub-result-2 c =
     let z = c.before.args.c in
     let m = negative-magnitude z (below c) c.before.ranges.c.sfits in

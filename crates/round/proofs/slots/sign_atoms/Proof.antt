@@ -36,7 +36,7 @@ loop-again c =
     let (all, (same_length, so_far)) = l.invariant in
     let h : l.i < c.many-n.result = omega arith in
     let signed = c.slot_by in
-    (all, (signed.auto.1.1.1.0 ∙ same_length, λ board of. rw (signed.ensures board of) (sym (signing_step _ _ _ _ _ _ _ h) ∙ so_far board of)))
+    (all, (signed.auto.sign ∙ same_length, λ board of. rw (signed.ensures board of) (sym (signing_step _ _ _ _ _ _ _ h) ∙ so_far board of)))
 
 returns : tie.Need-returns invariant-loop decreases-loop
 returns c = λ board of. sym (signing_end _ _ _ _ _ _ _ c.loop-i-test.false) ∙ c.loop-i.invariant.1.1 board of

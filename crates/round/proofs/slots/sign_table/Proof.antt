@@ -28,7 +28,7 @@ loop-again c =
     let l = c.loop-k in
     let h : l.k < 80 = omega arith in
     let signed = c.slot_by in
-    (signed.auto.1.1.1.0 ∙ l.invariant.0, λ board of. rw (signed.ensures board of) (sym (signing_step _ _ _ _ _ _ _ h) ∙ l.invariant.1 board of))
+    (signed.auto.sign ∙ l.invariant.0, λ board of. rw (signed.ensures board of) (sym (signing_step _ _ _ _ _ _ _ h) ∙ l.invariant.1 board of))
 
 returns : tie.Need-returns invariant-loop decreases-loop
 returns c =

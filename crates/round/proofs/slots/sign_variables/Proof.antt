@@ -31,7 +31,7 @@ loop-again c =
     let l = c.loop-i in
     let h : l.i < c.args.variables = omega arith in
     let signed = c.slot_by in
-    (signed.auto.1.1.1.0 ∙ l.invariant.0, λ board of. rw (signed.ensures board of) (sym (signing_step _ _ _ _ _ _ _ h) ∙ l.invariant.1 board of))
+    (signed.auto.sign ∙ l.invariant.0, λ board of. rw (signed.ensures board of) (sym (signing_step _ _ _ _ _ _ _ h) ∙ l.invariant.1 board of))
 
 returns : tie.Need-returns invariant-loop decreases-loop
 returns c = λ board of. sym (signing_end _ _ _ _ _ _ _ c.loop-i-test.false) ∙ c.loop-i.invariant.1 board of

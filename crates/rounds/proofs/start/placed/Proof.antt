@@ -10,8 +10,8 @@ use Rattle.rounds.proofs.start.placed.Statement.{statement}
 use Rattle.rounds.proofs.start.placed.Tie as tie
 
 -- the variable is one of the board's
-low : (c : tie.In-Variable-2) → let s = c.before.before in c.holds-1.given.0.0 < s.args.board.variables
-low c = let s = c in subst (λ h. Below s.args.board.variables h) c.holds-1.given.1 s.requires.1
+low : (c : tie.In-Variable-2) → let s = c.before.before in c.in-Variable.i < s.args.board.variables
+low c = let s = c in subst (λ h. Below s.args.board.variables h) c.in-Variable.is s.requires.1
 
 element-copy-out-old : tie.Need-bounds-board-i
 element-copy-out-old c = omega (arith, low c.before, c.requires.0)
@@ -24,10 +24,10 @@ returns-2 c =
     let s = c in
     let l = low c.before.before.before in
     let sixteen : length s.args.board.sets ≡ 16 = search rules in
-    placed_at s.args.board c.holds-1.given.1 (omega (arith, s.requires.0)) (omega (arith, s.requires.0)) c.intersect-new.ensures
+    placed_at s.args.board c.in-Variable.is (omega (arith, s.requires.0)) (omega (arith, s.requires.0)) c.intersect-new.ensures
 
 pub placed_spec : {M : Type 1} → statement M
 placed_spec =
     tie.close
     (tie.spec (λ c. search rules) (λ c. search rules) element-copy-out-old (λ c κs. search rules) element-write-narrowed
-    (λ c. not-placed _ _ c.enum_told-1.given.1) returns-2)
+    (λ c. not-placed _ _ c.in-Form.is) returns-2)

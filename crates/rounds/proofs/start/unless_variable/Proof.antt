@@ -7,5 +7,5 @@ use Rattle.rounds.proofs.start.unless_variable.Tie as tie
 pub unless_variable_spec : {M : Type 1} → statement M
 unless_variable_spec =
     tie.close
-    (tie.spec (λ c. search rules) (λ c κs. search rules) (λ c. search rules) (λ c. listed-as-form c.before.enum_told-1.given.1 c.push.ensures)
-    (λ c. not_listed _ _ _ c.enum_told-in-Variable-1.given.1))
+    (tie.spec (λ c. search rules) (λ c κs. search rules) (λ c. search rules) (λ c. listed-as-form c.before.in-Form.is c.push.ensures)
+    (λ c. not_listed _ _ _ c.in-Variable.is))

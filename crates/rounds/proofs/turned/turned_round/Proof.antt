@@ -40,7 +40,7 @@ same c =
     same-is c.args.board after.result after.ensures.variables c.few.ensures c.same_sets.ensures
 
 returns : tie.Need-returns-then-not-same_sets
-returns c = turned-changed c.requires.1 c.after_turns-next.ensures (sym (same c.before) ∙ not-true _ c.if-not-same_sets.true)
+returns c = turned-changed c.requires.1 c.after_turns-next.ensures (sym (same c.before) ∙ c.if-not-same_sets.true)
 
 search-board-requires : tie.Need-search_board-searched-requires
 search-board-requires c κs =
@@ -57,7 +57,7 @@ returns-2 c =
     let s = c.before.before.before.before.before.before.before.before.before.before.before.before.before.before.before.before.before.before.before.before in
     let after = c.after_turns-next in
     let searched = searched-over _ _ _ after.ensures.variables c.search_board-searched.ensures in
-    turned-searched s.requires.1 after.ensures (sym (same c.before.before.before.before.before.before.before) ∙ not-false _ c.if-not-same_sets.false) searched
+    turned-searched s.requires.1 after.ensures (sym (same c.before.before.before.before.before.before.before) ∙ c.if-not-same_sets.false) searched
     (rw c.sign_list.ensures (list-ready {t = table s} c.search_board-searched.result.board s.args.atoms _ s.requires.0.forms (searched.variables ∙ after.ensures.variables) after.ensures.ready.places))
 
 sign-list-requires : tie.Need-sign_list-requires

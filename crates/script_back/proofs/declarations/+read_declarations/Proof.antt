@@ -44,16 +44,16 @@ pub +read-declarations-spec : {M : Type 1} → statement M
     let test = one.before in
     let s = test.before.before.before in
     let more = one-more s.args.text.now s.args.at s.args.i s.requires.1.1 (sym test.before.all_declared.ensures ∙ test.if-all_declared.false) in
-    (omega (arith, s.requires.0, more.below), (said-inside one.declared_one-step.ensures c.before.step-in-Read-1.given.1, omega (arith, more.below))))
+    (omega (arith, s.requires.0, more.below), (said-inside one.declared_one-step.ensures c.before.in-Read.is, omega (arith, more.below))))
     (λ c.
     let one = c.before.before.before in
     let test = one.before in
     let s = test.before.before.before in
     let more = one-more s.args.text.now s.args.at s.args.i s.requires.1.1 (sym test.before.all_declared.ensures ∙ test.if-all_declared.false) in
-    declaration-stops one.declared_one-step.ensures more c.before.step-1.given.1)
+    declaration-stops one.declared_one-step.ensures more c.before.in-Stopped.is)
     (λ c.
     let one = c.before.before.before.before in
     let test = one.before in
     let s = test.before.before.before in
     let more = one-more s.args.text.now s.args.at s.args.i s.requires.1.1 (sym test.before.all_declared.ensures ∙ test.if-all_declared.false) in
-    declaration-reads one.declared_one-step.ensures more c.before.before.step-in-Read-1.given.1 c.read_declarations.ensures)
+    declaration-reads one.declared_one-step.ensures more c.before.before.in-Read.is c.read_declarations.ensures)

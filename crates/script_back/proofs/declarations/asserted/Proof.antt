@@ -14,8 +14,8 @@ asserted_spec =
     (λ c.
     let said = c.before.before.before in
     let s = start said in
-    assert-stops said.said-step.ensures (no_more s.args.text.now s.args.at s.args.i s.pre.1 s.pre.2) c.before.step-1.given.1)
+    assert-stops said.said-step.ensures (no_more s.args.text.now s.args.at s.args.i s.pre.1 s.pre.2) c.before.in-Stopped.is)
     (λ c.
     let said = c.before.before.before in
     let s = start said in
-    assert-reads said.said-step.ensures (no_more s.args.text.now s.args.at s.args.i s.pre.1 s.pre.2) s.pre.1 c.before.step-in-Read-1.given.1))
+    assert-reads said.said-step.ensures (no_more s.args.text.now s.args.at s.args.i s.pre.1 s.pre.2) s.pre.1 c.before.in-Read.is))

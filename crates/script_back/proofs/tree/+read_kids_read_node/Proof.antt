@@ -49,14 +49,14 @@ pub +read-kids-read-node-spec : {M : Type 1} → statement M
     (λ c. let s = c.before.before.before.before.before.before.before in omega (arith, s.requires.1.1.fits, s.requires.1.2.children_behind))
     (λ c. let s = c.before.before.before.before.before.before.before in omega (arith, s.requires.1.1.fits, s.requires.1.1.tape, s.requires.1.2.own_behind))
     (λ c. let s = c.before.before.before.before.before.before.before in omega (arith, s.requires.1.1.fits, s.requires.1.1.tape, s.requires.1.2.own_behind))
-    (λ c. omega (arith, turn-ended c.before.before.turn_at-turn.ensures c.enum_told-1.given.1))
+    (λ c. omega (arith, turn-ended c.before.before.turn_at-turn.ensures c.in-End.is))
     (λ c. search rules)
-    (λ c. omega (arith, (turn-goes c.before.before.before.turn_at-turn.ensures c.before.turn-in-More-1.given.1).inside))
+    (λ c. omega (arith, (turn-goes c.before.before.before.turn_at-turn.ensures c.before.in-More.is).inside))
     (λ c κs.
     let chosen = c.before.before.before.before.before in
     let turn = chosen.before.before in
     let s = turn.before.before.before.before.before in
-    let goes = turn-goes turn.turn_at-turn.ensures chosen.turn-in-More-1.given.1 in (
+    let goes = turn-goes turn.turn_at-turn.ensures chosen.in-More.is in (
       omega (arith, s.requires.0),
       (s.requires.1.0, record { inside = goes.inside; tape = s.requires.1.1.tape; fits = omega (arith, goes.less, s.requires.1.1.fits) }),
     ))
@@ -69,14 +69,14 @@ pub +read-kids-read-node-spec : {M : Type 1} → statement M
     let chosen = child.before.before.before.before.before.before in
     let turn = chosen.before.before in
     let s = turn.before.before.before.before.before in
-    let goes = turn-goes turn.turn_at-turn.ensures chosen.turn-in-More-1.given.1 in
-    let between = child-ready s.args.place goes child.read_node-branch.ensures branch.branch-in-Read-1.given.1 s.requires.1.0 s.requires.1.1 s.requires.1.2 in (
+    let goes = turn-goes turn.turn_at-turn.ensures chosen.in-More.is in
+    let between = child-ready s.args.place goes child.read_node-branch.ensures branch.in-Read.is s.requires.1.0 s.requires.1.1 s.requires.1.2 in (
       omega (arith, s.requires.0, between.further, between.ready.fits),
-      (child-tabled child.read_node-branch.ensures branch.branch-in-Read-1.given.1 s.requires.1.0, between.ready, between.kids),
+      (child-tabled child.read_node-branch.ensures branch.in-Read.is s.requires.1.0, between.ready, between.kids),
     ))
-    (λ c. let turn = c.before.before.before in let s = turn.before.before.before.before.before in kids-stopped s.args.place turn.turn_at-turn.ensures c.before.turn-1.given.1)
+    (λ c. let turn = c.before.before.before in let s = turn.before.before.before.before.before in kids-stopped s.args.place turn.turn_at-turn.ensures c.before.in-Stopped.is)
     (λ c. simp length-set)
-    (λ c. let turn = c.before.before in let s = turn.before.before.before.before.before in kids-ended s.args.place turn.turn_at-turn.ensures c.enum_told-1.given.1)
+    (λ c. let turn = c.before.before in let s = turn.before.before.before.before.before in kids-ended s.args.place turn.turn_at-turn.ensures c.in-End.is)
     (λ c. search rules) (λ c. search rules) (λ c. search rules) (λ c. search rules)
     (λ c.
     let branch = c.before in
@@ -84,7 +84,7 @@ pub +read-kids-read-node-spec : {M : Type 1} → statement M
     let chosen = child.before.before.before.before.before.before in
     let turn = chosen.before.before in
     let s = turn.before.before.before.before.before in
-    child-stopped s.args.place (turn-goes turn.turn_at-turn.ensures chosen.turn-in-More-1.given.1) child.read_node-branch.ensures branch.branch-1.given.1)
+    child-stopped s.args.place (turn-goes turn.turn_at-turn.ensures chosen.in-More.is) child.read_node-branch.ensures branch.in-Stopped-branch.is)
     (λ c. search rules) (λ c. search rules) (λ c. search rules) (λ c. search rules)
     (λ c.
     let rest = c.before.before.before.before.before.before.before in
@@ -93,7 +93,7 @@ pub +read-kids-read-node-spec : {M : Type 1} → statement M
     let chosen = child.before.before.before.before.before.before in
     let turn = chosen.before.before in
     let s = turn.before.before.before.before.before in
-    kids-more s.args.place (turn-goes turn.turn_at-turn.ensures chosen.turn-in-More-1.given.1) child.read_node-branch.ensures branch.branch-in-Read-1.given.1 rest.read_kids.ensures))
+    kids-more s.args.place (turn-goes turn.turn_at-turn.ensures chosen.in-More.is) child.read_node-branch.ensures branch.in-Read.is rest.read_kids.ensures))
     (λ t. node-lts.spec (may-join-reads.Asked, may-join-reads.Learnt, open-node-reads.Asked, open-node-reads.Learnt, read-atom-reads.Asked, read-atom-reads.Learnt, kids-below t, kids.Post) (node_at t) node.Post
     (λ c κs. search rules)
     (λ c κs. search rules)
@@ -104,7 +104,7 @@ pub +read-kids-read-node-spec : {M : Type 1} → statement M
     let o = c.before.before.before.before.before.before.before.before in
     let s = o.before.before.before.before.before.before.before in
     let tests = tested s.args.nesting s.args.parent s.args.place.room o.before.before.may_join-ands.ensures o.before.may_join-ors.ensures in
-    let found = c.before.before.before.before.before.before.opening-in-Found-1.given.1 in
+    let found = c.before.before.before.before.before.before.in-Found.is in
     let may = beginning-allowed s.args.variables s.args.place o.open_node-opening.ensures tests found in (
       s.requires.1.0,
       record { inside = next-inside s.args.variables s.args.place o.open_node-opening.ensures tests found; tape = s.requires.1.1.tape; fits = s.requires.1.1.fits },
@@ -116,12 +116,12 @@ pub +read-kids-read-node-spec : {M : Type 1} → statement M
     let o = c.before.before.before.before.before.before.before.before.before.before.before.before.before.before.before.before in
     let s = o.before.before.before.before.before.before.before in
     let tests = tested s.args.nesting s.args.parent s.args.place.room o.before.before.may_join-ands.ensures o.before.may_join-ors.ensures in
-    node-atom s.args.variables s.args.place o.open_node-opening.ensures tests c.before.before.before.before.before.before.before.before.before.before.before.before.before.before.opening-in-Found-1.given.1 c.before.before.before.before.before.before.before.before.before.before.before.before.if-which-lt7.true c.before.before.before.before.before.before.before.read_atom.ensures)
+    node-atom s.args.variables s.args.place o.open_node-opening.ensures tests c.before.before.before.before.before.before.before.before.before.before.before.before.before.before.in-Found.is c.before.before.before.before.before.before.before.before.before.before.before.before.if-which-lt7.true c.before.before.before.before.before.before.before.read_atom.ensures)
     (λ c.
     let o = c.before.before.before.before.before in
     let s = o.before.before.before.before.before.before.before in
     let tests = tested s.args.nesting s.args.parent s.args.place.room o.before.before.may_join-ands.ensures o.before.may_join-ors.ensures in
-    let found = c.before.before.before.opening-in-Found-1.given.1 in
+    let found = c.before.before.before.in-Found.is in
     let may = join-allowed s.args.variables s.args.place o.open_node-opening.ensures tests found c.before.if-which-lt7.false in
     may.two)
     (λ c. let s = c.before.before.before.before.before.before.before.before.before.before.before.before.before in omega (arith, s.requires.1.1.fits))
@@ -129,7 +129,7 @@ pub +read-kids-read-node-spec : {M : Type 1} → statement M
     let o = c.before.before.before.before.before.before.before.before.before.before in
     let s = o.before.before.before.before.before.before.before in
     let tests = tested s.args.nesting s.args.parent s.args.place.room o.before.before.may_join-ands.ensures o.before.may_join-ors.ensures in
-    let found = c.before.before.before.before.before.before.before.before.opening-in-Found-1.given.1 in
+    let found = c.before.before.before.before.before.before.before.before.in-Found.is in
     let may = join-allowed s.args.variables s.args.place o.open_node-opening.ensures tests found c.before.before.before.before.before.before.if-which-lt7.false in
     omega (arith, may.deep))
     (λ c. omega (arith, c.before.before.before.before.before.before.if-which-lt7.false))
@@ -137,13 +137,13 @@ pub +read-kids-read-node-spec : {M : Type 1} → statement M
     let o = c.before.before.before.before.before.before.before.before.before.before in
     let s = o.before.before.before.before.before.before.before in
     let tests = tested s.args.nesting s.args.parent s.args.place.room o.before.before.may_join-ands.ensures o.before.may_join-ors.ensures in
-    let may = beginning-allowed s.args.variables s.args.place o.open_node-opening.ensures tests c.before.before.before.before.before.before.before.before.opening-in-Found-1.given.1 in
+    let may = beginning-allowed s.args.variables s.args.place o.open_node-opening.ensures tests c.before.before.before.before.before.before.before.before.in-Found.is in
     omega (arith, may.most))
     (λ c κs.
     let o = c.before.before.before.before.before.before.before.before.before.before in
     let s = o.before.before.before.before.before.before.before in
     let tests = tested s.args.nesting s.args.parent s.args.place.room o.before.before.may_join-ands.ensures o.before.may_join-ors.ensures in
-    let found = c.before.before.before.before.before.before.before.before.opening-in-Found-1.given.1 in
+    let found = c.before.before.before.before.before.before.before.before.in-Found.is in
     let may = join-allowed s.args.variables s.args.place o.open_node-opening.ensures tests found c.before.before.before.before.before.before.if-which-lt7.false in (
       omega (arith, s.requires.0, s.requires.1.1.fits),
       (
@@ -160,10 +160,10 @@ pub +read-kids-read-node-spec : {M : Type 1} → statement M
     let o = c.before.before.before in
     let s = o.before.before.before.before.before.before.before in
     let tests = tested s.args.nesting s.args.parent s.args.place.room o.before.before.may_join-ands.ensures o.before.may_join-ors.ensures in
-    node-stopped s.args.variables s.args.place o.open_node-opening.ensures tests c.before.opening-1.given.1)
+    node-stopped s.args.variables s.args.place o.open_node-opening.ensures tests c.before.in-Stopped.is)
     (λ c. search rules) (λ c. search rules) (λ c. search rules) (λ c. search rules)
     (λ c.
     let o = c.before.before.before.before.before.before.before.before.before.before.before.before.before.before.before.before.before.before in
     let s = o.before.before.before.before.before.before.before in
     let tests = tested s.args.nesting s.args.parent s.args.place.room o.before.before.may_join-ands.ensures o.before.may_join-ors.ensures in
-    node-join s.args.variables s.args.place o.open_node-opening.ensures tests c.before.before.before.before.before.before.before.before.before.before.before.before.before.before.before.before.opening-in-Found-1.given.1 c.before.before.before.before.before.before.before.before.before.before.before.before.before.before.if-which-lt7.false c.before.before.before.before.before.before.before.read_kids.ensures))
+    node-join s.args.variables s.args.place o.open_node-opening.ensures tests c.before.before.before.before.before.before.before.before.before.before.before.before.before.before.before.before.in-Found.is c.before.before.before.before.before.before.before.before.before.before.before.before.before.before.if-which-lt7.false c.before.before.before.before.before.before.before.read_kids.ensures))

@@ -9,6 +9,6 @@ pub close_atom_spec : {M : Type 1} → statement M
 close_atom_spec =
     tie.close
     (tie.spec (λ c κs. search rules) (λ c. search rules) (λ c. search rules) (λ c. search rules) (λ c. search rules) (λ c. search rules) (λ c. search rules) (λ c. search rules)
-    (λ c. close-stops c.before.before.before.closing-step.ensures c.before.step-1.given.1)
+    (λ c. close-stops c.before.before.before.closing-step.ensures c.before.in-Stopped.is)
     (λ c. search rules)
-    (λ c. close-reads c.before.before.before.closing-step.ensures c.before.step-in-Read-1.given.1))
+    (λ c. close-reads c.before.before.before.closing-step.ensures c.before.in-Read.is))

@@ -13,18 +13,18 @@ close-atom-requires c κs =
     let piece = c.before.before in
     let read = piece.before.before.before.before.before.before.before in
     let s = start read in
-    let small = atom-number s.args.place read.known_polynomial-piece.ensures piece.piece-in-Read-1.given.1 s.pre.0 in
+    let small = atom-number s.args.place read.known_polynomial-piece.ensures piece.in-Read.is s.pre.0 in
     (record { inside = small.1; tape = s.pre.1.tape; fits = s.pre.1.fits }, s.pre.2, s.pre.3, small.0)
 
 returns : tie.Need-returns-in-Stopped
-returns c = let read = c.before.before.before.before.before.before.before.before in atom-stops (start read).args.place read.known_polynomial-piece.ensures c.before.piece-1.given.1
+returns c = let read = c.before.before.before.before.before.before.before.before in atom-stops (start read).args.place read.known_polynomial-piece.ensures c.before.in-Stopped.is
 
 returns-2 : tie.Need-returns-in-Read
 returns-2 c =
     let close = c.before.before in
     let piece = close.before.before.before in
     let read = piece.before.before.before.before.before.before.before in
-    atom-reads (start read).args.place read.known_polynomial-piece.ensures piece.piece-in-Read-1.given.1 close.close_atom.ensures
+    atom-reads (start read).args.place read.known_polynomial-piece.ensures piece.in-Read.is close.close_atom.ensures
 
 pub read_atom_spec : {M : Type 1} → statement M
 read_atom_spec =

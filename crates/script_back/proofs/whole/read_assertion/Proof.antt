@@ -8,8 +8,8 @@ pub read_assertion_spec : {M : Type 1} → statement M
 read_assertion_spec =
     tie.close
     (tie.spec (λ c κs. search rules) (λ c. search rules) (λ c. search rules)
-    (λ c κs. root-inside c.before.before.before.before.before.before.before.before.before.before.read_root-branch.ensures c.before.branch-in-Read-1.given.1)
+    (λ c κs. root-inside c.before.before.before.before.before.before.before.before.before.before.read_root-branch.ensures c.before.in-Read.is)
     (λ c. search rules) (λ c. search rules) (λ c. search rules) (λ c. search rules)
-    (λ c. assertion-stops c.before.before.before.before.before.before.before.before.before.before.read_root-branch.ensures c.before.branch-1.given.1)
+    (λ c. assertion-stops c.before.before.before.before.before.before.before.before.before.before.read_root-branch.ensures c.before.in-Stopped.is)
     (λ c. search rules) (λ c. search rules) (λ c. search rules) (λ c. search rules)
-    (λ c. assertion-ends c.before.before.before.before.before.before.before.before.before.before.before.read_root-branch.ensures c.before.before.branch-in-Read-1.given.1 c.read_end.ensures))
+    (λ c. assertion-ends c.before.before.before.before.before.before.before.before.before.before.before.read_root-branch.ensures c.before.before.in-Read.is c.read_end.ensures))

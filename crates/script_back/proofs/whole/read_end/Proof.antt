@@ -8,6 +8,6 @@ pub read_end_spec : {M : Type 1} → statement M
 read_end_spec =
     tie.close
     (tie.spec (λ c. search rules) (λ c κs. search rules) (λ c. search rules) (λ c. search rules)
-    (λ c. let said = c.before.before.before.before in end-goes-on said.before.before.before.args.place said.said-step.ensures c.before.before.step-in-Read-1.given.1 c.if-next-text.true)
-    (λ c. let said = c.before.before.before in end-stops said.before.before.before.args.place said.said-step.ensures c.before.step-1.given.1)
-    (λ c. let said = c.before.before.before.before in end_reads said.before.before.before.args.place said.said-step.ensures c.before.before.step-in-Read-1.given.1 c.if-next-text.false))
+    (λ c. let said = c.before.before.before.before in end-goes-on said.before.before.before.args.place said.said-step.ensures c.before.before.in-Read.is c.if-next-text.true)
+    (λ c. let said = c.before.before.before in end-stops said.before.before.before.args.place said.said-step.ensures c.before.in-Stopped.is)
+    (λ c. let said = c.before.before.before.before in end_reads said.before.before.before.args.place said.said-step.ensures c.before.before.in-Read.is c.if-next-text.false))

@@ -8,6 +8,6 @@ pub read_none_spec : {M : Type 1} → statement M
 read_none_spec =
     tie.close
     (tie.spec (λ c κs. search rules) (λ c. search rules) (λ c. search rules) (λ c. search rules)
-    (λ c. none-stops c.before.before.before.said-step.ensures c.before.step-1.given.1)
+    (λ c. none-stops c.before.before.before.said-step.ensures c.before.in-Stopped.is)
     (λ c. search rules)
-    (λ c. none_reads c.before.before.before.said-step.ensures c.before.step-in-Read-1.given.1))
+    (λ c. none_reads c.before.before.before.said-step.ensures c.before.in-Read.is))

@@ -11,8 +11,8 @@ read_rest_spec =
     (λ c κs.
     let declared = c.before.before.before.before.before.before.before in
     let s = declared.before.before.before.before.before in
-    let all = declared-all declared.read_declarations-declared.ensures c.before.before.before.before.before.declared-in-Read-1.given.1 in
+    let all = declared-all declared.read_declarations-declared.ensures c.before.before.before.before.before.in-Read.is in
     (record { some = all.some; most = all.most; lent = s.requires.0 }, all.inside))
-    (λ c. rest-stops c.before.before.before.read_declarations-declared.ensures c.before.declared-1.given.1)
+    (λ c. rest-stops c.before.before.before.read_declarations-declared.ensures c.before.in-Stopped.is)
     (λ c. search rules) (λ c. search rules) (λ c. search rules) (λ c. search rules)
-    (λ c. rest-reads c.before.before.before.before.before.before.before.before.before.before.before.before.before.before.before.read_declarations-declared.ensures c.before.before.before.before.before.before.before.before.before.before.before.before.before.declared-in-Read-1.given.1 c.before.before.before.before.before.before.before.read_assertion.ensures))
+    (λ c. rest-reads c.before.before.before.before.before.before.before.before.before.before.before.before.before.before.before.read_declarations-declared.ensures c.before.before.before.before.before.before.before.before.before.before.before.before.before.in-Read.is c.before.before.before.before.before.before.before.read_assertion.ensures))

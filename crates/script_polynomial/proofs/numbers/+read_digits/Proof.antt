@@ -34,7 +34,7 @@ module _ (t : ℕ) (c : read-digits-lts.Else-not-digit_may
   byte = c.before.before.before.before.byte_at-byte.result
 
   digit : (48 ≤ byte) × (byte ≤ 57) × (10 * c.before.before.before.before.before.before.args.x + (byte - 48) ≤ 2147483647)
-  digit = may-digit _ byte (sym c.before.digit_may.ensures ∙ not-false _ c.if-not-digit_may.false)
+  digit = may-digit _ byte (sym c.before.digit_may.ensures ∙ c.if-not-digit_may.false)
 
   here : let s = c.before.before.before.before.before.before in s.args.at < length s.args.text.now
   here = let s = c.before.before.before.before.before.before in

@@ -19,35 +19,35 @@ returns-2 : tie.Need-returns-then-byte_at-last
 returns-2 c =
     let one = c.before.before.before.before.before in
     minus-open _ _ _ one.before.before.agreed-digits.ensures one.before.if-digits-at-lt3.false one.read_magnitude-found.ensures
-    c.before.before.before.found-in-Read-1.given.1
+    c.before.before.before.in-Read.is
     c.before.byte_at.ensures c.if-byte_at-last.true
 
-cast-t17 : tie.Need-overflow-cast-t17
+cast-t17 : tie.Need-overflow_cast-result
 cast-t17 c =
     let small = (number_read c.before.before.before.before.before.read_magnitude-found.ensures
-    c.before.before.before.found-in-Read-1.given.1).1.at_most in
+    c.before.before.before.in-Read.is).1.at_most in
     record { sfits = omega (arith, small) }
 
-sub-t18 : tie.Need-overflow-sub-t18
+sub-t18 : tie.Need-overflow_sub-result
 sub-t18 c = minus-fits (number_read c.before.before.before.before.before.read_magnitude-found.ensures
-    c.before.before.before.found-in-Read-1.given.1).1
+    c.before.before.before.in-Read.is).1
 
-add-t19 : tie.Need-overflow-add-t19
+add-t19 : tie.Need-overflow_add-result
 add-t19 c =
     let s = c.before.before.before.before.before.before.before.before.before.before in
-    let here = byte_inside s.args.text.now c.before.before.before.found-in-Read-1.given.0.1.0
+    let here = byte_inside s.args.text.now c.before.before.before.in-Read.behind
     (omega (arith, c.before.byte_at.ensures, c.if-byte_at-last.false, s.requires.1)) in
     omega (arith, here)
 
 returns-3 : tie.Need-returns-in-Stopped
 returns-3 c =
     let one = c.before.before.before in
-    minus-stopped _ _ _ one.before.before.agreed-digits.ensures one.before.if-digits-at-lt3.false one.read_magnitude-found.ensures c.before.found-1.given.1
+    minus-stopped _ _ _ one.before.before.agreed-digits.ensures one.before.if-digits-at-lt3.false one.read_magnitude-found.ensures c.before.in-Stopped.is
 
 returns-4 : tie.Need-returns-else-byte_at-last
 returns-4 c =
     let one = c.before.before.before.before.before in
-    let e = c.before.before.before.found-in-Read-1.given.1 in
+    let e = c.before.before.before.in-Read.is in
     minus-read _ _ _ one.before.before.agreed-digits.ensures one.before.if-digits-at-lt3.false one.read_magnitude-found.ensures e c.before.byte_at.ensures
     c.if-byte_at-last.false
     one.before.before.before.before.before.requires.1 (minus-value (number_read one.read_magnitude-found.ensures e).1)

@@ -13,11 +13,11 @@ use Rattle.script_polynomial.proofs.products.read_factor.Tie as tie
 -- The letter that was found, and the power of 16 that it stands for.
 module _ (c : tie.In-Followed) where
   abbrev later : ℕ
-  later = c.before.letter-1.given.0.0
+  later = c.before.in-Followed.later
 
   letter-found : let a = c.before.before.before.before.before.before.args in
       LetterFound a.n a.limit a.after a.monomial c.before.before.before.before.byte_at.result (Followed later)
-  letter-found = rw c.before.letter-1.given.1 at c.before.before.before.next_letter-letter.ensures
+  letter-found = rw c.before.in-Followed.is at c.before.before.before.next_letter-letter.ensures
 
   small : later < 16
   small =
@@ -41,7 +41,7 @@ returns-2 : tie.Need-returns-then-not-space_may
 returns-2 c =
     let told = c.before.before.before.before in
     let s = told.before.before.before.before.before.before in
-    let none = rw (power told) at (sym c.before.space_may.ensures ∙ not-true _ c.if-not-space_may.true) in
+    let none = rw (power told) at (sym c.before.space_may.ensures ∙ c.if-not-space_may.true) in
     factor-stops _ _ _ _ _ _ s.requires.1 s.requires.3 told.before.before.before.before.byte_at.ensures _ (letter-found told)
     c.before.before.before.byte_at-byte.ensures c.before.before.if-byte-eq41.false none
 
@@ -49,13 +49,13 @@ returns-3 : tie.Need-returns-in-None
 returns-3 c =
     let one = c.before.before in
     let s = one.before.before.before in
-    factor-none _ _ _ _ _ _ s.requires.1 s.requires.3 one.before.byte_at.ensures one.next_letter-letter.ensures c.enum_told-1.given.1
+    factor-none _ _ _ _ _ _ s.requires.1 s.requires.3 one.before.byte_at.ensures one.next_letter-letter.ensures c.in-None.is
 
 returns-4 : tie.Need-returns-else-not-space_may
 returns-4 c =
     let told = c.before.before.before.before in
     let s = told.before.before.before.before.before.before in
-    let both = rw (power told) at (sym c.before.space_may.ensures ∙ not-false _ c.if-not-space_may.false) in
+    let both = rw (power told) at (sym c.before.space_may.ensures ∙ c.if-not-space_may.false) in
     rw (power told) (factor-more _ _ _ _ _ _ s.requires.1 s.requires.3 told.before.before.before.before.byte_at.ensures _ (letter-found told)
     c.before.before.before.byte_at-byte.ensures both)
 

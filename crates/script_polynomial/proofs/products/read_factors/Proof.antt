@@ -20,12 +20,12 @@ read_factors_spec =
     (λ c κs. let l = c.loop-position.invariant in (l.inside, l.variable, c.before.before.requires.2, l.packed))
     (λ c. search rules)
     (λ c. let one = c.before.before.before in factors-stop _ _ _ _ one.before.loop-position.invariant one.read_factor-factor.ensures
-    c.before.factor-1.given.1)
+    c.before.in-Stopped.is)
     (λ c. search rules)
     (λ c. let one = c.before.before.before in factors-end _ _ _ _ one.before.loop-position.invariant one.read_factor-factor.ensures
-    c.before.factor-in-Last-1.given.1)
+    c.before.in-Last.is)
     (λ c. search rules)
     (λ c. let one = c.before.before.before in factors-less _ _ _ _ one.before.loop-position.invariant one.read_factor-factor.ensures
-    c.before.factor-in-More-1.given.1)
+    c.before.in-More.is)
     (λ c. let one = c.before.before.before in factors-go-on _ _ _ _ one.before.loop-position.invariant one.read_factor-factor.ensures
-    c.before.factor-in-More-1.given.1))
+    c.before.in-More.is))

@@ -55,13 +55,13 @@ pub +read-next-terms-spec : {M : Type 1} → statement M
     omega (
       arith,
       (further-on _ _ _ _ _ _ told.before.before.before.before.before.before.read_next_term-step.ensures
-          told.before.step-in-More-1.given.1).some,
+          told.before.in-More.is).some,
     ))
     (λ c κs.
     let told = c.before.before in
     let one = told.before.before.before.before.before.before in
     let s = one.before.before.before.before.before in
-    let next = further-on _ _ _ _ _ _ one.read_next_term-step.ensures told.before.step-in-More-1.given.1 in
+    let next = further-on _ _ _ _ _ _ one.read_next_term-step.ensures told.before.in-More.is in
     let kept = one.read_next_term-step.auto.1 in (
       omega (arith, next .some, s.requires.0),
       (
@@ -77,15 +77,15 @@ pub +read-next-terms-spec : {M : Type 1} → statement M
     (λ c κs.
     let rest = c.before.before.before in
     let one = rest.before.before.before.before.before.before.before.before.before in
-    terms-counted _ rest.read_next_terms-rest.ensures (omega (arith, one.read_next_term-step.auto.1.0)) (omega arith))
+    terms-counted _ rest.read_next_terms-rest.ensures (omega (arith, one.read_next_term-step.auto.coefficient)) (omega arith))
     (λ c. search rules) (λ c. search rules)
-    (λ c. terms-stopped _ _ _ _ _ _ c.before.before.before.before.before.before.read_next_term-step.ensures c.before.step-1.given.1)
+    (λ c. terms-stopped _ _ _ _ _ _ c.before.before.before.before.before.before.read_next_term-step.ensures c.before.in-Stopped.is)
     (λ c. search rules) (λ c. search rules)
-    (λ c. terms-last _ _ _ _ _ _ c.before.before.before.before.before.before.read_next_term-step.ensures c.before.step-in-Last-1.given.1)
+    (λ c. terms-last _ _ _ _ _ _ c.before.before.before.before.before.before.read_next_term-step.ensures c.before.in-Last.is)
     (λ c. search rules) (λ c. search rules)
     (λ c.
     let rest = c.before.before.before.before in
     let told = rest.before.before.before in
-    terms-more _ _ _ _ _ _ told.before.before.before.before.before.before.read_next_term-step.ensures told.before.step-in-More-1.given.1 _
+    terms-more _ _ _ _ _ _ told.before.before.before.before.before.before.read_next_term-step.ensures told.before.in-More.is _
     c.one_more.ensures
     rest.read_next_terms-rest.ensures)

@@ -7,18 +7,18 @@ use Rattle.script_polynomial.proofs.sums.read_alone.Tie as tie
 spaced-requires : tie.Need-spaced-requires
 spaced-requires c κs =
     let one = c.before.before.before.before.before.before in
-    (alone-term _ _ _ one.before.highest.ensures.0 one.read_term-found.ensures c.before.found-in-Read-1.given.1).reaches.inside
+    (alone-term _ _ _ one.before.highest.ensures.0 one.read_term-found.ensures c.before.in-Read.is).reaches.inside
 
 returns : tie.Need-returns-in-Stopped
 returns c =
     let one = c.before.before.before.before.before.before in
-    alone-stopped _ _ _ one.before.highest.ensures.0 one.read_term-found.ensures c.before.found-1.given.1
+    alone-stopped _ _ _ one.before.highest.ensures.0 one.read_term-found.ensures c.before.in-Stopped.is
 
 returns-2 : tie.Need-returns-in-Read
 returns-2 c =
     let told = c.before in
     let one = told.before.before.before.before.before.before in
-    alone-read _ _ _ one.before.highest.ensures.0 one.read_term-found.ensures told.before.found-in-Read-1.given.1
+    alone-read _ _ _ one.before.highest.ensures.0 one.read_term-found.ensures told.before.in-Read.is
     one.before.before.before.before.before.before.requires.3 _ c.spaced.ensures
 
 pub read_alone_spec : {M : Type 1} → statement M

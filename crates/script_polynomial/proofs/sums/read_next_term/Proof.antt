@@ -26,20 +26,20 @@ after-term-requires c κs =
     let one = c.before.before.before.before.before.before in
     let tested = one.before.before.before in
     (term-there _ _ _ 0 _ tested.before.product_next.ensures tested.if-not-product_next.false one.read_term-found.ensures
-    c.before.found-in-Read-1.given.1).reaches.inside
+    c.before.in-Read.is).reaches.inside
 
 returns-2 : tie.Need-returns-in-Stopped
 returns-2 c =
     let one = c.before.before.before.before.before.before in
     let tested = one.before.before.before in
-    step-stopped _ _ _ _ _ tested.before.product_next.ensures tested.if-not-product_next.false one.read_term-found.ensures c.before.found-1.given.1
+    step-stopped _ _ _ _ _ tested.before.product_next.ensures tested.if-not-product_next.false one.read_term-found.ensures c.before.in-Stopped.is
 
 returns-3 : tie.Need-returns-in-Read
 returns-3 c =
     let told = c.before in
     let one = told.before.before.before.before.before.before in
     let tested = one.before.before.before in
-    step-read _ _ _ _ _ tested.before.product_next.ensures tested.if-not-product_next.false one.read_term-found.ensures told.before.found-in-Read-1.given.1
+    step-read _ _ _ _ _ tested.before.product_next.ensures tested.if-not-product_next.false one.read_term-found.ensures told.before.in-Read.is
     tested.before.before.before.before.requires.3 _ (c.after_term.ensures _)
 
 pub read_next_term_spec : {M : Type 1} → statement M

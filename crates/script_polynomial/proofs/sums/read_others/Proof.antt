@@ -13,12 +13,12 @@ read-next-terms-requires c κs =
     let here = byte_inside s.args.text.now s.args.at (omega (arith, tested.before.byte_at.ensures, tested.if-byte_at-ne32.false)) in
     (omega (arith, here), s.requires.1, s.requires.2, s.requires.3)
 
-add-spaced : tie.Need-overflow-add-spaced
+add-spaced : tie.Need-overflow_add-count
 add-spaced c =
     let one = c.before.before.before.before.before.before in
     let tested = one.before.before.before in
     let room = (others-terms _ _ _ _ tested.before.byte_at.ensures tested.if-byte_at-ne32.false one.read_next_terms-found.ensures
-    c.before.found-in-Read-1.given.1).room in
+    c.before.in-Read.is).room in
     omega (arith, room.coefficients)
 
 spaced-requires : tie.Need-spaced-requires
@@ -26,20 +26,20 @@ spaced-requires c κs =
     let one = c.before.before.before.before.before.before in
     let tested = one.before.before.before in
     (others-terms _ _ _ _ tested.before.byte_at.ensures tested.if-byte_at-ne32.false one.read_next_terms-found.ensures
-    c.before.found-in-Read-1.given.1).reaches.inside
+    c.before.in-Read.is).reaches.inside
 
 returns-2 : tie.Need-returns-in-Stopped
 returns-2 c =
     let one = c.before.before.before.before.before.before in
     let tested = one.before.before.before in
-    others-stopped _ _ _ _ tested.before.byte_at.ensures tested.if-byte_at-ne32.false one.read_next_terms-found.ensures c.before.found-1.given.1
+    others-stopped _ _ _ _ tested.before.byte_at.ensures tested.if-byte_at-ne32.false one.read_next_terms-found.ensures c.before.in-Stopped.is
 
 returns-3 : tie.Need-returns-in-Read
 returns-3 c =
     let told = c.before in
     let one = told.before.before.before.before.before.before in
     let tested = one.before.before.before in
-    others-read _ _ _ _ tested.before.byte_at.ensures tested.if-byte_at-ne32.false one.read_next_terms-found.ensures told.before.found-in-Read-1.given.1 _
+    others-read _ _ _ _ tested.before.byte_at.ensures tested.if-byte_at-ne32.false one.read_next_terms-found.ensures told.before.in-Read.is _
     c.spaced.ensures
 
 pub read_others_spec : {M : Type 1} → statement M

@@ -24,7 +24,7 @@ read-others-requires c κs =
     let one = told.before.before.before.before.before.before in
     let s = one.before.before.before.before.before.before.before.before.before in
     let kept = one.read_term-found.auto.1 in (
-      (alone-term _ _ _ one.before.highest.ensures.0 one.read_term-found.ensures told.before.found-in-Read-1.given.1).reaches.inside,
+      (alone-term _ _ _ one.before.highest.ensures.0 one.read_term-found.ensures told.before.in-Read.is).reaches.inside,
       s.requires.1,
       s.requires.2,
       record { coefficients = omega (arith, kept.0, s.requires.3.coefficients); monomials = omega (arith, kept.1.0, s.requires.3.monomials) },
@@ -35,7 +35,7 @@ returns-2 c =
     let one = c.before.before.before.before.before.before in
     let tested = one.before.before.before.before in
     sum-stopped _ _ _ tested.before.agreed-start.ensures tested.if-start-at-lt3.false one.before.highest.ensures.0 one.read_term-found.ensures
-    c.before.found-1.given.1
+    c.before.in-Stopped.is
 
 returns-3 : tie.Need-returns-in-Read
 returns-3 c =
@@ -44,7 +44,7 @@ returns-3 c =
     let one = told.before.before.before.before.before.before in
     let tested = one.before.before.before.before in
     sum-read _ _ _ tested.before.agreed-start.ensures tested.if-start-at-lt3.false one.before.highest.ensures.0 one.read_term-found.ensures
-    told.before.found-in-Read-1.given.1
+    told.before.in-Read.is
     _ others.read_others.ensures
 
 pub read_sum_spec : {M : Type 1} → statement M

@@ -16,13 +16,13 @@ read-product-requires c κs =
 returns-2 : tie.Need-returns-in-Stopped
 returns-2 c =
     let one = c.before.before.before in
-    term-stopped _ _ _ _ one.before.before.agreed-start.ensures one.before.if-start-at-lt3.false one.read_product-found.ensures c.before.found-1.given.1
+    term-stopped _ _ _ _ one.before.before.agreed-start.ensures one.before.if-start-at-lt3.false one.read_product-found.ensures c.before.in-Stopped.is
 
 returns-3 : tie.Need-returns-in-Read
 returns-3 c =
     let one = c.before.before.before in
-    term-read _ _ _ _ one.before.before.agreed-start.ensures one.before.if-start-at-lt3.false one.read_product-found.ensures c.before.found-in-Read-1.given.1
-    (to_z-of_z w32 _ (record { sfits = c.known_told-in-Read-1.given.0.1 }))
+    term-read _ _ _ _ one.before.before.agreed-start.ensures one.before.if-start-at-lt3.false one.read_product-found.ensures c.before.in-Read.is
+    (to_z-of_z w32 _ (record { sfits = c.in-Read.known_told-in-Read-1-own.given.0.1 }))
 
 pub read_term_spec : {M : Type 1} → statement M
 read_term_spec =

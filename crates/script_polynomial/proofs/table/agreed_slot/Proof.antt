@@ -34,7 +34,7 @@ end-small c =
     let same = c.before.before.wide-count.ensures in
     omega (arith, c.put_polynomial-end.ensures.behind, rw (← same) at (slot-short s.requires.1))
 
-long : (c : tie.After-put_polynomial-end) → length c.put_polynomial-end.new.0 ≡ 7958
+long : (c : tie.After-put_polynomial-end) → length c.put_polynomial-end.new.text ≡ 7958
 long c = wrote-long c.put_polynomial-end.ensures ∙ length-replicate {A = ℕ} 7958 0
 
 returns : tie.Need-returns

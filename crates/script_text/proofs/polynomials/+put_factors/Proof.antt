@@ -44,7 +44,7 @@ pub +put-factors-spec : {M : Type 1} → statement M
         fits-second (factors-more _ _ _ first.before.before.if-count-eq0.false) s.requires.1.1 first.put_power-next.ensures,
       ),
     ))
-    (λ c. c.before.before.put_factors.auto.0 ∙ c.before.before.before.before.before.before.put_power-next.auto.0)
+    (λ c. c.before.before.put_factors.auto.text ∙ c.before.before.before.before.before.before.put_power-next.auto.text)
     (λ c.
     let others = c.before.before in
     let first = others.before.before.before.before in

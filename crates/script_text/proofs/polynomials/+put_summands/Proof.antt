@@ -70,7 +70,7 @@ pub +put-summands-spec : {M : Type 1} → statement M
     let others = c.before.before in
     let term = others.before.before.before.before in
     let space = term.before.before.before.before.before.before in
-    others.put_summands.auto.0 ∙ term.put_term-next.auto.0 ∙ space.put_byte-term.auto.0)
+    others.put_summands.auto.text ∙ term.put_term-next.auto.text ∙ space.put_byte-term.auto.text)
     (λ c.
     let others = c.before.before in
     let term = others.before.before.before.before in

@@ -46,7 +46,7 @@ pub +put-power-spec : {M : Type 1} → statement M
     let others = c.before.before in
     let letter = others.before.before.before.before in
     let space = letter.before.before.before.before in
-    others.put_power.auto.0 ∙ letter.put_byte-next.auto.0 ∙ space.put_byte-letter.auto.0)
+    others.put_power.auto.text ∙ letter.put_byte-next.auto.text ∙ space.put_byte-letter.auto.text)
     (λ c.
     let others = c.before.before in
     let letter = others.before.before.before.before in

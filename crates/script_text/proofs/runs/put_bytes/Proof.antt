@@ -24,7 +24,7 @@ loop-again c =
     let l = put.before.before.before.before.loop-i in
     let bytes = put.before.before.before.before.before.before.before.args.bytes.now in (
       omega arith,
-      put.put_byte-next.auto.0 ∙ l.invariant.1,
+      put.put_byte-next.auto.text ∙ l.invariant.1,
       omega (arith, put.put_byte-next.ensures.behind, l.invariant.2),
       wrote_as (wrote-both l.invariant.3 put.put_byte-next.ensures) (first_more bytes l.i (omega arith)),
     )

@@ -35,7 +35,7 @@ loop-again c =
     let stored = c.put in (
       all,
       (
-        stored.auto.0 ∙ words,
+        stored.auto.masks ∙ words,
         more-masked s.args.terms.now s.args.atoms.number l.masks l.i (omega arith) words
             c.mask_of_slot-mask.ensures stored.ensures so_far,
       ),

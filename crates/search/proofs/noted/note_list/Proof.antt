@@ -30,7 +30,7 @@ loop-again c =
     let s = c in
     let l = c.loop-i in
     let (all, (words, so_far)) = l.invariant in
-    let after = c.note.new.1.1.1.0 in
+    let after = c.note.new.columns in
     let set = get_or s.args.atoms.set in
     let took = subst (λ (q : Mask). Took l.columns l.i q (set l.i 0) after) c.mask_at-mask.ensures
     c.note.ensures in (

@@ -150,7 +150,7 @@ returns c =
     walk-stop s.args.all l.sofar.0 _ _ (l.invariant.1 _ _ (stands s)) (with-step (table s) s.args.atoms _ _ l.j _ h)
     (cut-is c.before.before _ _ (stands s)) (sym c.stops.ensures ∙ c.if-stops.true)
 
-add-next-2 : tie.Need-overflow-add-next-2 invariant-loop decreases-loop
+add-next-2 : tie.Need-overflow_add-j invariant-loop decreases-loop
 add-next-2 c =
     let l = c in
     let all = l.many-n.ensures in

@@ -37,7 +37,7 @@ both-ready b a list ss forms same places e f =
 signs-ready : (c : tie.After-sign_list-2) →
     let s = start c in
     let st = s.args.state in
-    let signs = c.sign_list-2.new.1.1.1.1.0 in
+    let signs = c.sign_list-2.new.sign in
     Ready (table s) (sets_of st.board) st.atoms signs × Ready (table s) (sets_of st.board) s.args.list signs
 signs-ready c =
     let s = start c in

@@ -10,12 +10,12 @@ abbrev table : tie.Start → Table
 table s = lent_table s.args.coefficient s.args.monomial s.args.terms s.args.variables
 
 returns : tie.Need-returns-in-Variable
-returns c = let s = c.before.before.before.before.before.before.before.before.before in variable-goes (table s) _ _ c.which-holds.ensures.0 c.holds-1.given.1
+returns c = let s = c.before.before.before.before.before.before.before.before.before in variable-goes (table s) _ _ c.which-holds.ensures.0 c.in-Variable.is
 
 returns-2 : tie.Need-returns-in-Form
 returns-2 c =
     let s = c.before.before.before.before.before.before.before.before.before in
-    form-stays (table s) _ _ c.which-holds.ensures.0 c.enum_told-1.given.1 c.said_inside.ensures
+    form-stays (table s) _ _ c.which-holds.ensures.0 c.in-Form.is c.said_inside.ensures
 
 pub stays_spec : {M : Type 1} → statement M
 stays_spec = tie.close (tie.spec (λ c κs. search rules) (λ c. search rules) (λ c. search rules) (λ c κs. search rules) returns returns-2)

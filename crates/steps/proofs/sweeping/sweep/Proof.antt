@@ -10,7 +10,7 @@ words-of-requires : tie.Need-words_of-falls-requires
 words-of-requires c κs =
     let worked-out = c.sign_table in
     let forms = c.requires.0 in
-    (form-slots forms worked-out.auto.1.1.1.0, (forms.coefficients, (length-replicate {A = ℕ} 128 0, length-replicate {A = ℕ} 130 0)))
+    (form-slots forms worked-out.auto.sign, (forms.coefficients, (length-replicate {A = ℕ} 128 0, length-replicate {A = ℕ} 130 0)))
 
 walk-over-requires : tie.Need-walk_over-requires
 walk-over-requires c κs =
@@ -23,7 +23,7 @@ walk-over-requires c κs =
         variables = pre.1.0.0;
         settles = pre.1.0.1;
         signed = rw worked-out.ensures (table-signed _ _ pre.0 (search rules));
-        long = worked-out.auto.1.1.1.0;
+        long = worked-out.auto.sign;
         words = words.words_of-falls.ensures;
       },
       pre.1.1,

@@ -31,12 +31,12 @@ is-open c =
       (
         omega (arith, inv.1.0, into.0),
         (
-          called.merge_into-count.auto.0 ∙ inv.1.1.0,
+          called.merge_into-count.auto.list ∙ inv.1.1.0,
           (
             ahead-too (ahead-later (loop.i + 1) into.1.0 (omega (arith, inv.1.0))) (ahead-later (loop.i + 1) ahead (omega arith)),
             λ l h.
                 let m = rw (rest-ahead {i = loop.i} h (omega (arith, h.size, test)) ahead) at (inv.1.1.1.1 l h) in
-                merge-open m _ called.if_constant-constant.ensures called.enum_told-1.given.1 _
+                merge-open m _ called.if_constant-constant.ensures called.in-Open.is _
                 (into.1.1 _ m.list called.requires.0 m.lists),
           ),
         ),
@@ -56,7 +56,7 @@ is_true c =
           inv.1.1.0,
           (
             ahead-later (loop.i + 1) ahead (omega arith),
-            λ l h. merge-true (rw (rest-ahead {i = loop.i} h (omega (arith, h.size, test)) ahead) at (inv.1.1.1.1 l h)) _ c.if_constant-constant.ensures c.enum_told-in-True-1.given.1,
+            λ l h. merge-true (rw (rest-ahead {i = loop.i} h (omega (arith, h.size, test)) ahead) at (inv.1.1.1.1 l h)) _ c.if_constant-constant.ensures c.in-True.is,
           ),
         ),
       ),
@@ -69,7 +69,7 @@ is_false c =
       omega (arith, inv.0, inv.1.0),
       λ l h.
           merge-false (rw (rest-ahead {i = loop.i} h (omega (arith, h.size, c.loop-i-test.true)) inv.1.1.1.0) at (inv.1.1.1.1 l h)) _ c.if_constant-constant.ensures
-          c.enum_told-in-False-1.given.1,
+          c.in-False.is,
     )
 
 returns : tie.Need-returns invariant-loop decreases-loop

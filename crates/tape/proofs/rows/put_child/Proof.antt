@@ -22,7 +22,7 @@ lay-requires-2 c κs =
     let start = c in
     let row = start.args.row in
     let inner = start.args.inner in
-    let long = c.lay.auto.0 ∙ length-set row.token row.count (start.args.atoms.count * 65536 + inner.count) ∙ length_unmapped ℕ row.token 256 start.well_formed.0.1.1.0.1.0.1 in
+    let long = c.lay.auto.out ∙ length-set row.token row.count (start.args.atoms.count * 65536 + inner.count) ∙ length_unmapped ℕ row.token 256 start.well_formed.0.1.1.0.1.0.1 in
     let inner-long = length_unmapped ℕ inner.token 256 start.well_formed.1.1.0.1.1.0.1.0.1 in
     (omega arith, (omega (arith, start.requires, inner-long), omega (arith, start.requires, long)))
 

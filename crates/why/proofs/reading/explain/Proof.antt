@@ -19,7 +19,7 @@ returns : tie.Need-returns-then-not-and_of_atoms
 returns c bytes taken =
     let s = c in
     tells-refusal c.refuse.result (refuses-19 taken s.args.room (sym c.and_of_atoms.ensures
-    ∙ not-true _ c.if-not-and_of_atoms.true)) c.refuse.ensures
+    ∙ c.if-not-and_of_atoms.true)) c.refuse.ensures
 
 sub-atoms : tie.Need-overflow_sub-atoms
 sub-atoms c =
@@ -27,7 +27,7 @@ sub-atoms c =
     omega (
       arith,
       atoms-many s.requires.taken (sym c.and_of_atoms.ensures
-          ∙ not-false _ c.if-not-and_of_atoms.false),
+          ∙ c.if-not-and_of_atoms.false),
       c.behind_root.ensures,
     )
 
@@ -35,7 +35,7 @@ returns-2 : tie.Need-returns-then-room-atoms
 returns-2 c bytes taken =
     let s = c in
     let behind = c.behind_root.ensures in
-    let only = sym c.and_of_atoms.ensures ∙ not-false _ c.if-not-and_of_atoms.false in
+    let only = sym c.and_of_atoms.ensures ∙ c.if-not-and_of_atoms.false in
     tells-refusal c.refuse-then-room-atoms.result (refuses-20 taken only s.args.room (subst (λ (k : ℕ). s.args.room < s.args.count - k) behind
     c.if-room-atoms.true)) c.refuse-then-room-atoms.ensures
 
@@ -46,7 +46,7 @@ records-of-requires c κs =
       bytes = s.requires.bytes;
       taken = s.requires.taken;
       only = sym c.and_of_atoms.ensures
-          ∙ not-false _ c.if-not-and_of_atoms.false;
+          ∙ c.if-not-and_of_atoms.false;
     }
 
 returns-3 : tie.Need-returns

@@ -13,14 +13,14 @@ explain-requires c κs =
     let chosen = c in
     let reading = chosen in
     let a = reading.args in
-    record { bytes = a.input.now; taken = found-taken reading.read_into-contents.ensures chosen.contents-in-Numbers-1.given.1 }
+    record { bytes = a.input.now; taken = found-taken reading.read_into-contents.ensures chosen.in-Numbers.is }
 
 returns : tie.Need-returns-in-Refused
 returns c =
     let chosen = c in
     let reading = chosen in
     let a = reading.args in
-    tells-refusal c.refuse.result (found-refused reading.read_into-contents.ensures a.room chosen.contents-1.given.1) c.refuse.ensures
+    tells-refusal c.refuse.result (found-refused reading.read_into-contents.ensures a.room chosen.in-Refused.is) c.refuse.ensures
 
 returns-2 : tie.Need-returns-in-Numbers
 returns-2 c =
@@ -28,7 +28,7 @@ returns-2 c =
     let chosen = told in
     let reading = chosen in
     let a = reading.args in
-    told.explain.ensures a.input.now (found-taken reading.read_into-contents.ensures chosen.contents-in-Numbers-1.given.1)
+    told.explain.ensures a.input.now (found-taken reading.read_into-contents.ensures chosen.in-Numbers.is)
 
 pub explained_spec : {M : Type 1} → statement M
 explained_spec =

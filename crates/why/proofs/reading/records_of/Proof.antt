@@ -52,7 +52,7 @@ module _ (c : tie.After-part-given) where
       c.part-given.result
   row taken =
       let count = s.args.count in
-      let tape = (giving c).give.ensures ∙ ap (placed_tokens count) (normal-of (giving c)).normal-tokens.ensures in
+      let tape = (giving c).give.ensures ∙ ap (placed_tokens count) (normal-of (giving c)).normal_tokens.ensures in
       reads taken s.pre.only (table worked) worked.work.ensures (λ k m lists enough.
       subst (λ (f : ℕ). Lists c.part-given.result (take (count - f) (drop f m))) c.behind_root.ensures
       (c.part-given.ensures.1 k m (subst (λ (l : List ℕ). Lists (row_of l k) m) (sym tape) lists) enough))
@@ -73,7 +73,7 @@ give-requires : tie.Need-give-requires
 give-requires c κs =
     let here = c.before.before.before in
     let s = start (working here) in
-    (omega (arith, tokens-there s.pre.taken, here.normal_tokens.auto.0), tokens-few s.pre.taken)
+    (omega (arith, tokens-there s.pre.taken, here.normal_tokens.auto.token), tokens-few s.pre.taken)
 
 part-requires : tie.Need-part-given-requires
 part-requires c κs =
@@ -81,7 +81,7 @@ part-requires c κs =
     let s = start (working (normal-of here)) in
     let taken = s.pre.taken in (
       omega (arith, atoms-many taken s.pre.only, c.behind_root.ensures),
-      (omega (arith, tokens-there taken, (normal-of here).normal-tokens.auto.0, here.give.auto.0), omega (arith, tokens-few taken)),
+      (omega (arith, tokens-there taken, (normal-of here).normal_tokens.auto.0, here.give.auto.token), omega (arith, tokens-few taken)),
     )
 
 tell-all-requires : tie.Need-tell_all-requires
@@ -108,7 +108,7 @@ returns c bytes taken =
 same_length : tie.Need-shape_of-token
 same_length c =
     let here = giving c.before.before.before.before in
-    here.give.kept.0 ∙ (normal-of here).normal-tokens.kept.0
+    here.give.kept.0 ∙ (normal-of here).normal_tokens.kept.0
 
 pub records_of_spec : {M : Type 1} → statement M
 records_of_spec =

@@ -42,7 +42,7 @@ pub +write-pairs-spec : {M : Type 1} → statement M
         rw (pair-skipped a.n a.k a.monomial exponent.if-k-eq0.false exponent.exponent_of-exponent.ensures c.if-exponent-eq0.true) at s.requires.1.2,
       ),
     ))
-    (λ c. c.write_pairs.auto.0)
+    (λ c. c.write_pairs.auto.out)
     (λ c.
     let others = c.before.before in
     let exponent = others.before.before.before in
@@ -61,7 +61,7 @@ pub +write-pairs-spec : {M : Type 1} → statement M
     let s = exponent.before.before.before in (
       omega arith,
       room-first two_runs (room-second (pair-split _ _ _ exponent.if-k-eq0.false exponent.exponent_of-exponent.ensures tested.if-exponent-eq0.false) s.requires.1.2
-          variable.write_field-variable.ensures variable.write_field-variable.auto.0),
+          variable.write_field-variable.ensures variable.write_field-variable.auto.out),
     ))
     (λ c. omega (arith, c.if-k-eq0.false))
     (λ c κs.
@@ -75,15 +75,15 @@ pub +write-pairs-spec : {M : Type 1} → statement M
         s.requires.1.0,
         omega (arith, s.requires.1.1),
         room-second two_runs (room-second (pair-split _ _ _ exponent.if-k-eq0.false exponent.exponent_of-exponent.ensures tested.if-exponent-eq0.false) s.requires.1.2
-            variable.write_field-variable.ensures variable.write_field-variable.auto.0)
-            next.write_field-next.ensures next.write_field-next.auto.0,
+            variable.write_field-variable.ensures variable.write_field-variable.auto.out)
+            next.write_field-next.ensures next.write_field-next.auto.out,
       ),
     ))
     (λ c.
     let others = c.before.before in
     let next = others.before.before.before.before in
     let variable = next.before.before.before.before in
-    others.write_pairs-2.auto.0 ∙ next.write_field-next.auto.0 ∙ variable.write_field-variable.auto.0)
+    others.write_pairs-2.auto.out ∙ next.write_field-next.auto.out ∙ variable.write_field-variable.auto.out)
     (λ c.
     let others = c in
     let next = others in

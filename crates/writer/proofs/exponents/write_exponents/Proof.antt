@@ -36,7 +36,7 @@ write_exponents_spec =
       s.requires.0,
       omega arith,
       room-second (exponents-split a.edition a.n a.monomial second.if-edition-lt2.false (count.pair_count.ensures.0 a.n)) s.requires.1
-          field.write_field-pairs.ensures field.write_field-pairs.auto.0,
+          field.write_field-pairs.ensures field.write_field-pairs.auto.out,
     ))
     (λ c. search rules)
     (λ c.

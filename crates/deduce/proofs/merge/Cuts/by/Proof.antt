@@ -13,7 +13,7 @@ returns c =
     let s = c in
     let f = s.ranges in
     let a = s.args in
-    let k = c.in-1.keys1 in
+    let k = c.in-1.is in
     rw (c.cut_not_negative-l.ensures, c.cut_not_positive-u.ensures, c.by-vanishing.ensures)
     (simp (back f.a, back f.b, (cut-positive a.s a.a a.b (interval_of a.self.l) k).0, (cut-positive a.s a.a a.b (interval_of a.self.u) k).1))
 
@@ -23,7 +23,7 @@ returns-2 c =
     let s = c in
     let f = s.ranges in
     let a = s.args in
-    let k = c.in-4.keys2 in
+    let k = c.in-4.is in
     rw (c.cut_not_positive-l.ensures, c.cut_not_negative-u.ensures, c.by-vanishing.ensures)
     (simp (back f.a, back f.b, (cut-negative a.s a.a a.b (interval_of a.self.l) k).0, (cut-negative a.s a.a a.b (interval_of a.self.u) k).1))
 
@@ -33,7 +33,7 @@ returns-3 c =
     let s = c in
     let f = s.ranges in
     let a = s.args in
-    let k = c.in-0.keys3 in
+    let k = c.in-0.is in
     rw c.by-vanishing.ensures
     (simp (back f.a, back f.b, (cut-none a.s a.a a.b (interval_of a.self.l) k).0, (cut-none a.s a.a a.b (interval_of a.self.u) k).1))
 
@@ -43,7 +43,7 @@ returns-4 c =
     let s = c in
     let f = s.ranges in
     let a = s.args in
-    let m = c.in_default.rest in
+    let m = c.in_default.in_default-own.rest in
     rw (
       c.cut_not_negative-l-in_default.ensures,
       c.cut_not_negative-u-in_default.ensures,

@@ -21,7 +21,7 @@ returns c = simp c.if-self.true
 
 returns-2 : tie.Need-returns-then-not-is_strict
 unfolding vanish_row counted
-returns-2 c = simp (c.if-self.false, sym c.is_strict.ensures ∙ not-true _ c.if-not-is_strict.true)
+returns-2 c = simp (c.if-self.false, sym c.is_strict.ensures ∙ c.if-not-is_strict.true)
 
 returns-3 : tie.Need-returns-then-both_zero
 unfolding vanish_row counted
@@ -32,7 +32,7 @@ returns-3 c =
       back f.a,
       back f.b,
       c.if-self.false,
-      sym c.is_strict.ensures ∙ not-false _ c.if-not-is_strict.false,
+      sym c.is_strict.ensures ∙ c.if-not-is_strict.false,
       (rw (back (a-fits s), back (b-fits s)) at (sym c.both_zero.ensures ∙ c.if-both_zero.true)),
     )
 
@@ -48,7 +48,7 @@ returns-4 c =
       back f.b,
       c.apart-never.ensures,
       c.if-self.false,
-      sym c.is_strict.ensures ∙ not-false _ c.if-not-is_strict.false,
+      sym c.is_strict.ensures ∙ c.if-not-is_strict.false,
       (rw (back (a-fits s), back (b-fits s)) at (sym c.both_zero.ensures ∙ c.if-both_zero.false)),
     )
 
