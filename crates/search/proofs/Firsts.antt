@@ -1,6 +1,6 @@
 -- The first finding that changes a set: what it leaves is another set, and where no finding changes one it is the set itself.
 -- So a search that has found nothing so far, and the first thing that it finds.
-use mathlib.Core.Path.{◌≡◌, refl, sym, ap, ◌∙◌}
+use mathlib.Core.Path.{◌≡◌, refl, sym, subst, ap, ◌∙◌}
 use mathlib.Core.Bool.{false, true≢false}
 use mathlib.Core.List.{List, [], ◌∷◌, ◌++◌}
 use mathlib.Core.Option.{Option, none, some}
