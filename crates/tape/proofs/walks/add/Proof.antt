@@ -4,6 +4,7 @@ use native.Mathlib.Omega.{arith}
 use borrow.Author.Rules.{rules}
 use Rattle.tape.specs.Entering.{goes-as, tells_none, tells-atom, tells-child, tells_more}
 use Rattle.tape.proofs.walks.add.Statement.{statement}
+use Rattle.tape.proofs.walks.add.Goals.{then-n-eq0, else-n-eq0, then-n-eq1, else-n-eq1}
 use Rattle.tape.proofs.walks.add.Tie as tie
 
 falls : tie.Need-returns-then-end-eq0
@@ -22,8 +23,8 @@ joins c t walk kids s h = goes-as (omega arith) (tells-atom h c.if-n-eq1.true c.
 stays : tie.Need-returns
 stays c t walk kids s h =
     let f = tells_more h (omega arith)
-    (λ z. ⊎_elim (λ w. (w.1.left, λ e. w.5.left (omega (arith, e, w.3.ensures.0, w.4.ensures.0)))) (λ w. absurd (w.left z)) c.if-n-eq0.branch)
-    (λ z y. ⊎_elim (λ w. w.1.left y) (λ w. w.left z) c.if-n-eq1.branch) in
+    (λ z. elim c.if-n-eq0.branch [ then-n-eq0 w ↦ ? | else-n-eq0 w ↦ ? ])
+    (λ z y. elim c.if-n-eq1.branch [ then-n-eq1 w ↦ ? | else-n-eq1 w ↦ ? ]) in
     goes-as (omega arith) f.1 (c.stayed.ensures t walk h.list h.children s h.lists h.lies f.0)
 
 pub add_spec : {M : Type 1} → statement M
