@@ -167,7 +167,7 @@ heads-kept : (marks later : List Bool) (place : ℕ) (b : Bool) (children : Chil
     → Heads marks place b children → Heads later place b children
 unfolding Heads
 heads-kept marks later place b none from h same m = tt
-heads-kept marks later place b (child l own more) from h same m = (same place h ∙ m.0, heads-kept marks later _ b more from (omega arith) same m.1)
+heads-kept marks later place b (child l own more) from h same m = (same place h ∙ m.0, heads-kept marks later (place + (1 + (length l + length (laid own)))) b more from (omega arith) same m.1)
 
 marked-kept : (marks later : List Bool) (place : ℕ) (pending : Pending) (from : ℕ) → from ≤ place → ((j : ℕ) → from ≤ j → get_or later j false ≡ get_or marks j false)
     → MarkedAt marks place pending → MarkedAt later place pending

@@ -114,7 +114,7 @@ module _ (t : Table) (numbers : List ℕ) (sets : List SignSet) (board : Board) 
   atoms-first i zero d e a b idle f = absurd (omega arith)
   atoms-first i (suc k) zero {cut} e a b idle f =
       let here : i + 0 ≡ i = omega arith in
-      rw (here, later-at i k e (rw here at f), get_or-set_same sets i cut 0 (omega arith), set-later t numbers sets (suc i) k i cut (omega arith))
+      simp here (rw (later-at i k e (rw here at f), get_or-set_same sets i cut 0 (omega arith), set-later t numbers sets (suc i) k i cut (omega arith)))
   atoms-first i (suc k) (suc d) {cut} e a b idle f =
       let next : i + suc d ≡ suc i + d = omega arith in
       let rest = rw (before-next t numbers sets i) at

@@ -34,7 +34,7 @@ module _ (t : Table) (numbers : List ℕ) (sets : List SignSet) where
       let left : suc k - (0 + 1) ≡ k = omega arith in
       let later : Quieted (atoms_from t numbers (set sets b full) (suc b) k) (atoms_from t numbers sets (suc b) k) =
       rw (set-later t numbers sets (suc b) k b full (omega arith)) (quieted-same (atoms_from t numbers sets (suc b) k)) in
-      rw (here, left, add-one b) (silent _ (get_or-set_same sets b full 0 (omega arith)) later)
+      simp here (rw (left, add-one b) (silent _ (get_or-set_same sets b full 0 (omega arith)) later))
   quieted-from b (suc k) (suc d) h low =
       let next : b + suc d ≡ suc b + d = omega arith in
       let left : suc k - (suc d + 1) ≡ k - (d + 1) = omega arith in

@@ -35,16 +35,16 @@ ReadFrom bytes s = Accepted bytes s.args.edition (held s) (length s.args.output.
 -- ---- the calls, each seen from the next
 
 abbrev start : tie.After-work → tie.Start
-start c = c.before.before.before.before.before.before.before.before.before.before.before.before.before.before.before
+start c = c.before.before.before.before.before.before.before.before.before.before.before.before
 
 abbrev working : tie.After-normal_tokens → tie.After-work
 working c = c.before.before.before.before.before.before.before.before.before
 
 abbrev normal-of : tie.After-give → tie.After-normal_tokens
-normal-of c = c.before.before.before.before.before.before.before.before.before.before
+normal-of c = c.before.before.before.before.before.before.before.before
 
 abbrev giving : tie.After-simplified-short → tie.After-give
-giving c = c.before.before.before.before.before.before.before
+giving c = c.before.before.before.before.before.before
 
 abbrev normalising : tie.After-simplified-short → tie.After-normal_tokens
 normalising c = normal-of (giving c)
@@ -62,8 +62,8 @@ plaining c = c.before.before.before.before.before.before.before.before.before.be
 
 abbrev table : tie.After-work → WorkingTable
 table c =
-    let last = c.work.new.1.1.1.1.1 in
-    working_by last.0 last.1.0 last.1.1.0 last.1.1.1.0 last.1.1.1.1.0
+    let last = c.work.new in
+    working_by last.normal_coefficient last.normal_monomial last.normal_terms last.number last.turned
 
 module _ (c : tie.After-normal_tokens) {bytes : List ℕ} (accepted : ReadFrom bytes (start (working c))) where
   -- The tape is in normal form,
@@ -80,7 +80,7 @@ module _ (c : tie.After-give) {bytes : List ℕ} (accepted : ReadFrom bytes (sta
 
   -- as long as what was read,
   long : length c.give.new.token ≡ length (start (working (normal-of c))).args.token.now
-  long = c.give.auto.token ∙ (normal-of c).normal_tokens.auto.0
+  long = c.give.auto.token ∙ (normal-of c).normal_tokens.auto.token
 
 module _ (c : tie.After-simplified-short) {bytes : List ℕ} (accepted : ReadFrom bytes (start (working (normalising c)))) where
   -- simplified,
@@ -115,7 +115,7 @@ module _ (c : tie.After-collect-new_polynomials) where
   new =
       let last = c.collect-new_polynomials.new.1.1.1.1.1.1 in
       let simplified = simplified-at.simplified.result.tree in
-      held_by first.args.variables c.collect-new_polynomials.result simplified.root simplified.tokens.count last.0 last.1.0 last.1.1.0 last.1.1.1.0
+      held_by first.args.variables c.collect-new_polynomials.result simplified.root simplified.tokens.count last.normal_coefficient last.normal_monomial last.normal_terms last.number
 
   module _ {bytes : List ℕ} (accepted : ReadFrom bytes first) where
     -- and collected to the new block,
@@ -134,12 +134,12 @@ module _ (c : tie.After-collect-new_polynomials) where
     new-room : BlockRoom new.coefficient new.monomial new.terms new.token
     new-room =
         let room = asks-room accepted given-at.give.last.token (long given-at accepted) in
-        let kept = c.collect-new_polynomials.auto.1.1.1.1.1.1 in
+        let kept = c.collect-new_polynomials.auto in
         record {
-          coefficients = omega (arith, room.coefficients, kept.0);
-          monomials = omega (arith, room.monomials, kept.1.0);
-          counts = omega (arith, room.counts, kept.1.1.0);
-          tokens = omega (arith, room.tokens, kept.1.1.1.0);
+          coefficients = omega (arith, room.coefficients, kept.new_coefficient);
+          monomials = omega (arith, room.monomials, kept.new_monomial);
+          counts = omega (arith, room.counts, kept.new_terms);
+          tokens = omega (arith, room.tokens, kept.new_token);
         }
 
 -- ---- the working table and the tape in normal form
@@ -227,7 +227,7 @@ collect-requires c κs =
 
 write-requires : tie.Need-write-length-requires
 write-requires c κs =
-    let here = c.before.before.before.before.before.before.before.before.before.before.before.before.before in
+    let here = c.before.before.before.before.before.before.before.before.before in
     let accepted = (first here).requires.0.accepted in
     (new-room here accepted, record { block = new_block accepted.given; writable = new-writable here accepted })
 
@@ -242,8 +242,8 @@ same-counts c = c.collect-new_polynomials.auto.new_terms
 
 same-tokens : tie.Need-shape_of-token
 same-tokens c =
-    let here = c.before.before.before.before.before.before.before.before.before.before.before.before.before.before.before.before in
-    here.collect-new_polynomials.auto.new_token ∙ (given-at here).give.auto.token ∙ (normal-at here).normal_tokens.auto.0
+    let here = c.before.before.before.before.before.before.before.before.before.before.before.before in
+    here.collect-new_polynomials.auto.new_token ∙ (given-at here).give.auto.token ∙ (normal-at here).normal_tokens.auto.token
 
 same-places : tie.Need-shape_of-places
 same-places c = (telling-of (plaining c.before.before.before.before.before.before.before.before.before.before.before.before)).tell.auto.places

@@ -43,8 +43,8 @@ invariant-loop src token₀ count nesting parent m children next₀ left₀ toke
 abbrev decreases-loop : parts-lts.decreases-loop-left
 decreases-loop src token₀ count nesting parent m children next₀ left₀ token next left = left
 
-pub +read-node-read-parts-spec : {M : Type 1} → statement M
-+read-node-read-parts-spec =
+pub +read_node_read_parts_spec : {M : Type 1} → statement M
++read_node_read_parts_spec =
     close μ-node μ-parts
     (λ t. node-lts.spec (open-node-reads.Asked, open-node-reads.Learnt, parts_below t, parts.Post) (node_at t) node.Post
     (λ c κs. c.requires.1.0) (λ c. search rules) (λ c. search rules)
