@@ -2,8 +2,8 @@
 use borrow.Author.Rules.{rules}
 use Rattle.script_back.proofs.Forks.{said-inside}
 use Rattle.script_back.proofs.Texts.{script-stops, script-reads}
-use Rattle.script_back.proofs.whole.read_into.Statement.{statement}
-use Rattle.script_back.proofs.whole.read_into.Tie as tie
+use Rattle.script_back.proofs.whole_script.read_into.Statement.{statement}
+use Rattle.script_back.proofs.whole_script.read_into.Tie as tie
 
 pub read_into_spec : {M : Type 1} → statement M
 read_into_spec =

@@ -13,8 +13,8 @@ use Rattle.script_polynomial.specs.Agreement.{common}
 use Rattle.script_text.specs.Tree.{Terms}
 use Rattle.script_text.specs.Runs.{Fits}
 use Rattle.script_polynomial.proofs.Comparing.{slot-short, front-and}
-use Rattle.script_polynomial.proofs.table.agreed_slot.Statement.{statement}
-use Rattle.script_polynomial.proofs.table.agreed_slot.Tie as tie
+use Rattle.script_polynomial.proofs.tabled.agreed_slot.Statement.{statement}
+use Rattle.script_polynomial.proofs.tabled.agreed_slot.Tie as tie
 
 put-polynomial-requires : tie.Need-put_polynomial-end-requires
 put-polynomial-requires c κs =

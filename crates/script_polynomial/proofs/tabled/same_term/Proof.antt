@@ -4,8 +4,8 @@ use lib.ListN.{get_or}
 use borrow.Author.Rules.{rules}
 use borrow.Author.Tests.{eq-eqb, ne_eqb}
 use Rattle.forms.proofs.Numbers.{same_bits}
-use Rattle.script_polynomial.proofs.table.same_term.Statement.{statement}
-use Rattle.script_polynomial.proofs.table.same_term.Tie as tie
+use Rattle.script_polynomial.proofs.tabled.same_term.Statement.{statement}
+use Rattle.script_polynomial.proofs.tabled.same_term.Tie as tie
 
 returns-2 : tie.Need-returns
 returns-2 c =

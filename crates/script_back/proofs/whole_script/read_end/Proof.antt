@@ -1,8 +1,8 @@
 -- `read_end` meets its contract.
 use borrow.Author.Rules.{rules}
 use Rattle.script_back.proofs.Texts.{end-stops, end-goes-on, end_reads}
-use Rattle.script_back.proofs.whole.read_end.Statement.{statement}
-use Rattle.script_back.proofs.whole.read_end.Tie as tie
+use Rattle.script_back.proofs.whole_script.read_end.Statement.{statement}
+use Rattle.script_back.proofs.whole_script.read_end.Tie as tie
 
 pub read_end_spec : {M : Type 1} → statement M
 read_end_spec =

@@ -7,8 +7,8 @@ use borrow.Author.Tests.{not-true, not-false}
 use Rattle.rules.specs.Polynomial.{same}
 use Rattle.terms.specs.View.{terms_from}
 use Rattle.script_polynomial.proofs.Comparing.{same_left, same-goes-on, same-stops, same_end}
-use Rattle.script_polynomial.proofs.table.same_terms.Statement.{statement}
-use Rattle.script_polynomial.proofs.table.same_terms.Tie as tie
+use Rattle.script_polynomial.proofs.tabled.same_terms.Statement.{statement}
+use Rattle.script_polynomial.proofs.tabled.same_terms.Tie as tie
 
 abbrev invariant-loop : tie.invariant-loop-i
 invariant-loop coefficient monomial value powers place count i₀ i =

@@ -1,8 +1,8 @@
 -- `read_rest` meets its contract.
 use borrow.Author.Rules.{rules}
 use Rattle.script_back.proofs.Texts.{rest-stops, declared-all, rest-reads}
-use Rattle.script_back.proofs.whole.read_rest.Statement.{statement}
-use Rattle.script_back.proofs.whole.read_rest.Tie as tie
+use Rattle.script_back.proofs.whole_script.read_rest.Statement.{statement}
+use Rattle.script_back.proofs.whole_script.read_rest.Tie as tie
 
 pub read_rest_spec : {M : Type 1} → statement M
 read_rest_spec =

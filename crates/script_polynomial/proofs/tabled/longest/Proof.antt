@@ -6,8 +6,8 @@ use native.Mathlib.Omega.{arith}
 use lib.ListN.{drop}
 use borrow.Author.Rules.{rules}
 use Rattle.script_polynomial.proofs.Comparing.{slot-within, agrees_from, agrees-none, agrees-one-more}
-use Rattle.script_polynomial.proofs.table.longest.Statement.{statement}
-use Rattle.script_polynomial.proofs.table.longest.Tie as tie
+use Rattle.script_polynomial.proofs.tabled.longest.Statement.{statement}
+use Rattle.script_polynomial.proofs.tabled.longest.Tie as tie
 
 abbrev invariant-loop : tie.invariant-loop-i
 invariant-loop text coefficient monomial terms at n known best₀ i₀ best i =

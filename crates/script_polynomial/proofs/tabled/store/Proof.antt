@@ -8,8 +8,8 @@ use mir.Syntax.{w32}
 use mir.ValLaws.{to_z-of_z}
 use borrow.Author.Rules.{rules}
 use Rattle.script_polynomial.proofs.Copying.{stored_from, stored-step, stored-end}
-use Rattle.script_polynomial.proofs.table.store.Statement.{statement}
-use Rattle.script_polynomial.proofs.table.store.Tie as tie
+use Rattle.script_polynomial.proofs.tabled.store.Statement.{statement}
+use Rattle.script_polynomial.proofs.tabled.store.Tie as tie
 
 abbrev invariant-loop : tie.invariant-loop-i
 invariant-loop coefficient₀ monomial₀ terms value powers slot count i₀ coefficient monomial i =

@@ -3,8 +3,8 @@ use mathlib.Core.Path.{sym, ◌∙◌}
 use native.Mathlib.Omega.{arith}
 use borrow.Author.Rules.{rules}
 use Rattle.script_back.proofs.Texts.{blank-some, root-is-true, root-is-false, root-is-node}
-use Rattle.script_back.proofs.whole.read_root.Statement.{statement}
-use Rattle.script_back.proofs.whole.read_root.Tie as tie
+use Rattle.script_back.proofs.whole_script.read_root.Statement.{statement}
+use Rattle.script_back.proofs.whole_script.read_root.Tie as tie
 
 pub read_root_spec : {M : Type 1} → statement M
 read_root_spec =

@@ -12,8 +12,8 @@ use Rattle.terms.specs.View.{terms_from}
 use Rattle.forms.specs.Slots.{slot_of, first_from}
 use Rattle.forms.proofs.Searches.{first_step, first_found, first-none}
 use Rattle.script_polynomial.proofs.Comparing.{slot-within}
-use Rattle.script_polynomial.proofs.table.find.Statement.{statement}
-use Rattle.script_polynomial.proofs.table.find.Tie as tie
+use Rattle.script_polynomial.proofs.tabled.find.Statement.{statement}
+use Rattle.script_polynomial.proofs.tabled.find.Tie as tie
 
 -- Whether slot j has the polynomial that was read.
 abbrev alike : List ℤ → List ℕ → List ℕ → List ℤ → List ℕ → ℕ → ℕ → Bool

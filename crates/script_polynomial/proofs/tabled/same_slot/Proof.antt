@@ -3,8 +3,8 @@ use mathlib.Core.Path.{◌≡◌, sym, ◌∙◌}
 use native.Mathlib.Omega.{arith}
 use borrow.Author.Rules.{rules}
 use Rattle.script_polynomial.proofs.Comparing.{other-count}
-use Rattle.script_polynomial.proofs.table.same_slot.Statement.{statement}
-use Rattle.script_polynomial.proofs.table.same_slot.Tie as tie
+use Rattle.script_polynomial.proofs.tabled.same_slot.Statement.{statement}
+use Rattle.script_polynomial.proofs.tabled.same_slot.Tie as tie
 
 returns : tie.Need-returns-then-wide-count
 returns c =

@@ -1,8 +1,8 @@
 -- `read_assertion` meets its contract.
 use borrow.Author.Rules.{rules}
 use Rattle.script_back.proofs.Texts.{assertion-stops, root-inside, assertion-ends}
-use Rattle.script_back.proofs.whole.read_assertion.Statement.{statement}
-use Rattle.script_back.proofs.whole.read_assertion.Tie as tie
+use Rattle.script_back.proofs.whole_script.read_assertion.Statement.{statement}
+use Rattle.script_back.proofs.whole_script.read_assertion.Tie as tie
 
 pub read_assertion_spec : {M : Type 1} → statement M
 read_assertion_spec =

@@ -1,8 +1,8 @@
 -- `read_none` meets its contract.
 use borrow.Author.Rules.{rules}
 use Rattle.script_back.proofs.Texts.{none-stops, none_reads}
-use Rattle.script_back.proofs.whole.read_none.Statement.{statement}
-use Rattle.script_back.proofs.whole.read_none.Tie as tie
+use Rattle.script_back.proofs.whole_script.read_none.Statement.{statement}
+use Rattle.script_back.proofs.whole_script.read_none.Tie as tie
 
 pub read_none_spec : {M : Type 1} → statement M
 read_none_spec =
