@@ -11,7 +11,7 @@ read-into-requires c κs = record { coefficients = omega arith; monomials = omeg
 finish-requires : tie.Need-finish-requires
 finish-requires c κs =
     let kept = c.read_into-contents.auto in
-    let given = found-accepted c.read_into-contents.ensures c.args.edition c.pre c.in-Numbers.is in (
+    let given = found-accepted c.read_into-contents.ensures c.args.edition c.requires c.in-Numbers.is in (
       record {
         coefficients = omega (arith, kept.coefficient);
         monomials = omega (arith, kept.monomial);
@@ -27,7 +27,7 @@ returns c =
 
 returns-2 : tie.Need-returns-in-Numbers
 returns-2 c =
-    let given = found-accepted c.read_into-contents.ensures c.args.edition c.pre c.in-Numbers.is in
+    let given = found-accepted c.read_into-contents.ensures c.args.edition c.requires c.in-Numbers.is in
     converts-finished _ given.reading (c.finish.ensures given.block given.writable)
 
 pub converted_to_spec : {M : Type 1} → statement M

@@ -14,13 +14,10 @@ use Rattle.script_back.specs.Back.{converts-block}
 use Rattle.script_back.proofs.put_block.Statement.{statement}
 use Rattle.script_back.proofs.put_block.Tie as tie
 
-abbrev start : tie.After-write-size → tie.Start
-start c = c.before.before.before.before.before.before
-
 -- What was written apart has room there.
 fits : (c : tie.After-write-size) → c.write-size.result ≤ length c.write-size.new.out
 fits c =
-    let some = (start c).requires.1 in
+    let some = c.requires.1 in
     omega (arith, (c.write-size.ensures some.block some.writable).0, some.writable.room, c.write-size.auto.out)
 
 lends : tie.Need-slice_bounds-to_edition1-end

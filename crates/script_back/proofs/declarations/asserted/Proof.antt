@@ -9,6 +9,6 @@ asserted_spec =
     tie.close
     (tie.spec (λ c κs. search rules) (λ c. search rules) (λ c. search rules)
     (λ c.
-    assert-stops c.said-step.ensures (no_more c.args.text.now c.args.at c.args.i c.pre.1 c.pre.2) c.in-Stopped.is)
+    assert-stops c.said-step.ensures (no_more c.args.text.now c.args.at c.args.i c.requires.1 c.requires.2) c.in-Stopped.is)
     (λ c.
-    assert-reads c.said-step.ensures (no_more c.args.text.now c.args.at c.args.i c.pre.1 c.pre.2) c.pre.1 c.in-Read.is))
+    assert-reads c.said-step.ensures (no_more c.args.text.now c.args.at c.args.i c.requires.1 c.requires.2) c.requires.1 c.in-Read.is))

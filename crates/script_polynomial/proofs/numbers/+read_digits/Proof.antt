@@ -36,7 +36,7 @@ module _ (t : ℕ) (c : read-digits-lts.Else-not-digit_may
   digit : (48 ≤ byte) × (byte ≤ 57) × (10 * c.args.x + (byte - 48) ≤ 2147483647)
   digit = may-digit _ byte (sym c.digit_may.ensures ∙ c.if-not-digit_may.false)
 
-  here : let s = c.before.before.before.before.before.before in s.args.at < length s.args.text.now
+  here : let s = c in s.args.at < length s.args.text.now
   here = let s = c in
       byte_inside s.args.text.now s.args.at (omega (arith, c.byte_at-byte.ensures, digit.0))
 
