@@ -81,6 +81,7 @@ filled-all (x ∷ l) h = (h 0 (omega arith), filled-all l (λ j k. h (suc j) (om
 
 absent-slot : {k : ℕ} (l : List ℕ) → EmptyAt k l → Filled l → Member k (map slot l) → ⊥
 unfolding EmptyAt Filled
+absent-slot {k = k} [] a f m = elim m [ ]
 absent-slot (x ∷ l) a f (here e) = f.0 (a.0 (sym e))
 absent-slot (x ∷ l) a f (later m) = absent-slot l a.1 f.1 m
 
