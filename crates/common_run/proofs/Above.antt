@@ -7,7 +7,7 @@ use Prim.Native.Nat.{ℕ, zero, suc, ◌+◌, ◌≤◌}
 use native.Mathlib.Omega.{arith}
 use lib.IntN.{ℤ}
 use Rattle.rules.specs.Polynomial.{Atom, Board}
-use Rattle.rules.specs.Rounds.{turns, round, start}
+use Rattle.rules.specs.Rounds.{turns, round, start, turn}
 use Rattle.rules.specs.Rounds.{State as Standing}
 use Rattle.removal_laws.specs.Wider.{Wider}
 use Rattle.turn_laws.specs.AfterTurns.{AfterTurns, no_turn, one-more, Floor}
@@ -50,7 +50,8 @@ turns-after : {n : ℕ} {atoms : List Atom} {first board : Board} → AfterTurns
     → AfterTurns n atoms first (turns n atoms board i k)
 unfolding turns
 turns-after t i zero h = t
-turns-after t i (suc k) h = turns-after (one-more i (omega arith) t) (suc i) k (omega arith)
+turns-after {n} {atoms} {first} {board} t i (suc k) h =
+    turns-after {board = turn n atoms board i} (one-more i (omega arith) t) (suc i) k (omega arith)
 
 rounds-after : (n : ℕ) (atoms : List Atom) (first : Board) (j : ℕ) → AfterTurns n atoms first (after_rounds n atoms j first)
 unfolding after_rounds

@@ -167,14 +167,14 @@ heads-kept : (marks later : List Bool) (place : ℕ) (b : Bool) (children : Chil
     → Heads marks place b children → Heads later place b children
 unfolding Heads
 heads-kept marks later place b none from h same m = tt
-heads-kept marks later place b (child l own more) from h same m = (same place h ∙ m.0, heads-kept marks later _ b more from (omega arith) same m.1)
+heads-kept marks later place b (child l own more) from h same m = (same place h ∙ m.0, heads-kept marks later (place + (1 + (length l + length (laid own)))) b more from (omega arith) same m.1)
 
 marked-kept : (marks later : List Bool) (place : ℕ) (pending : Pending) (from : ℕ) → from ≤ place → ((j : ℕ) → from ≤ j → get_or later j false ≡ get_or marks j false)
     → MarkedAt marks place pending → MarkedAt later place pending
 unfolding MarkedAt
 marked-kept marks later place done from h same m = tt
 marked-kept marks later place (these b children more) from h same m =
-    (heads-kept marks later place b children from h same m.0, marked-kept marks later _ more from (omega arith) same m.1)
+    (heads-kept marks later place b children from h same m.0, marked-kept marks later (place + length (laid children)) more from (omega arith) same m.1)
 
 -- the first child that is left to tell
 pub record First (marks : List Bool) (place : ℕ) (pending : Pending) : Type 0 where

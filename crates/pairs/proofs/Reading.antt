@@ -94,7 +94,7 @@ place-taken n least variable exponent rises below small =
 module _ {n : ℕ} {bytes : List ℕ} {at count i least : ℕ} {above : Bool} {exponents : ℕ} (inside : PairsInside bytes at count)
     (l : PairsLeft n bytes at count i least above exponents) (more : i < count) {pair : ℕ} (p : pair ≡ field_at bytes (at + 8 * i) 8) where
   pair_inside : at + 8 * i + 8 ≤ 8 * length bytes
-  pair_inside = omega (arith, inside.at-most)
+  pair_inside = omega (arith, inside.at_most)
 
   is-next : pairs_at bytes (at + 8 * i) (count - i)
       ≡ record { variable = pair / 16; exponent = pair % 16 } ∷ pairs_at bytes (at + 8 * (i + 1)) (count - (i + 1))

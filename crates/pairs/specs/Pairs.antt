@@ -11,7 +11,7 @@ pairs_at bytes at count = read_pairs count (drop at (unpack bytes))
 
 -- Their bits are in the input, whose length a field of 16 bits can give.
 pub record PairsInside (bytes : List ℕ) (at count : ℕ) : Type 0 where
-  pub at-most : at + 8 * count ≤ 8 * length bytes
+  pub at_most : at + 8 * count ≤ 8 * length bytes
   pub short : length bytes < 2 ^ 16
 
 -- "22, 23", in this order: by whether the numbers rise, whether each exponent is above 0, and the exponents as one number.

@@ -64,6 +64,7 @@ apart-without (y ∷ l) x m p = (absent-without (slot y) l x m p.0, apart-withou
 
 absent-slot : {k : ℕ} (l : List ℕ) → Absent k l → Member k (map slot l) → ⊥
 unfolding Absent
+absent-slot [] a m = elim m [ ]
 absent-slot (x ∷ l) a (here e) = a.0 (sym e)
 absent-slot (x ∷ l) a (later m) = absent-slot l a.1 m
 

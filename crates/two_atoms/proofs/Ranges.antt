@@ -95,7 +95,9 @@ added-in-sum o h k = in_all sum_of_signs h.held k (stays-second o h.sign)
 some-sum : (x y : Sign) → HasSign (sum_of_signs x y)
 unfolding open_signs
 some-sum negative y = record { sign = negative; held = stays-first below y }
-some-sum nought y = record { sign = y; held = elim y [ negative ↦ record { is = refl } | nought ↦ record { is = refl } | positive ↦ record { is = refl } ] }
+some-sum nought negative = record { sign = negative; held = record { is = refl } }
+some-sum nought nought = record { sign = nought; held = record { is = refl } }
+some-sum nought positive = record { sign = positive; held = record { is = refl } }
 some-sum positive y = record { sign = positive; held = stays-first above y }
 
 pub sum-signed : {a b : SignSet} → HasSign a → HasSign b → HasSign (sum a b)

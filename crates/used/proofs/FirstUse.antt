@@ -126,7 +126,7 @@ listed_unless-below false h o = every_append o (every h every_none)
 pub uses-below : {order later : List ℕ} → Every Below order → Every Below later → Every Below (first_uses order later)
 unfolding first_uses
 uses-below o every_none = o
-uses-below {order} o (every {a = slot} h hs) = uses-below (listed_unless-below (listed order slot) h o) hs
+uses-below {order} o (every {a = slot} h hs) = uses-below {order = listed_unless (listed order slot) slot order} (listed_unless-below (listed order slot) h o) hs
 
 -- Slots one after the other are listed one after the other.
 pub uses-append : (order xs ys : List ℕ) → first_uses order (xs ++ ys) ≡ first_uses (first_uses order xs) ys

@@ -25,10 +25,10 @@ sign-slot-requires-2 c κs =
     (form-slots {t = table s} forms (c.sign_slot.auto.sign ∙ places), omega arith)
 
 -- the signs of both slots
-signed : (c : tie.After-deduce-alone-arg) → let s = c.before.before.before.before.before.before.before.before.before.before.before.before.before.before.before.before in
+signed : (c : tie.After-slice_known-3-1) → let s = c.before.before.before.before.before.before.before.before.before.before.before.before.before.before.before in
     BothSigned (table s) (sets_of s.args.board) c.sign_slot-2.new.sign (variable_slot s.args.i) (atom_slot s.args.atoms.number s.args.j)
 signed c =
-    let s = c.before.before.before.before.before.before.before.before.before.before.before.before.before.before.before.before in
+    let s = c.before.before.before.before.before.before.before.before.before.before.before.before.before.before.before in
     let (forms, (places, (low, listed))) = s.requires in
     both-signed {t = table s} s.args.sign.now (variable_slot s.args.i) (atom_slot s.args.atoms.number s.args.j) forms places (omega (arith, forms.variables)) (omega arith)
     c.sign_slot.ensures c.sign_slot-2.ensures

@@ -4,7 +4,7 @@ use mathlib.Core.Bool.{false≢true}
 use Prim.Native.Nat.{ℕ, ◌<◌}
 use native.Mathlib.Nat.{sub-zero}
 use native.Mathlib.Omega.{arith}
-use borrow.Author.Rules.{rules, below_field}
+use borrow.Author.Rules.{rules}
 use lib.ListN.{length, get_or}
 use Rattle.rules.specs.Polynomial.{variable}
 use Rattle.rules.specs.Rounds.{cut_by}
@@ -69,7 +69,7 @@ returns-3 c =
     let ready = s.requires.0 in
     let low : s.args.i < few b.variables = omega (arith, ready.forms.variables) in
     let sixteen = s.well_formed.1.1.1.1.0.1.1.0.1.1.1.0.1.0.1 in
-    let within : s.args.i < length b.sets = below_field ℕ b.sets s.args.i 16 sixteen (omega (arith, ready.forms.variables)) in
+    let within : s.args.i < length b.sets = omega (arith, sixteen, ready.forms.variables) in
     record {
       variables = refl;
       sets = turn-changes b.variables b.sets s.args.i _ low _ (cut-is c.before.before.before.before.before.before.before.before.before) within;

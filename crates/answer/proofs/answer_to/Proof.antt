@@ -35,16 +35,16 @@ ReadFrom bytes s = Accepted bytes s.args.edition (held s) (length s.args.output.
 -- ---- the calls, each seen from the next
 
 abbrev start : tie.After-work → tie.Start
-start c = c.before.before.before.before.before.before.before.before.before.before.before.before.before.before.before
+start c = c.before.before.before.before.before.before.before.before.before.before.before.before
 
 abbrev working : tie.After-normal_tokens → tie.After-work
 working c = c.before.before.before.before.before.before.before.before.before
 
 abbrev normal-of : tie.After-give → tie.After-normal_tokens
-normal-of c = c.before.before.before.before.before.before.before.before.before.before
+normal-of c = c.before.before.before.before.before.before.before.before
 
 abbrev giving : tie.After-simplified-short → tie.After-give
-giving c = c.before.before.before.before.before.before.before
+giving c = c.before.before.before.before.before.before
 
 abbrev normalising : tie.After-simplified-short → tie.After-normal_tokens
 normalising c = normal-of (giving c)
@@ -62,8 +62,8 @@ plaining c = c.before.before.before.before.before.before.before.before.before.be
 
 abbrev table : tie.After-work → WorkingTable
 table c =
-    let last = c.work.new.1.1.1.1.1 in
-    working_by last.0 last.1.0 last.1.1.0 last.1.1.1.0 last.1.1.1.1.0
+    let last = c.work.new in
+    working_by last.normal_coefficient last.normal_monomial last.normal_terms last.number last.turned
 
 module _ (c : tie.After-normal_tokens) {bytes : List ℕ} (accepted : ReadFrom bytes (start (working c))) where
   -- The tape is in normal form,
@@ -80,7 +80,7 @@ module _ (c : tie.After-give) {bytes : List ℕ} (accepted : ReadFrom bytes (sta
 
   -- as long as what was read,
   long : length c.give.new.token ≡ length (start (working (normal-of c))).args.token.now
-  long = c.give.auto.token ∙ (normal-of c).normal_tokens.auto.0
+  long = c.give.auto.token ∙ (normal-of c).normal_tokens.auto.token
 
 module _ (c : tie.After-simplified-short) {bytes : List ℕ} (accepted : ReadFrom bytes (start (working (normalising c)))) where
   -- simplified,
@@ -93,9 +93,9 @@ module _ (c : tie.After-simplified-short) {bytes : List ℕ} (accepted : ReadFro
 
 module _ (c : tie.After-plain_tokens) {bytes : List ℕ} (accepted : ReadFrom bytes (start (working (normalising (simplifying c))))) where
   -- plain,
-  holds : Holds c.plain_tokens.new.token (simplifying c).simplified.result.tree.tokens.count (tree (simplifying c) accepted)
+  holds : Holds c.plain_tokens.new.token (simplifying c).simplified-short.result.tree.tokens.count (tree (simplifying c) accepted)
   holds =
-      simpler-holds (prepared (normalising (simplifying c)) accepted) (simplifying c).simplified.result.tree (simpler (simplifying c) accepted) c.plain_tokens.new.token
+      simpler-holds (prepared (normalising (simplifying c)) accepted) (simplifying c).simplified-short.result.tree (simpler (simplifying c) accepted) c.plain_tokens.new.token
       c.plain_tokens.ensures
 
 module _ (c : tie.After-collect-new_polynomials) where
@@ -113,33 +113,33 @@ module _ (c : tie.After-collect-new_polynomials) where
 
   abbrev new : Held
   new =
-      let last = c.collect-new_polynomials.new.1.1.1.1.1.1 in
-      let simplified = simplified-at.simplified.result.tree in
-      held_by first.args.variables c.collect-new_polynomials.result simplified.root simplified.tokens.count last.0 last.1.0 last.1.1.0 last.1.1.1.0
+      let last = c.collect-new_polynomials.new in
+      let simplified = simplified-at.simplified-short.result.tree in
+      held_by first.args.variables c.collect-new_polynomials.result simplified.root simplified.tokens.count last.new_coefficient last.new_monomial last.new_terms last.new_token
 
   module _ {bytes : List ℕ} (accepted : ReadFrom bytes first) where
     -- and collected to the new block,
-    new_is : new ≡ new_held first.args.output.now accepted (prepared normal-at accepted) simplified-at.simplified.result.tree (simpler simplified-at accepted)
-        given-at.give.last.token
+    new_is : new ≡ new_held first.args.output.now accepted (prepared normal-at accepted) simplified-at.simplified-short.result.tree (simpler simplified-at accepted)
+        given-at.give.new.token
     new_is =
-        collects first.args.output.now accepted (prepared normal-at accepted) simplified-at.simplified.result.tree (simpler simplified-at accepted)
-        given-at.give.last.token (c.collect-new_polynomials.ensures (tree simplified-at accepted) (holds (plaining c) accepted))
+        collects first.args.output.now accepted (prepared normal-at accepted) simplified-at.simplified-short.result.tree (simpler simplified-at accepted)
+        given-at.give.new.token (c.collect-new_polynomials.ensures (tree simplified-at accepted) (holds (plaining c) accepted))
 
     -- which can be written.
     new-writable : Writable first.args.edition new (length first.args.output.now) (new_block accepted.given)
     new-writable =
-        writes first.args.output.now accepted (prepared normal-at accepted) simplified-at.simplified.result.tree (simpler simplified-at accepted)
-        given-at.give.last.token new new_is (long given-at accepted)
+        writes first.args.output.now accepted (prepared normal-at accepted) simplified-at.simplified-short.result.tree (simpler simplified-at accepted)
+        given-at.give.new.token new new_is (long given-at accepted)
 
     new-room : BlockRoom new.coefficient new.monomial new.terms new.token
     new-room =
-        let room = asks-room accepted given-at.give.last.token (long given-at accepted) in
-        let kept = c.collect-new_polynomials.auto.1.1.1.1.1.1 in
+        let room = asks-room accepted given-at.give.new.token (long given-at accepted) in
+        let kept = c.collect-new_polynomials.auto in
         record {
-          coefficients = omega (arith, room.coefficients, kept.0);
-          monomials = omega (arith, room.monomials, kept.1.0);
-          counts = omega (arith, room.counts, kept.1.1.0);
-          tokens = omega (arith, room.tokens, kept.1.1.1.0);
+          coefficients = omega (arith, room.coefficients, kept.new_coefficient);
+          monomials = omega (arith, room.monomials, kept.new_monomial);
+          counts = omega (arith, room.counts, kept.new_terms);
+          tokens = omega (arith, room.tokens, kept.new_token);
         }
 
 -- ---- the working table and the tape in normal form
@@ -227,7 +227,7 @@ collect-requires c κs =
 
 write-requires : tie.Need-write-length-requires
 write-requires c κs =
-    let here = c.before.before.before.before.before.before.before.before.before.before.before.before.before in
+    let here = c.before.before.before.before.before.before.before.before.before in
     let accepted = (first here).requires.0.accepted in
     (new-room here accepted, record { block = new_block accepted.given; writable = new-writable here accepted })
 
@@ -242,8 +242,8 @@ same-counts c = c.collect-new_polynomials.auto.new_terms
 
 same-tokens : tie.Need-shape_of-token
 same-tokens c =
-    let here = c.before.before.before.before.before.before.before.before.before.before.before.before.before.before.before.before in
-    here.collect-new_polynomials.auto.new_token ∙ (given-at here).give.auto.token ∙ (normal-at here).normal_tokens.auto.0
+    let here = c.before.before.before.before.before.before.before.before.before.before.before.before in
+    here.collect-new_polynomials.auto.new_token ∙ (given-at here).give.auto.token ∙ (normal-at here).normal_tokens.auto.token
 
 same-places : tie.Need-shape_of-places
 same-places c = (telling-of (plaining c.before.before.before.before.before.before.before.before.before.before.before.before)).tell.auto.places
@@ -255,21 +255,21 @@ returns c bytes accepted =
     let here = c.before.before.before.before.before.before.before.before.before.before.before.before in
     let counting = here.atoms-atoms_out in
     let simplified = simplified-at here in
-    let counted = (giving simplified).before.before.before.before.before.before.atoms in
-    let uses = (giving simplified).before.before.forms_used-polynomials_in in
+    let counted = (giving simplified).atoms-atoms_in in
+    let uses = (giving simplified).forms_used-polynomials_in in
     let told = (telling-of (plaining here)).tell in
     let ready = prepared (normal-at here) accepted in
     let worked = working (normal-at here) in
     let written = writing.ensures _ (new-writable here accepted) in
     let tape = (given-at here).give.new.token in (
-      answers (first here).args.output.now accepted ready simplified.simplified.result.tree (simpler simplified accepted) tape (new here) (new_is here accepted)
+      answers (first here).args.output.now accepted ready simplified.simplified-short.result.tree (simpler simplified accepted) tape (new here) (new_is here accepted)
           writing.new.out counted.result counting.result uses.result writing.result telling.result written.0 written.1
           (counted.ensures ready.tree ready.holds) (counting.ensures (tree simplified accepted) (holds (plaining here) accepted))
           (uses.ensures (first here).args.variables (table worked).coefficient ready.tree worked.work.ensures.forms ready.holds) telling.ensures,
       (
-        places-told (first here).args.output.now accepted ready simplified.simplified.result.tree (simpler simplified accepted) tape
-            (first here).args.places.now told.last.1.1.0 told.ensures,
-        counts-rounds accepted ready (simplified.simplified.ensures (token_tree ready.tree) (placed (giving simplified) accepted)).counts,
+        places-told (first here).args.output.now accepted ready simplified.simplified-short.result.tree (simpler simplified accepted) tape
+            (first here).args.places.now told.new.places told.ensures,
+        counts-rounds accepted ready (simplified.simplified-short.ensures (token_tree ready.tree) (placed (giving simplified) accepted)).counts,
       ),
     )
 

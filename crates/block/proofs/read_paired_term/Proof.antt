@@ -47,4 +47,4 @@ read_paired_term_spec =
     let magnitude = pairs.before.before in
     paired-read _ _ _ magnitude.before.before.left.ensures magnitude.before.if-left-lt37.false magnitude.get-magnitude.ensures pairs.before.if-magnitude-eq0.false
     pairs.read_pairs-found.ensures chosen.in-Number.is fall.falls.ensures minus.before.if-not-falls.false minus.get.ensures
-    (to_z-of_z w32 c.coefficient_of.result (record { sfits = c.coefficient_of.type-inv }) ∙ c.coefficient_of.ensures)))
+    (to_z-of_z w32 c.coefficient_of.result (record { sfits = c.coefficient_of.type_inv }) ∙ c.coefficient_of.ensures)))

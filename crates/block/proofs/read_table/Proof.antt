@@ -33,8 +33,8 @@ loop-again c =
     let chosen = c in
     let one = chosen in
     let turn = one in
-    let kept = one.read_polynomial-step.auto.1 in (
-      table-go-on _ _ _ turn.loop-i.invariant.0 turn.loop-i-test.true one.read_polynomial-step.ensures chosen.in-Read.is kept.0 kept.1.0 kept.1.1.0,
+    let kept = one.read_polynomial-step.auto in (
+      table-go-on _ _ _ turn.loop-i.invariant.0 turn.loop-i-test.true one.read_polynomial-step.ensures chosen.in-Read.is kept.coefficient kept.monomial kept.counts,
       omega (arith, turn.loop-i-test.true),
     )
 

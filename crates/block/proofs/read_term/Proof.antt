@@ -1,5 +1,6 @@
 -- `block::read_term` meets its contract: each test of the code is the book's, on the same field.
-use mathlib.Core.Path.{◌≡◌, ◌∙◌}
+use mathlib.Core.Bool.{not}
+use mathlib.Core.Path.{◌≡◌, ◌∙◌, ap}
 use Prim.Native.Nat.{◌+◌, ◌*◌, ◌/◌, ◌%◌, ◌≤◌}
 use native.Mathlib.Omega.{arith}
 use lib.ListN.{length}
@@ -37,7 +38,7 @@ read_term_spec =
     let word = some.before.before in
     term-rising _ _ _ word.before.before.left.ensures word.before.if-left-n.false (magnitude-is word) some.if-magnitude-eq0.false
     word.term_fields-fields.ensures.exponents
-    c.before.falls.ensures c.if-not-falls.true)
+    c.before.falls.ensures (ap not c.if-not-falls.true))
     (λ c κs. search rules)
     (λ c. search rules) (λ c. search rules) (λ c. search rules) (λ c. search rules) (λ c. search rules) (λ c. search rules) (λ c. search rules) (λ c. search rules)
     (λ c. search rules)
@@ -47,6 +48,6 @@ read_term_spec =
     let word = some.before.before in
     term-read _ _ _ word.before.before.left.ensures word.before.if-left-n.false (magnitude-is word) some.if-magnitude-eq0.false
     word.term_fields-fields.ensures.exponents
-    fall.before.falls.ensures fall.if-not-falls.false (minus_is word)
-    (to_z-of_z w32 c.coefficient_of.result (record { sfits = c.coefficient_of.type-inv }) ∙ c.coefficient_of.ensures)
+    fall.before.falls.ensures (ap not fall.if-not-falls.false) (minus_is word)
+    (to_z-of_z w32 c.coefficient_of.result (record { sfits = c.coefficient_of.type_inv }) ∙ c.coefficient_of.ensures)
     word.before.before.before.before.before.requires.0.short))

@@ -33,6 +33,13 @@ slice-read-column c =
     let e : length l.columns ≡ 130 = l.invariant.more.same_length ∙ c.requires.1.1 in
     omega arith
 
+slice-write-columns : tie.Need-bounds-columns-from-in-loop-rest invariant-loop decreases-loop
+slice-write-columns c =
+    let l = c.loop-rest in
+    let h = lowest-below 64 l.rest (omega arith) l.invariant.small in
+    let e : length l.columns ≡ 130 = l.invariant.more.same_length ∙ c.requires.1.1 in
+    omega arith
+
 add-columns : tie.Need-overflow_add-columns invariant-loop decreases-loop
 add-columns c = let l = c.loop-rest in let h = lowest-below 64 l.rest (omega arith) l.invariant.small in search rules
 
@@ -65,11 +72,11 @@ loop-again c =
     rw (one_shifted (lowest-below 64 l.rest h l.invariant.small))
     (spread-step k l.invariant (has-lowest 64 h l.invariant.small)
     (put-there l.columns (d.args.from + k) d.args.j
-    (subst (λ (w : ℕ). w Has d.args.j) (sym (one_shifted d.requires.0)) (has-own d.args.j)) (slice-read-column c)))
+    (subst (λ (w : ℕ). w Has d.args.j) (sym (one_shifted d.requires.0)) (has-own d.args.j)) (slice-write-columns c)))
 
 pub spread_spec : {M : Type 1} → statement M
 spread_spec =
     tie.close
     (tie.spec invariant-loop decreases-loop (λ c. search rules) (λ c. spread_none _ _ _ _ c.ranges.word.fits) cast-k add-column mul-column
-    slice-read-column add-columns mul-columns slice-read-column shl-rest sub-rest loop-less loop-again (λ c. c.loop-rest.invariant.more.same_length)
+    slice-read-column add-columns mul-columns slice-write-columns shl-rest sub-rest loop-less loop-again (λ c. c.loop-rest.invariant.more.same_length)
     (λ c. spread_end _ c.loop-rest.invariant c.loop-rest-test.false))

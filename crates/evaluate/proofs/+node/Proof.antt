@@ -38,8 +38,8 @@ node-Inv-loop coefficient monomial terms token readings at kind first children a
 abbrev node-μ-loop : node-lts.decreases-loop-i
 node-μ-loop coefficient monomial terms token readings at kind first children all next₀ fits₀ holds₀ i₀ next fits holds i = children - i
 
-pub +node-spec : {M : Type 1} → statement M
-+node-spec =
+pub +node_spec : {M : Type 1} → statement M
++node_spec =
     close μ-node λ t. node-lts.spec
     (atom-reads.Asked, atom-reads.Learnt, node-below t, node.Post, both-reads.Asked, both-reads.Learnt, joined-reads.Asked, joined-reads.Learnt)
     (node_at t)

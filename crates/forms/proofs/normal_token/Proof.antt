@@ -17,7 +17,7 @@ returns : tie.Need-returns
 unfolding normal_token
 returns c =
     let a = c.args in
-    ap (λ (s : ℕ). a.token / 512 * 512 + get_or a.number.now (a.token / 8 % 64) 0 * 8 + s) c.Turned-set.ensures
+    ap (λ (s : ℕ). a.token / 512 * 512 + get_or a.number.now (a.token / 8 % 64) 0 * 8 + s) c.turned_set-set.ensures
 
 pub normal_token_spec : {M : Type 1} → statement M
 normal_token_spec =

@@ -14,8 +14,8 @@ use Rattle.forms.proofs.work.Tie as tie
 
 -- The arrays as they are lent.
 lent-sized : (s : tie.Start) → let a = s.args in
-    Sized (working_by a.normal_coefficient-1.now a.normal_monomial-1.now a.normal_terms-1.now a.number.now a.turned.now)
-lent-sized s = subst Sized (sym s.requires.1) (blank-sized (is_plain s.args.normal_terms-1.now))
+    Sized (working_by a.normal_coefficient.now a.normal_monomial.now a.normal_terms.now a.number.now a.turned.now)
+lent-sized s = subst Sized (sym s.requires.1) (blank-sized (is_plain s.args.normal_terms.now))
 
 normalize-all-requires : tie.Need-normalize_all-requires
 normalize-all-requires c κs =
@@ -28,7 +28,7 @@ normalize-all-requires c κs =
     )
 
 mul-copy-monomials : tie.Need-overflow_mul-polynomials
-mul-copy-monomials c = omega (arith, c.requires.0.polynomials)
+mul-copy-monomials c = omega (arith, c.before.before.before.before.before.before.before.before.before.before.before.before.before.requires.0.polynomials)
 
 copy-monomials-requires : tie.Need-copy_monomials-requires
 copy-monomials-requires c κs =
@@ -62,60 +62,60 @@ module _ (c : tie.After-slice_known-7-1) where
   given = first c
 
   abbrev plain : Bool
-  plain = is_plain given.args.normal_terms-1.now
+  plain = is_plain given.args.normal_terms.now
 
   abbrev forms : WorkingTable
   forms = with_forms given.args.coefficient.now given.args.monomial.now given.args.terms.now given.args.polynomials (blank plain)
 
-  coefficients : (normalizing c).normalize_all.new.1.1.0 ≡ forms.coefficient
+  coefficients : (normalizing c).normalize_all.new.target ≡ forms.coefficient
   coefficients =
       (normalizing c).normalize_all.ensures.0
-      ∙ ap (λ (w : WorkingTable). normal_slots given.args.coefficient.now given.args.terms.now w.coefficient 0 given.args.polynomials) given.pre.1
+      ∙ ap (λ (w : WorkingTable). normal_slots given.args.coefficient.now given.args.terms.now w.coefficient 0 given.args.polynomials) given.requires.1
 
-  flags : (normalizing c).normalize_all.new.1.1.1.0 ≡ forms.turned
+  flags : (normalizing c).normalize_all.new.turned ≡ forms.turned
   flags =
       (normalizing c).normalize_all.ensures.1
-      ∙ ap (λ (w : WorkingTable). turned_slots given.args.coefficient.now given.args.terms.now w.turned-1 given.args.polynomials) given.pre.1
+      ∙ ap (λ (w : WorkingTable). turned_slots given.args.coefficient.now given.args.terms.now w.turned given.args.polynomials) given.requires.1
 
-  monomials : (copying c).copy_monomials.new.1.0 ≡ forms.monomial
+  monomials : (copying c).copy_monomials.new.target ≡ forms.monomial
   monomials =
-      (copying c).copy_monomials.ensures ∙ ap (λ (w : WorkingTable). copied given.args.monomial.now w.monomial (16 * given.args.polynomials)) given.pre.1
+      (copying c).copy_monomials.ensures ∙ ap (λ (w : WorkingTable). copied given.args.monomial.now w.monomial (16 * given.args.polynomials)) given.requires.1
 
-  counts : (counting c).copy_counts.new.1.0 ≡ forms.terms
-  counts = (counting c).copy_counts.ensures ∙ ap (λ (w : WorkingTable). copied given.args.terms.now w.terms given.args.polynomials) given.pre.1
+  counts : (counting c).copy_counts.new.target ≡ forms.terms
+  counts = (counting c).copy_counts.ensures ∙ ap (λ (w : WorkingTable). copied given.args.terms.now w.terms given.args.polynomials) given.requires.1
 
   forms-sized : Sized forms
   forms-sized =
       let a = given.args in
       normalized-sized a.coefficient.now a.monomial.now a.terms.now a.polynomials
-      (readable a.coefficient.now a.monomial.now a.terms.now a.polynomials a.variables given.pre.0)
+      (readable a.coefficient.now a.monomial.now a.terms.now a.polynomials a.variables given.requires.0)
       (blank plain) (blank-sized plain)
 
-  forms-laid : Laid (normalizing c).normalize_all.new.1.1.0 (copying c).copy_monomials.new.1.0 (counting c).copy_counts.new.1.0
+  forms-laid : Laid (normalizing c).normalize_all.new.target (copying c).copy_monomials.new.target (counting c).copy_counts.new.target
   forms-laid = subst₃ Laid (sym coefficients) (sym monomials) (sym counts) forms-sized.laid
 
 number-all-requires : tie.Need-number_all-requires
 number-all-requires c κs =
     let here = c.before in
     let start = first here in
-    (forms-laid here, start.pre.0.polynomials, omega (arith, start.pre.0.polynomials, (lent-sized start).numbers))
+    (forms-laid here, start.requires.0.polynomials, omega (arith, start.requires.0.polynomials, (lent-sized start).numbers))
 
 fill-requires : tie.Need-fill-requires
 fill-requires c κs =
-    let numbering = c in
-    let here = numbering.before.before.before.before.before in
+    let numbering = c.before.before.before.before.before in
+    let here = numbering.before.before in
     let start = first here in
     let laid = forms-laid here in (
       omega (arith, laid.coefficients),
       omega (arith, laid.monomials),
       omega (arith, laid.counts),
-      omega (arith, start.pre.0.polynomials, numbering.number_all.auto.number, (lent-sized start).numbers),
+      omega (arith, start.requires.0.polynomials, numbering.number_all.auto.number, (lent-sized start).numbers),
     )
 
 put-variables-requires : tie.Need-put_variables-requires
 put-variables-requires c κs =
-    let filling = c in
-    let here = filling.before.before.before.before.before.before.before.before.before.before.before.before in
+    let filling = c.before.before.before.before.before.before.before.before in
+    let here = filling.before.before.before.before.before.before.before.before in
     let laid = forms-laid here in (
       omega (arith, filling.fill.auto.coefficient, laid.coefficients),
       omega (arith, filling.fill.auto.monomial, laid.monomials),
@@ -125,26 +125,26 @@ put-variables-requires c κs =
 
 same_length : tie.Need-shape_of-normal_coefficient
 same_length c =
-    let ending = c in
-    let filling = ending in
-    let here = filling.before.before.before.before.before.before.before.before.before.before.before.before in
-    ending.put_variables.auto.coefficient ∙ filling.fill.auto.coefficient ∙ (normalizing here).normalize_all.auto.1.1.0
+    let ending = c.before.before.before.before.before in
+    let filling = ending.before.before.before.before.before.before.before.before.before in
+    let here = filling.before.before.before.before.before.before.before.before in
+    ending.put_variables.auto.coefficient ∙ filling.fill.auto.coefficient ∙ (normalizing here).normalize_all.auto.target
 
 returns : tie.Need-returns
 returns c =
-    let ending = c in
-    let filling = ending in
-    let numbering = filling in
-    let here = numbering.before.before.before.before.before in
+    let ending = c.before.before.before.before.before in
+    let filling = ending.before.before.before.before.before.before.before.before.before in
+    let numbering = filling.before.before.before.before.before.before in
+    let here = numbering.before.before in
     let start = first here in
     let a = start.args in
     subst⁻¹ (Worked (plain here) a.coefficient.now a.monomial.now a.terms.now a.polynomials a.variables)
     (assembled (plain here) a.coefficient.now a.monomial.now a.terms.now a.polynomials a.variables (coefficients here) (flags here) (monomials here) (counts here)
     (numbering.number_all.ensures
-    ∙ ap (λ (w : WorkingTable). numbered_slots (normalizing here).normalize_all.new.1.1.0 (copying here).copy_monomials.new.1.0
-    (counting here).copy_counts.new.1.0 w.number-1 a.polynomials) start.pre.1)
+    ∙ ap (λ (w : WorkingTable). numbered_slots (normalizing here).normalize_all.new.target (copying here).copy_monomials.new.target
+    (counting here).copy_counts.new.target w.number a.polynomials) start.requires.1)
     filling.fill.ensures ending.put_variables.ensures)
-    (worked (plain here) a.coefficient.now a.monomial.now a.terms.now a.polynomials a.variables start.pre.0)
+    (worked (plain here) a.coefficient.now a.monomial.now a.terms.now a.polynomials a.variables start.requires.0)
 
 pub work_spec : {M : Type 1} → statement M
 work_spec =

@@ -32,7 +32,7 @@ negate-requires c κs =
 
 module _ (c : tie.After-first_is_negative) where
   abbrev given : tie.Start
-  given = c.before.before.before.before.before.before
+  given = c.before.before.before.before.before
 
   -- The divided run, by the content.
   divided-is : c.divide.new.target
@@ -46,7 +46,7 @@ module _ (c : tie.After-first_is_negative) where
   test : c.first_is_negative.result ≡ is_turned given.args.coefficient.now given.args.from given.args.to
   test = c.first_is_negative.ensures
       ∙ ap (λ (l : List ℤ). first_is_negative (coefficients l given.args.from given.args.to)) divided-is
-      ∙ divided-first given.args.coefficient.now given.args.target.now given.args.from given.args.to given.pre.1
+      ∙ divided-first given.args.coefficient.now given.args.target.now given.args.from given.args.to given.requires.1
 
 returns : tie.Need-returns-then-first_is_negative
 unfolding normal_run turned_run

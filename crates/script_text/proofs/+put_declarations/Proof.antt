@@ -23,8 +23,8 @@ declarations-at t = and 1 declarations-kinds.ps (is 1 declarations-kinds.ps μ-d
 abbrev declarations-below : ℕ → In 1 declarations-kinds.ps
 declarations-below t = and 1 declarations-kinds.ps (falls 1 declarations-kinds.ps ◌<◌ μ-declarations t) declarations.Pre
 
-pub +put-declarations-spec : {M : Type 1} → statement M
-+put-declarations-spec =
+pub +put_declarations_spec : {M : Type 1} → statement M
++put_declarations_spec =
     close μ-declarations λ t.
     declarations-lts.spec (bytes-reads.Asked, bytes-reads.Learnt, byte-Reads.Asked, byte-Reads.Learnt, declarations-below t, declarations.Post)
     (declarations-at t) declarations.Post

@@ -25,8 +25,8 @@ parts_at t = and 5 parts-kinds.ps (is 5 parts-kinds.ps μ-parts t) parts.Pre
 abbrev parts_below : ℕ → In 5 parts-kinds.ps
 parts_below t = and 5 parts-kinds.ps (falls 5 parts-kinds.ps ◌<◌ μ-parts t) parts.Pre
 
-pub +put-parts-spec : {M : Type 1} → statement M
-+put-parts-spec =
+pub +put_parts_spec : {M : Type 1} → statement M
++put_parts_spec =
     close μ-parts λ t.
     parts-lts.spec (byte-Reads.Asked, byte-Reads.Learnt, atom-reads.Asked, atom-reads.Learnt, parts_below t, parts.Post, join-reads.Asked, join-reads.Learnt)
     (parts_at t) parts.Post

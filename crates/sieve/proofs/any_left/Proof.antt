@@ -10,7 +10,7 @@ use Rattle.sieve.proofs.any_left.Tie as tie
 fill-requires : tie.Need-fill-n-requires
 fill-requires c κs =
     let s = c in
-    ((s.requires.0, s.requires.1 (un-false {b = s.args.falls} c.if-not-falls.false)), (refl, (refl, (refl, refl))))
+    ((s.requires.0, s.requires.1 c.if-not-falls.false), (refl, (refl, (refl, refl))))
 
 any-try-requires : tie.Need-any_try-requires
 any-try-requires c κs =

@@ -42,7 +42,7 @@ returns c tree h =
     let ordering = copying.before.before.before.before.before.before.before in
     let start = ordering.before.before.before.before.before.before.before.before.before in
     let a = start.args in
-    collected start.requires.0 h ordering.order_slots-polynomials.ensures a.new_coefficient-1.now a.new_monomial-1.now a.new_terms-1.now a.new_token-1.now
+    collected start.requires.0 h ordering.order_slots-polynomials.ensures a.new_coefficient.now a.new_monomial.now a.new_terms.now a.new_token.now
     (copying.copy_forms.ensures a.variables) renumbering.renumber_all.ensures
 
 pub collect_spec : {M : Type 1} → statement M

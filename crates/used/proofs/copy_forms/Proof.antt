@@ -18,11 +18,11 @@ abbrev start : tie.In-loop-i invariant-loop decreases-loop → tie.Start invaria
 start c = c.before.before.before.before.before.before.before
 
 abbrev slot : tie.In-loop-i invariant-loop decreases-loop → ℕ
-slot c = get_or (start c).args.order.now c.loop-i.i 0
+slot c = get_or (start c).args.order.now c.before.loop-i.i 0
 
 -- The next slot is one of the 64 forms,
 slot-below : (c : tie.In-loop-i invariant-loop decreases-loop) → slot c < 64
-slot-below c = (start c).requires.1.slots c.loop-i.i c.loop-i-test.true
+slot-below c = (start c).requires.1.slots c.before.loop-i.i c.loop-i-test.true
 
 -- of at most sixteen terms.
 few : (c : tie.In-loop-i invariant-loop decreases-loop) → get_or (start c).args.terms.now (slot c) 0 ≤ 16
@@ -34,30 +34,30 @@ source : (c : tie.In-loop-i invariant-loop decreases-loop) → let count = get_o
 source c = let p = (start c).requires.0 in (omega (arith, slot-below c, few c, p.coefficients), omega (arith, slot-below c, few c, p.monomials))
 
 -- and there is room for them.
-target : (c : tie.In-loop-i invariant-loop decreases-loop) → let l = c.loop-i in let count = get_or (start c).args.terms.now (slot c) 0 in
-    (16 * l.i + count ≤ length l.new_coefficient-1) × (16 * l.i + count ≤ length l.new_monomial-1) × (l.i < length l.new-terms)
+target : (c : tie.In-loop-i invariant-loop decreases-loop) → let l = c.before.loop-i in let count = get_or (start c).args.terms.now (slot c) 0 in
+    (16 * l.i + count ≤ length l.new_coefficient) × (16 * l.i + count ≤ length l.new_monomial) × (l.i < length l.new_terms)
 target c =
     let p = (start c).requires.2 in
-    let k = c.loop-i.invariant 0 in
+    let k = c.before.loop-i.invariant 0 in
     let h = c.loop-i-test.true in
     (omega (arith, few c, p.coefficients, k.coefficients_size, h), omega (arith, few c, p.monomials, k.monomials_size, h), omega (arith, p.counts, k.counts_size, h))
 
 loop-again : tie.Need-loop-i-preserved invariant-loop decreases-loop
 loop-again c n =
     let here = c.before.before.before.before.before.before.before.before.before in
-    copying-next (here.loop-i.invariant n) here.loop-i-test.true (source here).0 (source here).1
-    c.copy_coefficients.ensures c.copy_monomials.ensures
+    copying-next (here.before.loop-i.invariant n) here.loop-i-test.true (source here).0 (source here).1
+    c.before.before.before.before.before.copy_coefficients.ensures c.before.before.copy_monomials.ensures
 
 pub copy_forms_spec : {M : Type 1} → statement M
 copy_forms_spec =
     tie.close
     (tie.spec invariant-loop decreases-loop
     (λ c n.
-    let a = c.args in
-    copying-starts (lent n a.coefficient.now a.monomial.now a.terms.now) a.order.now a.used a.new_coefficient-1.now a.new_monomial-1.now a.new-terms.now)
+    let a = c.before.before.before.before.before.args in
+    copying-starts (lent n a.coefficient.now a.monomial.now a.terms.now) a.order.now a.used a.new_coefficient.now a.new_monomial.now a.new_terms.now)
     (λ c. omega arith)
     (λ c. omega (arith, slot-below c.before))
-    (λ c. omega (arith, slot-below c.before.before, (start c.before.before).pre.0.counts))
+    (λ c. omega (arith, slot-below c.before.before, (start c.before.before).requires.0.counts))
     (λ c. (target c.before.before).2)
     (λ c. omega (arith, slot-below c.before.before.before))
     (λ c. let here = c.before.before.before in omega (arith, here.loop-i-test.true, (start here).requires.1.few))
@@ -68,9 +68,9 @@ copy_forms_spec =
     (λ c. omega (arith, few c.before.before.before.before.before.before))
     (λ c κs. let here = c.before.before.before.before.before.before in (omega (arith, (source here).1), omega (arith, (target here).1)))
     (λ c. let here = c.before.before.before.before.before.before.before.before.before in omega (arith, here.loop-i-test.true, (start here).requires.1.few))
-    (λ c. omega (arith, c.loop-i-test.true))
+    (λ c. omega (arith, c.before.before.before.before.before.before.before.before.before.loop-i-test.true))
     loop-again
-    (λ c. (c.loop-i.invariant 0).coefficients_size)
-    (λ c. (c.loop-i.invariant 0).monomials_size)
-    (λ c. (c.loop-i.invariant 0).counts_size)
-    (λ c n. copied (c.loop-i.invariant n) c.loop-i-test.false))
+    (λ c. (c.before.loop-i.invariant 0).coefficients_size)
+    (λ c. (c.before.loop-i.invariant 0).monomials_size)
+    (λ c. (c.before.loop-i.invariant 0).counts_size)
+    (λ c n. copied (c.before.loop-i.invariant n) c.loop-i-test.false))

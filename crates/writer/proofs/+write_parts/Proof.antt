@@ -23,8 +23,8 @@ parts_at t = and 2 parts-kinds.ps (is 2 parts-kinds.ps μ-parts t) parts.Pre
 abbrev parts_below : ℕ → In 2 parts-kinds.ps
 parts_below t = and 2 parts-kinds.ps (falls 2 parts-kinds.ps ◌<◌ μ-parts t) parts.Pre
 
-pub +write-parts-spec : {M : Type 1} → statement M
-+write-parts-spec =
+pub +write_parts_spec : {M : Type 1} → statement M
++write_parts_spec =
     close μ-parts λ t. parts-lts.spec (atom-reads.Asked, atom-reads.Learnt, parts_below t, parts.Post, join-reads.Asked, join-reads.Learnt) (parts_at t) parts.Post
     (λ c. parts_none _ _ _ _ c.if-count-eq0.true)
     (λ c. omega (arith, first-there c.requires.1 c.if-count-eq0.false))

@@ -21,8 +21,8 @@ table_at t = and 4 table-kinds.ps (is 4 table-kinds.ps μ-table t) table.Pre
 abbrev table_below : ℕ → In 4 table-kinds.ps
 table_below t = and 4 table-kinds.ps (falls 4 table-kinds.ps ◌<◌ μ-table t) table.Pre
 
-pub +write-table-spec : {M : Type 1} → statement M
-+write-table-spec = close μ-table λ t. table-lts.spec (polynomial-reads.Asked, polynomial-reads.Learnt, table_below t, table.Post) (table_at t) table.Post
+pub +write_table_spec : {M : Type 1} → statement M
++write_table_spec = close μ-table λ t. table-lts.spec (polynomial-reads.Asked, polynomial-reads.Learnt, table_below t, table.Post) (table_at t) table.Post
     (λ c. table_none _ _ _ _ _ _ _ c.if-i-m.true)
     (λ c κs.
     let s = c.before.before.before.before.before in

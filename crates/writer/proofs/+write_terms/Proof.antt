@@ -24,8 +24,8 @@ terms-at t = and 3 terms-kinds.ps (is 3 terms-kinds.ps μ-terms t) terms.Pre
 abbrev terms-below : ℕ → In 3 terms-kinds.ps
 terms-below t = and 3 terms-kinds.ps (falls 3 terms-kinds.ps ◌<◌ μ-terms t) terms.Pre
 
-pub +write-terms-spec : {M : Type 1} → statement M
-+write-terms-spec = close μ-terms λ t. terms-lts.spec (term-reads.Asked, term-reads.Learnt, terms-below t, terms.Post) (terms-at t) terms.Post
+pub +write_terms_spec : {M : Type 1} → statement M
++write_terms_spec = close μ-terms λ t. terms-lts.spec (term-reads.Asked, term-reads.Learnt, terms-below t, terms.Post) (terms-at t) terms.Post
     (λ c. terms-none _ _ _ _ _ _ c.if-count-eq0.true)
     (λ c. search rules) (λ c. omega arith) (λ c. search rules) (λ c. omega arith)
     (λ c κs.

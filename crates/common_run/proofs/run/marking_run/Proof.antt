@@ -50,7 +50,7 @@ turns-marking-requires c κs =
 
 -- the board that the turns leave has sixteen sets
 sixteen : (c : tie.After-turns_marking-turned invariant-loop decreases-loop) → length c.turns_marking-turned.result.board.sets ≡ 16
-sixteen c = search (rules, c.turns_marking-turned.type-inv)
+sixteen c = search (rules, c.turns_marking-turned.type_inv)
 
 same-sets-requires : tie.Need-same_sets-requires invariant-loop decreases-loop
 same-sets-requires c κs =
@@ -59,7 +59,7 @@ same-sets-requires c κs =
     (omega (arith, c.few.ensures, old), omega (arith, c.few.ensures, new))
 
 slice-aggregate-no-pair : tie.Need-slice_bounds-no_pair-end invariant-loop decreases-loop
-slice-aggregate-no-pair c = search (rules, c.turns_marking-turned.type-inv)
+slice-aggregate-no-pair c = search (rules, c.turns_marking-turned.type_inv)
 
 no-pair-requires : tie.Need-no_pair-ended-requires invariant-loop decreases-loop
 no-pair-requires c κs =
@@ -90,5 +90,5 @@ marking_run_spec =
     tie.close
     (tie.spec invariant-loop decreases-loop (λ c. search rules) (λ c κs. search rules) (λ c κs. search rules) (λ c κs. search rules) loop-holds (λ c. omega (arith, c.loop-round-test.true)) (λ c κs. c.loop-round-test.true)
     (λ c. omega (arith, c.loop-round-test.true)) (λ c κs. omega (arith, c.loop-round-test.true)) (λ c. omega (arith, c.loop-round-test.true)) (λ c. omega (arith, c.loop-round-test.true)) returns
-    (λ c. omega (arith, c.loop-round-test.true)) (λ c. search (rules, c.loop-round.invariant.0.ready)) turns-marking-requires (λ c. search (rules, c.loop-round.invariant.1.0)) (λ c. search (rules, c.turns_marking-turned.type-inv)) (λ c κs. search rules)
+    (λ c. omega (arith, c.loop-round-test.true)) (λ c. search (rules, c.loop-round.invariant.0.ready)) turns-marking-requires (λ c. search (rules, c.loop-round.invariant.1.0)) (λ c. search (rules, c.turns_marking-turned.type_inv)) (λ c κs. search rules)
     same-sets-requires slice-aggregate-no-pair no-pair-requires (λ c. omega (arith, c.loop-round-test.true)) returns-2 (λ c. omega (arith, c.loop-round-test.true)) loop-again (λ c κs. search rules) (λ c e. absurd (c.unknown.ensures e)))

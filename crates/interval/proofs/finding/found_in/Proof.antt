@@ -17,7 +17,7 @@ returns c = simp (sym c.has_t.ensures ∙ c.if-not-has_t.true)
 -- the strict test
 strict-is : (c : tie.After-strictly) → let a = c.args in
     c.strictly.result ≡ ((is_strict (kind a.set) && has_other (interval_of a.r)) || strict_by (interval_of a.r) (vanishing_of a.v))
-strict-is c = rw (c.strictly.ensures, c.is_strict.ensures, c.has_other.ensures, c.Strict-in.ensures)
+strict-is c = rw (c.strictly.ensures, c.is_strict.ensures, c.has_other.ensures, c.strict_in.ensures)
 
 returns-2 : tie.Need-returns-then-strictly
 unfolding found_by found

@@ -57,8 +57,8 @@ or-rule-Inv-loop coefficient monomial terms variables token at nesting largest p
 abbrev or-rule-μ-loop : or-rule-lts.decreases-loop-i
 or-rule-μ-loop coefficient monomial terms variables token at nesting largest parts list₀ count₀ walked₀ rounds₀ place₀ i₀ list count walked rounds place i = parts - i
 
-pub +and-rule-or-rule-spec : {M : Type 1} → statement M
-+and-rule-or-rule-spec = close μ-and-rule μ-or-rule (λ t. and-rule-lts.spec (
+pub +and_rule_or_rule_spec : {M : Type 1} → statement M
++and_rule_or_rule_spec = close μ-and-rule μ-or-rule (λ t. and-rule-lts.spec (
   begin-reads.Asked,
   begin-reads.Learnt,
   skip-reads.Asked,

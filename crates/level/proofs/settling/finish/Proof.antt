@@ -2,7 +2,7 @@
 use mathlib.Core.Path.{◌≡◌, ◌∙◌}
 use mathlib.Core.List.{◌++◌}
 use Prim.Native.Nat.{ℕ}
-use borrow.Author.Rules.{rules, length_unmapped}
+use borrow.Author.Rules.{rules}
 use native.Mathlib.Omega.{arith}
 use lib.ListN.{length}
 use Rattle.tape.specs.Listing.{row-long}
@@ -12,7 +12,7 @@ use Rattle.level.proofs.settling.finish.Tie as tie
 
 -- the two lists have the places of a row
 long : (s : tie.Start) → length s.args.atoms.token ≡ 256
-long s = length_unmapped ℕ s.args.atoms.token 256 s.well_formed.1.1.1.1.0.1.1.0.1.0.1
+long s = search (rules, s.well_formed)
 
 wide : (s : tie.Start) → length s.args.walked.ors.token ≡ 256
 wide s = search (rules, s.well_formed)
@@ -36,7 +36,7 @@ settle-requires c κs =
 goes : tie.Need-returns
 goes c l walk h s =
     finish-goes s l _ c.if-walked.false (omega (arith, h.size)) _
-    (c.settle-stage.ensures (l ++ s.new-1) s.children (laid-down _ _ l s.new-1 (c.lay.ensures _ l _ h s.lists (omega (arith, s.lists.size))) s.lists.size) s.lies)
+    (c.settle-stage.ensures (l ++ s.new) s.children (laid-down _ _ l s.new (c.lay.ensures _ l _ h s.lists (omega (arith, s.lists.size))) s.lists.size) s.lies)
 
 pub finish_spec : {M : Type 1} → statement M
 finish_spec =

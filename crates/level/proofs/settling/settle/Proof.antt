@@ -25,13 +25,13 @@ turn-requires : tie.Need-turn-stage-requires invariant-loop decreases-loop
 turn-requires c κs =
     let (forms, r) = c.requires in
     let inv = c.loop-stage.invariant in
-    (forms, stage-ready (inv.1.1 r.list r.children r.lists r.lies) (c.loop-stage-test.true) (omega (arith, r.fits, r.lists.size, r.lies.size)) (inv.0 ∙ r.long) (inv.1.0 ∙ r.wide))
+    (forms, stage-ready (inv.1.1 r.list r.children r.lists r.lies) ((not-true _ c.loop-stage-test.true)) (omega (arith, r.fits, r.lists.size, r.lies.size)) (inv.0 ∙ r.long) (inv.1.0 ∙ r.wide))
 
 less : tie.Need-loop-stage-smaller invariant-loop decreases-loop
 less c =
     let r = c.requires.1 in
     let f = c.loop-stage.invariant.1.1 r.list r.children r.lists r.lies in
-    stage-less f (c.loop-stage-test.true) (c.turn-stage.ensures f.list f.left f.lists f.lies)
+    stage-less f ((not-true _ c.loop-stage-test.true)) (c.turn-stage.ensures f.list f.left f.lists f.lies)
 
 again : tie.Need-loop-stage-preserved invariant-loop decreases-loop
 again c =
@@ -42,12 +42,12 @@ again c =
         r.auto.ors ∙ inv.1.0,
         λ l children h k.
             let f = inv.1.1 l children h k in
-            stage-turn f (c.loop-stage-test.true) (r.ensures f.list f.left f.lists f.lies),
+            stage-turn f ((not-true _ c.loop-stage-test.true)) (r.ensures f.list f.left f.lists f.lies),
       ),
     )
 
 returns : tie.Need-returns invariant-loop decreases-loop
-returns c l children h k = stage-end (c.loop-stage.invariant.1.1 l children h k) (c.loop-stage-test.false)
+returns c l children h k = stage-end (c.loop-stage.invariant.1.1 l children h k) ((not-false _ c.loop-stage-test.false))
 
 pub settle_spec : {M : Type 1} → statement M
 settle_spec =

@@ -104,6 +104,6 @@ turn_spec =
     (λ c κs. omega (arith, c.requires.1.wide)) (λ c. search rules) (λ c. search rules) contradiction alone-requires
     (λ c. c.without_implied-alone.auto.list ∙ c.carry-carrying.auto.list ∙ c.tidy-kept.auto.list) alone sweep-requires
     (λ c κs. omega (arith, c.requires.1.wide)) (λ c. search rules) (λ c. search rules) falls
-    (λ c. search rules) lay-ors-requires (λ c. search (rules, c.sweep-walked.type-inv)) lay-list-requires adds
+    (λ c. search rules) lay-ors-requires (λ c. search (rules, c.sweep-walked.type_inv)) lay-list-requires adds
     (λ c. c.lay-then-walked-2.auto.out ∙ c.carry-carrying.auto.list ∙ c.tidy-kept.auto.list) (λ c. c.lay.auto.out) moved without-implied-requires
     (λ c. c.without_implied-remaining.auto.list ∙ c.carry-carrying.auto.list ∙ c.tidy-kept.auto.list) (λ c. c.lay.auto.out) over)

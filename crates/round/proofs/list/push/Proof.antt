@@ -1,5 +1,6 @@
 -- `push` meets its contract.
-use borrow.Author.Rules.{rules, below_field}
+use native.Mathlib.Omega.{arith}
+use borrow.Author.Rules.{rules}
 use Prim.Native.Nat.{ℕ, ◌<◌}
 use lib.ListN.{length}
 use Rattle.round.proofs.Lists.{pushed}
@@ -9,8 +10,8 @@ use Rattle.round.proofs.list.push.Tie as tie
 returns : tie.Need-returns
 returns c =
     let a = c.args.atoms in
-    let h : a.count < length a.number = below_field ℕ a.number a.count 64 c.well_formed.0.1.1.1.0.1.0.1 c.requires in
-    let k : a.count < length a.set = below_field ℕ a.set a.count 64 c.well_formed.0.1.1.1.1.0.1.0.1 c.requires in
+    let h : a.count < length a.number = omega (arith, c.well_formed.0.1.1.1.0.1.0.1, c.requires) in
+    let k : a.count < length a.set = omega (arith, c.well_formed.0.1.1.1.1.0.1.0.1, c.requires) in
     pushed a _ _ c.requires h k
 
 pub push_spec : {M : Type 1} → statement M

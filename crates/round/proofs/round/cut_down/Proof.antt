@@ -73,22 +73,22 @@ cut_on : (c : tie.After-intersect-sofar invariant-loop decreases-loop) (v : ℕ)
     let a = c.args in
     let t = table_of a.coefficient.now a.monomial.now a.terms.now v in
     let l = c.loop-i in
-    Stands t board a.t6 a.sign.now a.p
-    → cut_from t board a.p a.t6 (l.i + 1) a.to c.intersect-sofar.result.0 ≡ cut_from t board a.p a.t6 a.from a.to a.set.0
+    Stands t board a.atoms a.sign.now a.p
+    → cut_from t board a.p a.atoms (l.i + 1) a.to c.intersect-sofar.result.0 ≡ cut_from t board a.p a.atoms a.from a.to a.set.0
 cut_on c v board stands =
     let s = c in
     let a = s.args in
     let t = table_of a.coefficient.now a.monomial.now a.terms.now v in
     let l = c.loop-i in
     let h : l.i < a.to = omega arith in
-    let low : l.i < many a.t6.count = omega (arith, s.requires.1.0.0) in
+    let low : l.i < many a.atoms.count = omega (arith, s.requires.1.0.0) in
     let p = c.places-run.ensures in
     let q = c.places-q.ensures in
     let ready = stands.ready in
     let own = run-held a.p ready.forms ready.places s.requires.1.0.1.0 p.0 p.1 stands.own in
-    let its = run-held (atom_slot a.t6.number l.i) ready.forms ready.places (omega arith) q.0 q.1 (ready.atoms l.i low) in
-    cut_step t a.t6.number a.t6.set board a.p l.i a.to l.sofar.0 h
-    (run-form t a.p p.0 p.1) (run-form t (atom_slot a.t6.number l.i) q.0 q.1)
+    let its = run-held (atom_slot a.atoms.number l.i) ready.forms ready.places (omega arith) q.0 q.1 (ready.atoms l.i low) in
+    cut_step t a.atoms.number a.atoms.set board a.p l.i a.to l.sofar.0 h
+    (run-form t a.p p.0 p.1) (run-form t (atom_slot a.atoms.number l.i) q.0 q.1)
     (c.deduce_from.ensures.on own.signed its.signed stands.none-empty) c.intersect-sofar.ensures
     ∙ l.invariant v board stands
 

@@ -49,7 +49,7 @@ passed : (c : tie.After-ahead-passed invariant-loop decreases-loop) → let s = 
 passed c = ahead-over _ _ _ c.loop-left.invariant.0.variables c.ahead-passed.ensures
 
 returns : tie.Need-returns-then-not-passed invariant-loop decreases-loop
-returns c = ends-moving c.loop-left.invariant.0 (passed c.before.before.before.before) (c.if-not-passed.true)
+returns c = ends-moving c.loop-left.invariant.0 (passed c.before.before.before.before) ((not-true _ c.if-not-passed.true))
 
 search-board-requires : tie.Need-search_board-searched-requires invariant-loop decreases-loop
 search-board-requires c κs =
@@ -67,12 +67,12 @@ searched c = searched-over _ _ _ (passed c.before.before.before.before.before.be
 
 returns-2 : tie.Need-returns-then-not-searched invariant-loop decreases-loop
 returns-2 c =
-    ends-still c.loop-left.invariant.0 c.requires.0.0.variables (passed c.before.before.before.before.before.before.before.before.before) (searched c.before.before) (c.if-not-searched.true)
+    ends-still c.loop-left.invariant.0 c.requires.0.0.variables (passed c.before.before.before.before.before.before.before.before.before) (searched c.before.before) ((not-true _ c.if-not-searched.true))
 
 loop-again : tie.Need-loop-left-preserved invariant-loop decreases-loop
 loop-again c =
     let turned = passed c.before.before.before.before.before.before.before.before.before.before in (
-      narrow-found (narrow-turns c.loop-left.invariant.0 turned) c.requires.0.0.variables (searched c.before.before.before) (c.if-not-searched.false),
+      narrow-found (narrow-turns c.loop-left.invariant.0 turned) c.requires.0.0.variables (searched c.before.before.before) ((not-false _ c.if-not-searched.false)),
       turned.ready.places,
     )
 

@@ -58,16 +58,16 @@ furthered c = furthered-over _ _ _ (rounded c.before.before.before).variables c.
 
 returns-2 : tie.Need-returns-then-not-onward invariant-loop decreases-loop
 returns-2 c =
-    to-rest c.before.before.before.before.before.before.before.before.loop-left.invariant c.before.before.before.before.before.before.before.loop-left-test.true (rounded c.before.before.before.before.before.before) (furthered c.before.before.before) (filled c.before.before.before.before) (c.if-not-onward.true)
+    to-rest c.before.before.before.before.before.before.before.before.loop-left.invariant c.before.before.before.before.before.before.before.loop-left-test.true (rounded c.before.before.before.before.before.before) (furthered c.before.before.before) (filled c.before.before.before.before) ((not-true _ c.if-not-onward.true))
 
 returns-3 : tie.Need-returns-then-has_empty-2 invariant-loop decreases-loop
 returns-3 c =
-    to-emptied c.before.before.before.before.before.before.before.before.before.before.loop-left.invariant c.before.before.before.before.before.before.before.before.before.loop-left-test.true (rounded c.before.before.before.before.before.before.before.before) (furthered c.before.before.before.before.before) (filled c.before.before.before.before.before.before) (c.before.before.if-not-onward.false)
+    to-emptied c.before.before.before.before.before.before.before.before.before.before.loop-left.invariant c.before.before.before.before.before.before.before.before.before.loop-left-test.true (rounded c.before.before.before.before.before.before.before.before) (furthered c.before.before.before.before.before) (filled c.before.before.before.before.before.before) ((not-false _ c.before.before.if-not-onward.false))
     (sym (c.before.has_empty-in-loop-left.ensures (table c.before.before.before.before.before.before.before.before.before.before.before.before.before.before.before.before.before)) ∙ c.if-has_empty-2.true)
 
 loop-again : tie.Need-loop-left-preserved invariant-loop decreases-loop
 loop-again c =
-    onward c.before.before.before.before.before.before.before.before.before.before.loop-left.invariant c.before.before.before.before.before.before.before.before.before.loop-left-test.true (rounded c.before.before.before.before.before.before.before.before) (furthered c.before.before.before.before.before) (filled c.before.before.before.before.before.before) (c.before.before.if-not-onward.false)
+    onward c.before.before.before.before.before.before.before.before.before.before.loop-left.invariant c.before.before.before.before.before.before.before.before.before.loop-left-test.true (rounded c.before.before.before.before.before.before.before.before) (furthered c.before.before.before.before.before) (filled c.before.before.before.before.before.before) ((not-false _ c.before.before.if-not-onward.false))
     (sym (c.before.has_empty-in-loop-left.ensures (table c.before.before.before.before.before.before.before.before.before.before.before.before.before.before.before.before.before)) ∙ c.if-has_empty-2.false)
 
 pub rounds_spec : {M : Type 1} → statement M

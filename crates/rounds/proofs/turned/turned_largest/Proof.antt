@@ -64,7 +64,7 @@ enough-of c =
 returns-2 : tie.Need-returns-then-not-onward invariant-loop decreases-loop
 returns-2 c =
     let s = c in
-    let rest = stand-rest c.loop-left.invariant c.loop-left-test.true (onward c.before.before.before.before) (c.if-not-onward.true) in
+    let rest = stand-rest c.loop-left.invariant c.loop-left-test.true (onward c.before.before.before.before) ((not-true _ c.if-not-onward.true)) in
     c.larger.ensures ∙ ap (λ (k : ℕ). max s.args.largest (s.args.before + k)) rest ∙ enough-of c.before.before.before.before.before.before.before
 
 within-requires-2 : tie.Need-within-requires-in-loop-left invariant-loop decreases-loop
@@ -73,11 +73,11 @@ within-requires-2 c κs = let s = c in omega (arith, s.requires.1.1, s.requires.
 returns-3 : tie.Need-returns-then-within-2 invariant-loop decreases-loop
 returns-3 c =
     let s = c in
-    let on = stand-on c.loop-left.invariant c.loop-left-test.true (onward c.before.before.before.before.before.before) (c.if-not-onward.false) in
+    let on = stand-on c.loop-left.invariant c.loop-left-test.true (onward c.before.before.before.before.before.before) ((not-false _ c.if-not-onward.false)) in
     stand-left on s.args.before (c.within-in-loop-left.ensures c.if-within-2.true) ∙ enough-of c.before.before.before.before.before.before.before.before.before
 
 loop-again : tie.Need-loop-left-preserved invariant-loop decreases-loop
-loop-again c = stand-on c.loop-left.invariant c.loop-left-test.true (onward c.before.before.before.before.before.before) (c.if-not-onward.false)
+loop-again c = stand-on c.loop-left.invariant c.loop-left-test.true (onward c.before.before.before.before.before.before) ((not-false _ c.if-not-onward.false))
 
 returns-4 : tie.Need-returns invariant-loop decreases-loop
 returns-4 c =

@@ -24,8 +24,8 @@ declarations-at t = and 1 declarations-kinds.ps (is 1 declarations-kinds.ps μ-d
 abbrev declarations-below : ℕ → In 1 declarations-kinds.ps
 declarations-below t = and 1 declarations-kinds.ps (falls 1 declarations-kinds.ps ◌<◌ μ-declarations t) declarations.Pre
 
-pub +read-declarations-spec : {M : Type 1} → statement M
-+read-declarations-spec =
+pub +read_declarations_spec : {M : Type 1} → statement M
++read_declarations_spec =
     close μ-declarations λ t.
     declarations-lts.spec
     (all-declared-reads.Asked, all-declared-reads.Learnt, asserted-reads.Asked, asserted-reads.Learnt, declared-one-reads.Asked, declared-one-reads.Learnt, declarations-below t, declarations.Post)

@@ -5,7 +5,7 @@ use Rattle.script_back.proofs.declarations.asserted.Statement.{statement}
 use Rattle.script_back.proofs.declarations.asserted.Tie as tie
 
 abbrev start : tie.After-said-step → tie.Start
-start c = c.before.before.before
+start c = c.before.before.before.before
 
 pub asserted_spec : {M : Type 1} → statement M
 asserted_spec =

@@ -39,8 +39,8 @@ node_at t = and 5 node-kinds.ps (is 5 node-kinds.ps μ-node t) node.Pre
 abbrev node-below : ℕ → In 5 node-kinds.ps
 node-below t = and 5 node-kinds.ps (falls 5 node-kinds.ps ◌<◌ μ-node t) node.Pre
 
-pub +read-kids-read-node-spec : {M : Type 1} → statement M
-+read-kids-read-node-spec =
+pub +read_kids_read_node_spec : {M : Type 1} → statement M
++read_kids_read_node_spec =
     close μ-kids μ-node
     (λ t. kids-lts.spec (turn-at-reads.Asked, turn-at-reads.Learnt, node-below t, node.Post, kids-below t, kids.Post) (kids-at t) kids.Post
     (λ c κs. let s = c.before.before.before.before in (s.requires.1.1.inside, omega (arith, s.requires.1.1.fits, s.requires.1.2.children_behind)))

@@ -40,8 +40,8 @@ module _ (t : ℕ) (c : read-digits-lts.Else-not-digit_may
   here = let s = c.before.before.before.before.before.before in
       byte_inside s.args.text.now s.args.at (omega (arith, c.before.before.before.before.byte_at-byte.ensures, digit.0))
 
-pub +read-digits-spec : {M : Type 1} → statement M
-+read-digits-spec = close μ-read-digits λ t. read-digits-lts.spec
+pub +read_digits_spec : {M : Type 1} → statement M
++read_digits_spec = close μ-read-digits λ t. read-digits-lts.spec
     (byte-at-reads.Asked, byte-at-reads.Learnt, digit-may-reads.Asked, digit-may-reads.Learnt, read-digits-below t, read-digits.Post)
     (read-digits-at t) read-digits.Post
     (λ c κs. tt)

@@ -32,8 +32,8 @@ read-next-terms-below t =
     (falls 3 read-next-terms-kinds.ps ◌<◌ μ-read-next-terms t)
     read-next-terms.Pre
 
-pub +read-next-terms-spec : {M : Type 1} → statement M
-+read-next-terms-spec = close μ-read-next-terms λ t. read-next-terms-lts.spec (
+pub +read_next_terms_spec : {M : Type 1} → statement M
++read_next_terms_spec = close μ-read-next-terms λ t. read-next-terms-lts.spec (
   read-next-term-reads.Asked,
   read-next-term-reads.Learnt,
   read-next-terms-below t,

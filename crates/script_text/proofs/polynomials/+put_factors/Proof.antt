@@ -22,8 +22,8 @@ factors-at t = and 1 factors-kinds.ps (is 1 factors-kinds.ps μ-factors t) facto
 abbrev factors-below : ℕ → In 1 factors-kinds.ps
 factors-below t = and 1 factors-kinds.ps (falls 1 factors-kinds.ps ◌<◌ μ-factors t) factors.Pre
 
-pub +put-factors-spec : {M : Type 1} → statement M
-+put-factors-spec = close μ-factors λ t. factors-lts.spec (power-reads.Asked, power-reads.Learnt, factors-below t, factors.Post) (factors-at t) factors.Post
+pub +put_factors_spec : {M : Type 1} → statement M
++put_factors_spec = close μ-factors λ t. factors-lts.spec (power-reads.Asked, power-reads.Learnt, factors-below t, factors.Post) (factors-at t) factors.Post
     (λ c. factors-none _ _ _ c.if-count-eq0.true)
     (λ c. omega (arith, c.if-count-eq0.false))
     (λ c. record { fits = omega (arith, c.before.before.requires.1.0) })

@@ -26,8 +26,8 @@ summands-at t = and 3 summands-kinds.ps (is 3 summands-kinds.ps μ-summands t) s
 abbrev summands-below : ℕ → In 3 summands-kinds.ps
 summands-below t = and 3 summands-kinds.ps (falls 3 summands-kinds.ps ◌<◌ μ-summands t) summands.Pre
 
-pub +put-summands-spec : {M : Type 1} → statement M
-+put-summands-spec =
+pub +put_summands_spec : {M : Type 1} → statement M
++put_summands_spec =
     close μ-summands λ t.
     summands-lts.spec (byte-Reads.Asked, byte-Reads.Learnt, term-reads.Asked, term-reads.Learnt, summands-below t, summands.Post) (summands-at t) summands.Post
     (λ c. summands-none _ _ _ _ _ c.if-count-eq0.true)

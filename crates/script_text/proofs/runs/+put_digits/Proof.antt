@@ -23,8 +23,8 @@ digits-at t = and 1 digits-kinds.ps (is 1 digits-kinds.ps μ-digits t) digits.Pr
 abbrev digits-below : ℕ → In 1 digits-kinds.ps
 digits-below t = and 1 digits-kinds.ps (falls 1 digits-kinds.ps ◌<◌ μ-digits t) digits.Pre
 
-pub +put-digits-spec : {M : Type 1} → statement M
-+put-digits-spec = close μ-digits λ t. digits-lts.spec (digit-reads.Asked, digit-reads.Learnt, digits-below t, digits.Post) (digits-at t) digits.Post
+pub +put_digits_spec : {M : Type 1} → statement M
++put_digits_spec = close μ-digits λ t. digits-lts.spec (digit-reads.Asked, digit-reads.Learnt, digits-below t, digits.Post) (digits-at t) digits.Post
     (λ c κs. fits-as (digits-first _ _ c.before.if-most-eq0.true) c.before.before.before.requires.1)
     (λ c. c.before.before.put_digit.auto.text)
     (λ c. let first = c.before.before in wrote_as first.put_digit.ensures (digits-first _ _ first.before.before.if-most-eq0.true))

@@ -22,8 +22,8 @@ power_at t = and 1 power-kinds.ps (is 1 power-kinds.ps μ-power t) power.Pre
 abbrev power_below : ℕ → In 1 power-kinds.ps
 power_below t = and 1 power-kinds.ps (falls 1 power-kinds.ps ◌<◌ μ-power t) power.Pre
 
-pub +put-power-spec : {M : Type 1} → statement M
-+put-power-spec = close μ-power λ t. power-lts.spec (byte-Reads.Asked, byte-Reads.Learnt, power_below t, power.Post) (power_at t) power.Post
+pub +put_power_spec : {M : Type 1} → statement M
++put_power_spec = close μ-power λ t. power-lts.spec (byte-Reads.Asked, byte-Reads.Learnt, power_below t, power.Post) (power_at t) power.Post
     (λ c. power-none _ _ c.if-exponent-eq0.true)
     (λ c κs. fits-first (power-more _ _ c.before.if-exponent-eq0.false) c.before.before.before.requires.1.1)
     (λ c. let s = c.before.before.before.before.before.before.before in record { fits = omega (arith, s.requires.1.0) })

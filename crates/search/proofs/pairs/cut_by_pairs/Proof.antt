@@ -47,10 +47,10 @@ cut-with-requires c κs =
     let all = d.many-n.ensures in
     let own = d.mask_of_slot-mask.ensures in
     let s = start d in
-    let words = s.pre.1.1 in (
-      s.pre.0,
+    let words = s.requires.1.1 in (
+      s.requires.0,
       (
-        (s.pre.1.0.0, (s.pre.1.0.1, omega (arith, all, c.loop-i-test.true))),
+        (s.requires.1.0.0, (s.requires.1.0.1, omega (arith, all, c.loop-i-test.true))),
         (
           words.masked,
           (

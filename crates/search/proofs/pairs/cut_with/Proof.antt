@@ -70,7 +70,7 @@ loop-holds c =
     )
 
 places-requires-3 : tie.Need-places-q2-requires invariant-loop decreases-loop
-places-requires-3 c κs = (omega arith, (start c.before.before.before).pre.0.0.forms.counts)
+places-requires-3 c κs = (omega arith, (start c.before.before.before).requires.0.0.forms.counts)
 
 mask-at-requires-2 : tie.Need-mask_at-mask2-requires invariant-loop decreases-loop
 mask-at-requires-2 c κs =
@@ -81,9 +81,9 @@ cut-by-sifted-pair-requires : tie.Need-cut_by_sifted_pair-cut-requires invariant
 cut-by-sifted-pair-requires c κs =
     let d = c.before.before.before.before.before in
     let s = start d in
-    let ready = s.pre.0.0 in
-    let (low, (signed, at)) = s.pre.1.0 in
-    let (masked, ((own, noted), falling)) = s.pre.1.1 in
+    let ready = s.requires.0.0 in
+    let (low, (signed, at)) = s.requires.1.0 in
+    let (masked, ((own, noted), falling)) = s.requires.1.1 in
     let slot = atom_slot s.args.atoms.number in
     let i = s.args.i in
     let j = d.loop-j.j in
@@ -116,29 +116,29 @@ cut-is : (c : tie.After-cut_by_sifted_pair-cut invariant-loop decreases-loop) (v
     let l = c.before.before.before.before.before.before in
     let a = (start l).args in
     let t = table_of a.coefficient.now a.monomial.now a.terms.now v in
-    let atom = atom_at t a.t8.number a.t8.set in
-    Stands t board a.t8 a.sign.now a.p
+    let atom = atom_at t a.atoms.number a.atoms.set in
+    Stands t board a.atoms a.sign.now a.p
     → c.cut_by_sifted_pair-cut.result.0 ≡ cut_in a.all l.loop-j.sofar.0 (pair_tries board (form_at t a.p) (atom a.i) (atom l.loop-j.j))
 cut-is c v board h =
     let l = c.before.before.before.before.before.before in
     let s = start l in
     let a = s.args in
     let t = table_of a.coefficient.now a.monomial.now a.terms.now v in
-    let slot = atom_slot a.t8.number in
+    let slot = atom_slot a.atoms.number in
     let i = a.i in
     let j = l.loop-j.j in
     let all = l.many-n.ensures in
-    let next : j < many a.t8.count = omega (arith, all, c.loop-j-test.true) in
+    let next : j < many a.atoms.count = omega (arith, all, c.loop-j-test.true) in
     let p = l.places-run.ensures in
     let q1 = l.places-q1.ensures in
     let q2 = c.places-q2.ensures in
     let ready = h.ready in
-    let own = run-held a.p ready.forms ready.places s.pre.1.0.0 p.0 p.1 h.own in
-    let first = run-held (slot i) ready.forms ready.places (omega arith) q1.0 q1.1 (ready.atoms i s.pre.1.0.1.1) in
+    let own = run-held a.p ready.forms ready.places s.requires.1.0.0 p.0 p.1 h.own in
+    let first = run-held (slot i) ready.forms ready.places (omega arith) q1.0 q1.1 (ready.atoms i s.requires.1.0.1.1) in
     let second = run-held (slot j) ready.forms ready.places (omega arith) q2.0 q2.1 (ready.atoms j next) in
     c.cut_by_sifted_pair-cut.ensures.on (record { p = own.signed; q1 = first.signed; q2 = second.signed; filled = h.filled })
     ∙ ap (cut_in a.all l.loop-j.sofar.0)
-    (pair-at t board a.p (slot i) (slot j) (get_or a.t8.set i 0) (get_or a.t8.set j 0) p.0 p.1 q1.0 q1.1 q2.0 q2.1)
+    (pair-at t board a.p (slot i) (slot j) (get_or a.atoms.set i 0) (get_or a.atoms.set j 0) p.0 p.1 q1.0 q1.1 q2.0 q2.1)
 
 returns : tie.Need-returns-then-stops invariant-loop decreases-loop
 returns c =
@@ -170,18 +170,18 @@ loop-again c =
     let d = c.before.before.before.before.before.before.before.before.before.before in
     let s = start d in
     let a = s.args in
-    let (low, (signed, at)) = s.pre.1.0 in
-    let (masked, ((own, noted), falling)) = s.pre.1.1 in
+    let (low, (signed, at)) = s.requires.1.0 in
+    let (masked, ((own, noted), falling)) = s.requires.1.1 in
     let l = d.loop-j in
     let all = d.many-n.ensures in
     let on = c.loop-j-test.true in
-    let h : l.j < many a.t8.count = omega (arith, all, on) in
+    let h : l.j < many a.atoms.count = omega (arith, all, on) in
     let word = c.still-left.ensures.candidates l.invariant.0 in (
       word,
       λ v board k. skips k low a.i at own masked noted a.all c.cut_by_sifted_pair-cut.result.0
           d.mask_at-mask1.ensures word c.next-j-in-loop-j.ensures all
           ∙ walk-on a.all l.sofar.0 _ _ (l.invariant.1 v board k)
-          (with-step (table_of a.coefficient.now a.monomial.now a.terms.now v) a.t8 board _ l.j _ h)
+          (with-step (table_of a.coefficient.now a.monomial.now a.terms.now v) a.atoms board _ l.j _ h)
           (cut-is c.before.before.before.before v board k) (sym c.stops.ensures ∙ c.if-stops.false),
     )
 

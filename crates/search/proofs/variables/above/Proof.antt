@@ -19,7 +19,7 @@ loop-again : tie.Need-loop-i-preserved invariant-loop decreases-loop
 loop-again c =
     let a = c.args in
     let l = c.loop-i in
-    below_more (λ (j : ℕ). get_or a.t1.sets j 0 ≡ get_or a.t2.sets j 0) l.i l.invariant c.if-set-low.false
+    below_more (λ (j : ℕ). get_or a.board.sets j 0 ≡ get_or a.floor.sets j 0) l.i l.invariant c.if-set-low.false
 
 returns-2 : tie.Need-returns invariant-loop decreases-loop
 returns-2 c e = record { each = λ j h. c.loop-i.invariant j (omega arith) }

@@ -22,7 +22,7 @@ returns-2 c =
     let s = c.before.before.before.before.before.before.before in
     let (idle, same) = s.requires.1 in
     all-at-floor s.args.board s.args.floor s.requires.0.0.forms.variables same (table s) s.args.atoms refl idle
-    (c.above.ensures (not-true c.above.result c.if-not-above.true))
+    (c.above.ensures c.if-not-above.true)
 
 words-of-requires : tie.Need-words_of-falls-requires
 words-of-requires c κs =

@@ -35,7 +35,7 @@ goes-requires c κs =
     let s = c.before.before.before.before.before.before.before.before.before.before.before.before.before in
     let (ready, from) = s.requires.0 in
     let l = c.loop-i in
-    let afresh = afresh-others s.args.list (atoms_of (table s) l.auto.atoms) from (omega (arith, l.invariant.1.0)) l.invariant.1.1.1.0 (c.joined-others.ensures (table s)) in
+    let afresh = afresh-others s.args.list (atoms_of (table s) l.kept.atoms) from (omega (arith, l.invariant.1.0)) l.invariant.1.1.1.0 (c.joined-others.ensures (table s)) in
     ((ready, (from.variables, omega arith)), ((s.requires.1.0.atoms l.i (omega arith), afresh), s.requires.1.1))
 
 fresh-rounds-requires : tie.Need-fresh_rounds-rounds-requires invariant-loop decreases-loop
@@ -43,7 +43,7 @@ fresh-rounds-requires c κs =
     let s = c.before.before.before.before.before.before.before.before.before.before.before.before.before.before.before in
     let (ready, from) = s.requires.0 in
     let l = c.loop-i in
-    (ready.forms, afresh-others s.args.list (atoms_of (table s) l.auto.atoms) from (omega (arith, l.invariant.1.0)) l.invariant.1.1.1.0 (c.joined-others.ensures (table s)))
+    (ready.forms, afresh-others s.args.list (atoms_of (table s) l.kept.atoms) from (omega (arith, l.invariant.1.0)) l.invariant.1.1.1.0 (c.joined-others.ensures (table s)))
 
 loop-again : tie.Need-loop-i-preserved invariant-loop decreases-loop
 loop-again c =

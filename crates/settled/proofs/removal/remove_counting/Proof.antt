@@ -36,7 +36,7 @@ goes-requires c κs =
     let s = c.before.before.before.before.before.before.before.before.before.before.before.before.before.before in
     let (ready, from) = s.requires.0 in
     let l = c.loop-i in
-    let afresh = afresh-others s.args.list (atoms_of (table s) l.auto.atoms) from (omega (arith, l.invariant.1.0)) l.invariant.1.1.1.0 (c.joined-others.ensures (table s)) in
+    let afresh = afresh-others s.args.list (atoms_of (table s) l.kept.atoms) from (omega (arith, l.invariant.1.0)) l.invariant.1.1.1.0 (c.joined-others.ensures (table s)) in
     ((ready, (from.variables, omega arith)), ((s.requires.1.0.atoms l.i (omega arith), afresh), s.requires.1.1))
 
 counted-requires : tie.Need-counted-counting-requires invariant-loop decreases-loop
@@ -77,7 +77,7 @@ loop-again c =
             some_more (table s) (omega (arith, more, l.invariant.1.0)) l.invariant.1.1.1.0 c.kept_unless-kept.ensures,
             (
               counting-next l.invariant.1.1.1.1.0 (omega (arith, more, l.invariant.1.0)) out counted c.kept_unless-kept.ensures,
-              known_next (table s) a l.auto c.kept_unless-kept.ensures c.counted-counting.ensures.known,
+              known_next (table s) a l.kept c.kept_unless-kept.ensures c.counted-counting.ensures.known,
             ),
           ),
         ),

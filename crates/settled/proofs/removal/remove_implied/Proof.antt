@@ -41,7 +41,7 @@ signs-ready : (c : tie.After-sign_list-2) →
     Ready (table s) (sets_of st.board) st.atoms signs × Ready (table s) (sets_of st.board) s.args.list signs
 signs-ready c =
     let s = start c in
-    let (forms, from) = s.pre in
+    let (forms, from) = s.requires in
     both-ready s.args.state.board s.args.state.atoms s.args.list _ forms from.variables (length-replicate {A = ℕ} 1280 0)
     c.sign_list.ensures c.sign_list-2.ensures
 
@@ -59,7 +59,7 @@ remove-requires c κs =
 returns : tie.Need-returns-then-variables-many
 returns c =
     let s = start c.before.before.before.before.before.before.before.before.before.before.before.before.before in
-    (test-first s.pre.1 c.remove.ensures.0, count-first s.args.list s.args.largest s.pre.1 c.remove.ensures.1)
+    (test-first s.requires.1 c.remove.ensures.0, count-first s.args.list s.args.largest s.requires.1 c.remove.ensures.1)
 
 remove-counting-requires : tie.Need-remove_counting-requires
 remove-counting-requires c κs =
@@ -70,7 +70,7 @@ remove-counting-requires c κs =
 returns-2 : tie.Need-returns
 returns-2 c =
     let s = start c.before.before.before.before.before.before.before.before.before.before.before.before.before in
-    (test-first s.pre.1 c.remove_counting.ensures.0, count-first s.args.list s.args.largest s.pre.1 c.remove_counting.ensures.1)
+    (test-first s.requires.1 c.remove_counting.ensures.0, count-first s.args.list s.args.largest s.requires.1 c.remove_counting.ensures.1)
 
 -- at most 2(16 + 64) + 1
 small : (c : tie.After-many) → ((start c.before.before.before.before.before.before.before.before).args.variables ≤ 16) × (c.many.result ≤ 64)

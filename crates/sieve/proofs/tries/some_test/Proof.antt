@@ -7,7 +7,7 @@ use Rattle.sieve.proofs.tries.some_test.Statement.{statement}
 use Rattle.sieve.proofs.tries.some_test.Tie as tie
 
 returns : tie.Need-returns-then-not-cuts
-returns c = test-cannot (un_not {b = c.args.cuts} c.if-not-cuts.true)
+returns c = test-cannot c.if-not-cuts.true
 
 returns-5 : tie.Need-returns
 returns-5 c =

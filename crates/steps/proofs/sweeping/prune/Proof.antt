@@ -38,7 +38,7 @@ keeps c =
         (
           simp length-set inv.1.1.0,
           λ n l h k.
-              prune-keep (rw (part-next loop.i _ h test k) at (inv.1.1.1 n l h k)) _ c.before.before.before.cut_atom-cut.ensures c.before.before.if-cut.false (c.if-not-cut.true) _
+              prune-keep (rw (part-next loop.i _ h test k) at (inv.1.1.1 n l h k)) _ c.before.before.before.cut_atom-cut.ensures c.before.before.if-cut.false ((not-true _ c.if-not-cut.true)) _
               (stored loop.left loop.count _ (omega (arith, test, inv.1.0, inv.1.1.0, c.before.before.before.before.before.before.before.before.before.before.before.before.before.requires.1.1.1))),
         ),
       ),
@@ -54,7 +54,7 @@ gone c =
         omega (arith, inv.1.0),
         (
           inv.1.1.0,
-          λ n l h k. prune-gone (rw (part-next loop.i _ h test k) at (inv.1.1.1 n l h k)) _ c.before.before.before.cut_atom-cut.ensures c.before.before.if-cut.false (c.if-not-cut.false),
+          λ n l h k. prune-gone (rw (part-next loop.i _ h test k) at (inv.1.1.1 n l h k)) _ c.before.before.before.cut_atom-cut.ensures c.before.before.if-cut.false ((not-false _ c.if-not-cut.false)),
         ),
       ),
     )

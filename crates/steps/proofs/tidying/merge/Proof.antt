@@ -1,3 +1,4 @@
+use borrow.Author.Rules.{rules}
 use mathlib.Core.Path.{◌≡◌, refl, sym, ◌∙◌}
 use mathlib.Core.List.{List}
 use Prim.Native.Nat.{ℕ, ◌+◌, ◌-◌, ◌≤◌}
@@ -82,7 +83,7 @@ pub merge_spec : {M : Type 1} → statement M
 merge_spec =
     tie.close
     (tie.spec invariant-loop decreases-loop (λ c. (omega arith, (omega arith, (refl, (ahead-start _ 0, λ l h. merge-start _ l _ (record { is = refl; size = refl })))))) (λ c. omega arith) (λ c. omega arith) (λ c. omega arith)
-    (λ c κs. c.requires.0) (λ c. c.in-Open.keys1)
+    (λ c κs. c.requires.0) (λ c. search rules)
     (λ c κs. omega (arith, c.loop-i-test.true, c.loop-i.invariant.1.0, c.loop-i.invariant.1.1.0, c.requires.1)) (λ c. omega (arith, c.loop-i-test.true)) is-open
-    (λ c. c.in-True.keys2) (λ c. omega (arith, c.loop-i-test.true)) is_true (λ c. c.in-False.keys3) (λ c. c.loop-i.invariant.1.1.0) is_false
+    (λ c. search rules) (λ c. omega (arith, c.loop-i-test.true)) is_true (λ c. search rules) (λ c. c.loop-i.invariant.1.1.0) is_false
     (λ c. c.loop-i.invariant.1.1.0) returns)

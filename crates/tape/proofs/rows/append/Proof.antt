@@ -1,5 +1,5 @@
 use Prim.Native.Nat.{ℕ}
-use borrow.Author.Rules.{rules, length_unmapped}
+use borrow.Author.Rules.{rules}
 use native.Mathlib.Omega.{arith}
 use Rattle.tape.proofs.rows.append.Statement.{statement}
 use Rattle.tape.proofs.rows.append.Tie as tie
@@ -7,8 +7,8 @@ use Rattle.tape.proofs.rows.append.Tie as tie
 lay-requires : tie.Need-lay-requires
 lay-requires c κs =
     let start = c in
-    let long = length_unmapped ℕ start.args.row.token 256 start.well_formed.0.1.1.0.1.0.1 in
-    let other-long = length_unmapped ℕ start.args.other.token 256 start.well_formed.1.0.1.1.0.1.0.1 in
+    let long = start.well_formed.0.1.1.0.1.0.1 in
+    let other-long = start.well_formed.1.0.1.1.0.1.0.1 in
     (start.requires.0, (omega (arith, start.requires.1.0, other-long), omega (arith, start.requires.1.1, long)))
 
 pub append_spec : {M : Type 1} → statement M

@@ -1,6 +1,7 @@
+use native.Mathlib.Omega.{arith}
 use mathlib.Core.Path.{refl}
 use Prim.Native.Nat.{ℕ}
-use borrow.Author.Rules.{rules, below_field}
+use borrow.Author.Rules.{rules}
 use Rattle.tape.specs.Listing.{pushed}
 use Rattle.tape.proofs.rows.push.Statement.{statement}
 use Rattle.tape.proofs.rows.push.Tie as tie
@@ -11,4 +12,4 @@ push_spec =
     (tie.spec (λ c. search rules) (λ c. search rules) (λ c. search rules)
     (λ c.
     let row = c.args.row in
-    (refl, pushed row _ c.args.token (below_field ℕ row.token row.count 256 c.well_formed.0.1.1.0.1.0.1 c.requires) refl refl)))
+    (refl, pushed row _ c.args.token (omega (arith, c.well_formed.0.1.1.0.1.0.1, c.requires)) refl refl)))

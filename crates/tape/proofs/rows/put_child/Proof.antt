@@ -1,6 +1,6 @@
 use mathlib.Core.Path.{◌∙◌}
 use Prim.Native.Nat.{ℕ, ◌+◌, ◌*◌}
-use borrow.Author.Rules.{rules, length_unmapped}
+use borrow.Author.Rules.{rules}
 use native.Mathlib.Omega.{arith}
 use lib.ListN.{length-set}
 use Rattle.tape.specs.Listing.{child-made}
@@ -13,8 +13,8 @@ lay-requires c κs =
     let start = c in
     let row = start.args.row in
     let atoms = start.args.atoms in
-    let long = length-set row.token row.count (atoms.count * 65536 + start.args.inner.count) ∙ length_unmapped ℕ row.token 256 start.well_formed.0.1.1.0.1.0.1 in
-    let atoms-long = length_unmapped ℕ atoms.token 256 start.well_formed.1.0.1.1.0.1.0.1 in
+    let long = length-set row.token row.count (atoms.count * 65536 + start.args.inner.count) ∙ start.well_formed.0.1.1.0.1.0.1 in
+    let atoms-long = start.well_formed.1.0.1.1.0.1.0.1 in
     (omega arith, (omega (arith, start.requires, atoms-long), omega (arith, start.requires, long)))
 
 lay-requires-2 : tie.Need-lay-requires-2
@@ -22,15 +22,15 @@ lay-requires-2 c κs =
     let start = c in
     let row = start.args.row in
     let inner = start.args.inner in
-    let long = c.lay.auto.out ∙ length-set row.token row.count (start.args.atoms.count * 65536 + inner.count) ∙ length_unmapped ℕ row.token 256 start.well_formed.0.1.1.0.1.0.1 in
-    let inner-long = length_unmapped ℕ inner.token 256 start.well_formed.1.1.0.1.1.0.1.0.1 in
+    let long = c.lay.auto.out ∙ length-set row.token row.count (start.args.atoms.count * 65536 + inner.count) ∙ start.well_formed.0.1.1.0.1.0.1 in
+    let inner-long = start.well_formed.1.1.0.1.1.0.1.0.1 in
     (omega arith, (omega (arith, start.requires, inner-long), omega (arith, start.requires, long)))
 
 returns : tie.Need-returns
 returns c =
     let start = c in
     let row = start.args.row in
-    let long = length_unmapped ℕ row.token 256 start.well_formed.0.1.1.0.1.0.1 in (
+    let long = start.well_formed.0.1.1.0.1.0.1 in (
       omega arith,
       λ earlier l own a b d.
           let headed = stored row.token row.count _ (omega (arith, start.requires, long)) _ a in

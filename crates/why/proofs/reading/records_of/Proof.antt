@@ -33,7 +33,7 @@ abbrev normal-of : tie.After-give → tie.After-normal_tokens
 normal-of c = c.before.before.before.before
 
 abbrev giving : tie.After-part-given → tie.After-give
-giving c = c.before.before.before.before.before
+giving c = c.before.before.before.before
 
 abbrev table : tie.After-work → WorkingTable
 table c =

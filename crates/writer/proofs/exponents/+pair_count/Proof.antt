@@ -22,8 +22,8 @@ pair-count-at t = and 0 pair-count-kinds.ps (is 0 pair-count-kinds.ps μ-pair-co
 abbrev pair-count-below : ℕ → In 0 pair-count-kinds.ps
 pair-count-below t = and 0 pair-count-kinds.ps (falls 0 pair-count-kinds.ps ◌<◌ μ-pair-count t) pair-count.Pre
 
-pub +pair-count-spec : {M : Type 1} → statement M
-+pair-count-spec = close μ-pair-count λ t. pair-count-lts.spec (pair-count-below t, pair-count.Post, exponent-of-reads.Asked, exponent-of-reads.Learnt)
+pub +pair_count_spec : {M : Type 1} → statement M
++pair_count_spec = close μ-pair-count λ t. pair-count-lts.spec (pair-count-below t, pair-count.Post, exponent-of-reads.Asked, exponent-of-reads.Learnt)
     (pair-count-at t) pair-count.Post
     (λ c. let a = c.args in (λ n. sym (ap length (no_pairs n a.k a.monomial c.if-k-eq0.true)), omega arith))
     (λ c. omega (arith, c.if-k-eq0.false))

@@ -23,8 +23,8 @@ write-pairs-at t = and 1 write-pairs-kinds.ps (is 1 write-pairs-kinds.ps μ-writ
 abbrev write-pairs-below : ℕ → In 1 write-pairs-kinds.ps
 write-pairs-below t = and 1 write-pairs-kinds.ps (falls 1 write-pairs-kinds.ps ◌<◌ μ-write-pairs t) write-pairs.Pre
 
-pub +write-pairs-spec : {M : Type 1} → statement M
-+write-pairs-spec = close μ-write-pairs λ t. write-pairs-lts.spec
+pub +write_pairs_spec : {M : Type 1} → statement M
++write_pairs_spec = close μ-write-pairs λ t. write-pairs-lts.spec
     (exponent-of-reads.Asked, exponent-of-reads.Learnt, write-pairs-below t, write-pairs.Post, write-field-reads.Asked, write-field-reads.Learnt)
     (write-pairs-at t) write-pairs.Post
     (λ c. none_written _ _ _ c.if-k-eq0.true)

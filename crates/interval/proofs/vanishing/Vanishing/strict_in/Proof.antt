@@ -44,14 +44,14 @@ returns-3 : tie.Need-returns-then-has_more
 unfolding strict_by not_zero_in
 returns-3 c =
     let d = c.before.before.before.before in
-    simp (d.if-self.false, sym (lowest d) ∙ c.if-not_zero_at.false, sym c.Has-more.ensures ∙ c.if-has_more.true)
+    simp (d.if-self.false, sym (lowest d) ∙ c.if-not_zero_at.false, sym c.has_more.ensures ∙ c.if-has_more.true)
     (ap not (vanishes c))
 
 returns-4 : tie.Need-returns-else-has_more
 unfolding strict_by not_zero_in
 returns-4 c =
     let d = c.before.before.before in
-    simp (d.if-self.false, sym (lowest d) ∙ c.if-not_zero_at.false, sym c.Has-more.ensures ∙ c.if-has_more.false)
+    simp (d.if-self.false, sym (lowest d) ∙ c.if-not_zero_at.false, sym c.has_more.ensures ∙ c.if-has_more.false)
 
 pub strict_in_spec : {M : Type 1} → statement M
 strict_in_spec =
