@@ -25,16 +25,16 @@ pub fn open(rt: &HostRuntime, update: bool) -> io::Result<Option<File>> {
 }
 
 // A line of a word and a number.
-fn print_line<W: Write>(to: &mut W, word: &[u8], number: u64) -> io::Result<()> {
-    to.write_all(word)?;
-    writeln!(to, "{number}")
+fn print_line<W: Write>(out: &mut W, word: &[u8], number: u64) -> io::Result<()> {
+    out.write_all(word)?;
+    writeln!(out, "{number}")
 }
 
 // The line of an answer: REFUSED and the number, or the word for what was done and the block's length.
-pub fn print_answer<W: Write>(to: &mut W, answer: Loaded, word: &[u8]) -> io::Result<()> {
+pub fn print_answer<W: Write>(out: &mut W, answer: Loaded, word: &[u8]) -> io::Result<()> {
     match answer {
-        Loaded::Refused(number) => print_line(to, b"REFUSED ", number as u64),
-        Loaded::Starts(size) => print_line(to, word, size as u64),
+        Loaded::Refused(number) => print_line(out, b"REFUSED ", number as u64),
+        Loaded::Starts(size) => print_line(out, word, size as u64),
     }
 }
 

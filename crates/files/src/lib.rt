@@ -53,12 +53,12 @@ fn put_text(error: &Error, space: &mut [u8]) -> io::Result<usize>
 }
 
 // Writes a line: what failed, a colon, and the system's words for why.
-pub fn tell<W: Write>(to: &mut W, what: &[u8], error: &Error) -> io::Result<()> {
+pub fn tell<W: Write>(out: &mut W, what: &[u8], error: &Error) -> io::Result<()> {
     let mut space = [0u8; 320];
     let n = put_text(error, &mut space)?;
     let text = std::str::from_utf8(&space[..n.min(320)]).unwrap_or("");
-    to.write_all(what)?;
-    to.write_all(b": ")?;
-    to.write_all(without_number(text).as_bytes())?;
-    to.write_all(b"\n")
+    out.write_all(what)?;
+    out.write_all(b": ")?;
+    out.write_all(without_number(text).as_bytes())?;
+    out.write_all(b"\n")
 }
