@@ -79,7 +79,7 @@ module _ (n : ℕ) (bytes : List ℕ) (place : Place) {count : ℕ} (c : count �
 
     module _ (long : 5 + 8 * count ≤ rest) where
       pub pairs-inside : Inside bytes place → PairsInside bytes (place.at + 5) count
-      pairs-inside inside = record { at-most = omega (arith, l.up_to_end); short = inside.short }
+      pairs-inside inside = record { at_most = omega (arith, l.up_to_end); short = inside.short }
 
       enough : leb (8 * count) (length (drop (place.at + 5) (unpack bytes))) ≡ true
       enough = le-leb (8 * count) _ (rw length-left (omega (arith, l.up_to_end)))
@@ -107,7 +107,7 @@ module _ (n : ℕ) (bytes : List ℕ) (place : Place) {count : ℕ} (c : count �
         pairs-read e inside = record {
           found = record {
             reading = by-what-is-told ∙ rw e;
-            inside = record { at-most = omega (arith, l.up_to_end); short = inside.short };
+            inside = record { at_most = omega (arith, l.up_to_end); short = inside.short };
             small = rw e at below;
           };
         }

@@ -7,7 +7,7 @@ use Prim.Native.Nat.{ℕ, zero, suc, ◌+◌, ◌≤◌}
 use native.Mathlib.Omega.{arith}
 use lib.IntN.{ℤ}
 use Rattle.rules.specs.Polynomial.{Atom, Board}
-use Rattle.rules.specs.Rounds.{turns, round, start}
+use Rattle.rules.specs.Rounds.{turns, round, start, turn}
 use Rattle.rules.specs.Rounds.{State as Standing}
 use Rattle.removal_laws.specs.Wider.{Wider}
 use Rattle.turn_laws.specs.AfterTurns.{AfterTurns, no_turn, one-more, Floor}

@@ -8,7 +8,8 @@ ghost use Rattle.std.specs.Prelude.{◌≤◌};
 
 use convert::{Converted, to_edition1, to_edition2};
 use frames::Kind;
-use libc::STDOUT_FILENO;
+use std::io;
+use std::io::{Read, Write};
 
 fn wide(byte: u8) -> u64
     ensures { result ≤ 255 }
@@ -23,83 +24,81 @@ fn digit(number: u8) -> u8 {
 }
 
 // A byte in two hex digits, with a space before them unless it is the first.
-fn print_pair(byte: u8, first: bool) {
-    let mut pair = [32u8; 3];
-    pair[1] = digit(byte / 16);
-    pair[2] = digit(byte);
+fn print_pair<W: Write>(out: &mut W, byte: u8, first: bool) -> io::Result<()> {
+    let pair = [b' ', digit(byte / 16), digit(byte)];
     if first {
-        io::write_all(STDOUT_FILENO, &pair[1..]);
+        out.write_all(&pair[1..])
     } else {
-        io::write_all(STDOUT_FILENO, &pair);
+        out.write_all(&pair)
     }
 }
 
 // So many bytes of the output in lower-case hex pairs, one space apart.
-fn print_hex(output: &[u8], size: usize) {
+fn print_hex<W: Write>(out: &mut W, output: &[u8], size: usize) -> io::Result<()> {
     if output.len() < size {
-        return;
+        return Ok(());
     }
-    let mut i = 0;
-    while i < size {
-        let at = i;
-        i += 1;
-        print_pair(output[at], at == 0);
+    for (i, byte) in output[..size].iter().enumerate() {
+        print_pair(out, *byte, i == 0)?;
     }
-    io::write_all(STDOUT_FILENO, b"\n");
+    out.write_all(b"\n")
 }
 
-fn tell(outcome: Converted, output: &[u8]) {
+fn tell<W: Write>(out: &mut W, outcome: Converted, output: &[u8]) -> io::Result<()> {
     match outcome {
-        Converted::Refused(number) => {
-            io::write_all(STDOUT_FILENO, b"REFUSED ");
-            io::print_decimal(STDOUT_FILENO, wide(number));
-            io::write_all(STDOUT_FILENO, b"\n");
-        }
-        Converted::Finished(size) => print_hex(output, size),
+        Converted::Refused(number) => writeln!(out, "REFUSED {number}"),
+        Converted::Finished(size) => print_hex(out, output, size),
     }
 }
 
 // A frame: the room and a block.
-fn run(frame: &[u8], output: &mut [u8]) {
+fn run<W: Write>(out: &mut W, frame: &[u8], output: &mut [u8]) -> io::Result<()> {
     if frame.len() < 2 {
-        return;
+        return Ok(());
     }
     let room = (wide(frame[0]) * 256 + wide(frame[1])) as usize;
     if output.len() < room {
-        return;
+        return Ok(());
     }
     let first = to_edition1(&frame[2..], &mut output[..room]);
-    tell(first, output);
+    tell(out, first, output)?;
     let second = to_edition2(&frame[2..], &mut output[..room]);
-    tell(second, output);
+    tell(out, second, output)
 }
 
 // One frame; whether there may be more.
-fn one(space: &mut [u8], output: &mut [u8]) -> bool {
-    let frame = frames::next(space);
+fn one<R: Read, W: Write>(
+    input: &mut R,
+    out: &mut W,
+    space: &mut [u8],
+    output: &mut [u8],
+) -> io::Result<bool> {
+    let frame = frames::next(input, space)?;
     let n = frame.length;
     let kind = frame.kind;
     match kind {
         Kind::Block => {
-            run(&space[..n], output);
-            true
+            run(out, &space[..n], output)?;
+            Ok(true)
         }
         Kind::CutOff => {
-            io::write_all(STDOUT_FILENO, b"CUT OFF\n");
-            false
+            out.write_all(b"CUT OFF\n")?;
+            Ok(false)
         }
-        Kind::End => false,
+        Kind::End => Ok(false),
     }
 }
 
-// A proved loop has to end, and nothing says that standard input does: the turns are counted down from a number that no run uses up.
-fn main() {
-    let mut space = io::large_buffer();
-    let frame: &mut [u8] = &mut space;
-    let mut large = io::large_buffer();
-    let output: &mut [u8] = &mut large;
-    let mut turns = u64::MAX;
-    while turns > 0 && one(frame, output) {
-        turns -= 1;
+// A proved loop has to end, and nothing says that standard input does: the turns are counted up to a number that no run reaches.
+fn main(rt: HostRuntime) -> io::Result<()> {
+    let mut input = rt.stdin();
+    let mut out = rt.stdout();
+    let mut space = [0u8; 65536];
+    let mut output = [0u8; 65536];
+    for _ in 0..u64::MAX {
+        if !one(&mut input, &mut out, &mut space, &mut output)? {
+            break;
+        }
     }
+    Ok(())
 }

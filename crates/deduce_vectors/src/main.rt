@@ -6,8 +6,9 @@
 use block::Held;
 use deduce::Run;
 use frames::Kind;
-use libc::STDOUT_FILENO;
 use signs::SignSet;
+use std::io;
+use std::io::{Read, Write};
 use terms::{Board, few};
 
 // The board: the atoms of the variables are the tokens from number 3 on.
@@ -44,41 +45,42 @@ fn finding(held: Held) -> SignSet {
     deduce::deduce(&coefficient, &monomial, &sign, board, p, q, set)
 }
 
-fn tell(block: &[u8]) {
+fn tell<W: Write>(out: &mut W, block: &[u8]) -> io::Result<()> {
     let outcome = block::read(block);
     if outcome.refusal != 0 {
-        io::write_all(STDOUT_FILENO, b"REFUSED\n");
-        return;
+        return out.write_all(b"REFUSED\n");
     }
-    let found = finding(outcome.held);
-    io::print_decimal(STDOUT_FILENO, found.0 as u64);
-    io::write_all(STDOUT_FILENO, b"\n");
+    let found = finding(outcome.held).0;
+    writeln!(out, "{found}")
 }
 
 // One frame; whether there may be more.
-fn one(space: &mut [u8]) -> bool {
-    let frame = frames::next(space);
+fn one<R: Read, W: Write>(input: &mut R, out: &mut W, space: &mut [u8]) -> io::Result<bool> {
+    let frame = frames::next(input, space)?;
     let n = frame.length;
     let kind = frame.kind;
     match kind {
         Kind::Block => {
-            tell(&space[..n]);
-            true
+            tell(out, &space[..n])?;
+            Ok(true)
         }
         Kind::CutOff => {
-            io::write_all(STDOUT_FILENO, b"CUT OFF\n");
-            false
+            out.write_all(b"CUT OFF\n")?;
+            Ok(false)
         }
-        Kind::End => false,
+        Kind::End => Ok(false),
     }
 }
 
-// A proved loop has to end, and nothing says that standard input does: the turns are counted down from a number that no run uses up.
-fn main() {
-    let mut space = io::large_buffer();
-    let room: &mut [u8] = &mut space;
-    let mut turns = u64::MAX;
-    while turns > 0 && one(room) {
-        turns -= 1;
+// A proved loop has to end, and nothing says that standard input does: the turns are counted up to a number that no run reaches.
+fn main(rt: HostRuntime) -> io::Result<()> {
+    let mut input = rt.stdin();
+    let mut out = rt.stdout();
+    let mut space = [0u8; 65536];
+    for _ in 0..u64::MAX {
+        if !one(&mut input, &mut out, &mut space)? {
+            break;
+        }
     }
+    Ok(())
 }

@@ -1,5 +1,5 @@
 -- The entry: what was read, held in arrays that were blank, run on the readings, is the book's evaluation.
-use Rattle.std.specs.Prelude.{◌≡◌, refl, Bool, true, false, List, [], ◌∷◌, map, ℕ, zero, suc, ◌+◌, ◌*◌, ◌<◌, ◌≤◌, eqb, ℤ, pos, length, get_or, set, replicate}
+use Rattle.std.specs.Prelude.{◌≡◌, refl, Bool, true, false, List, [], ◌∷◌, map, ℕ, zero, suc, ◌+◌, ◌-◌, ◌*◌, ◌<◌, ◌≤◌, eqb, ℤ, pos, length, get_or, set, replicate}
 use Rattle.std.proofs.Math.Path.{sym, ap}
 use Rattle.std.proofs.Common.{ap₂, ◌∙◌, subst, arith, eq-eqb, ne_eqb, get_or-set_other}
 use Rattle.std.proofs.Math.Option.{none, some}
@@ -102,9 +102,9 @@ same_parts cs ms ts table each d parent end h = refl
 same_parts cs ms ts table each d parent (atom a rest) h =
     ap₂ (λ (p : Polynomial) (r : Parts Atom). atom (record { polynomial = p; set = a.set }) r) (each a.number h.0) (same_parts cs ms ts table each d parent rest h.2)
 same_parts cs ms ts table each d parent (and kids rest) h =
-    ap₂ (λ (k r : Parts Atom). and k r) (same_parts cs ms ts table each _ 1 kids h.2) (same_parts cs ms ts table each d parent rest h.3)
+    ap₂ (λ (k r : Parts Atom). and k r) (same_parts cs ms ts table each (d - 1) 1 kids h.2) (same_parts cs ms ts table each d parent rest h.3)
 same_parts cs ms ts table each d parent (or kids rest) h =
-    ap₂ (λ (k r : Parts Atom). or k r) (same_parts cs ms ts table each _ 2 kids h.2) (same_parts cs ms ts table each d parent rest h.3)
+    ap₂ (λ (k r : Parts Atom). or k r) (same_parts cs ms ts table each (d - 1) 2 kids h.2) (same_parts cs ms ts table each d parent rest h.3)
 
 same-tree : (cs : List ℤ) (ms ts : List ℕ) (table : List Polynomial) → ((i : ℕ) → i < length table → terms_from cs ms (16 * i) (get_or ts i 0) ≡ get_or table i [])
     → (tree : Node NumberedAtom) → PartsWithin 6 (length table) 0 (alone tree) → each_atom_of (stored cs ms ts) tree ≡ each_atom_of (looked_up table) tree

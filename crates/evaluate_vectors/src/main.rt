@@ -4,24 +4,23 @@
 #![tactic(auto)]
 
 use frames::Kind;
-use libc::STDOUT_FILENO;
 use readings::{begin, over, word_taken};
+use std::io;
+use std::io::{Read, Write};
 use verdicts::answer;
 
 // How many bytes the frame's line has.
 fn line_length(frame: &[u8]) -> usize {
-    let mut i = 0;
-    while i < frame.len() {
-        if frame[i] == b'\n' {
+    for (i, byte) in frame.iter().enumerate() {
+        if *byte == b'\n' {
             return i;
         }
-        i += 1;
     }
-    i
+    frame.len()
 }
 
 // A line of readings and a block.
-fn run(frame: &[u8]) {
+fn run<W: Write>(out: &mut W, frame: &[u8]) -> io::Result<()> {
     let mut numbers = [0i32; 16];
     let end = line_length(frame);
     if end < frame.len() {
@@ -29,34 +28,38 @@ fn run(frame: &[u8]) {
             word_taken(begin(), &frame[..end], &mut numbers),
             &mut numbers,
         );
-        answer(&frame[end + 1..], &numbers, count);
+        answer(out, &frame[end + 1..], &numbers, count)?;
     }
+    Ok(())
 }
 
 // One frame; whether there may be more.
-fn one(space: &mut [u8]) -> bool {
-    let frame = frames::next(space);
+fn one<R: Read, W: Write>(input: &mut R, out: &mut W, space: &mut [u8]) -> io::Result<bool> {
+    let frame = frames::next(input, space)?;
     let n = frame.length;
     let kind = frame.kind;
     match kind {
         Kind::Block => {
-            run(&space[..n]);
-            true
+            run(out, &space[..n])?;
+            Ok(true)
         }
         Kind::CutOff => {
-            io::write_all(STDOUT_FILENO, b"CUT OFF\n");
-            false
+            out.write_all(b"CUT OFF\n")?;
+            Ok(false)
         }
-        Kind::End => false,
+        Kind::End => Ok(false),
     }
 }
 
-// A proved loop has to end, and nothing says that standard input does: the turns are counted down from a number that no run uses up.
-fn main() {
-    let mut space = io::large_buffer();
-    let room: &mut [u8] = &mut space;
-    let mut turns = u64::MAX;
-    while turns > 0 && one(room) {
-        turns -= 1;
+// A proved loop has to end, and nothing says that standard input does: the turns are counted up to a number that no run reaches.
+fn main(rt: HostRuntime) -> io::Result<()> {
+    let mut input = rt.stdin();
+    let mut out = rt.stdout();
+    let mut space = [0u8; 65536];
+    for _ in 0..u64::MAX {
+        if !one(&mut input, &mut out, &mut space)? {
+            break;
+        }
     }
+    Ok(())
 }

@@ -1,11 +1,13 @@
-// A stream of blocks on standard input, each after its length in 2 bytes, most significant first. Of a block at most 32,768 bytes are taken.
+// A stream of blocks, each after its length in 2 bytes, most significant first. Of a block at most 32,768 bytes are taken.
 // What standard input gives is no promise of ours: the programs over this library hand each block to a proved function.
 
 #![tactic(auto)]
 
-ghost use Rattle.std.specs.Prelude.{◌≡◌, ◌≤◌, length};
+ghost use Rattle.std.specs.Prelude.{◌≤◌, ◌<◌, ◌≡◌, ◌+◌, IfOk, length, take, drop};
+ghost use Rattle.std.specs.Io.KnownBytes.{Consumes, IsAtEnd};
 
-use libc::STDIN_FILENO;
+use std::io;
+use std::io::Read;
 
 // What comes next: a whole block, a frame that ends too early, or nothing more.
 #[derive(Clone, Copy)]
@@ -25,10 +27,7 @@ pub struct Frame {
 fn none(kind: Kind) -> Frame
     ensures { result.length ≡ 0 }
 {
-    Frame {
-        kind: kind,
-        length: 0,
-    }
+    Frame { kind, length: 0 }
 }
 
 fn wide(byte: u8) -> usize
@@ -39,7 +38,8 @@ fn wide(byte: u8) -> usize
 
 // "It reads at most 32,768 bytes of a block": how many of so many.
 fn taken(length: usize) -> usize
-    ensures { (result ≤ length) × (result ≤ 32768) }
+    ensures within { result ≤ length }
+    ensures most { result ≤ 32768 }
 {
     if length < 32768 {
         return length;
@@ -47,28 +47,57 @@ fn taken(length: usize) -> usize
     32768
 }
 
+// One read behind the first bytes of the space, which stay as they are.
+fn more<R: Read>(input: &mut R, space: &mut [u8], from: usize) -> io::Result<usize>
+    requires { from < length space.old }
+    ensures front { take from space.new ≡ take from space.old }
+    ensures within { IfOk result (λ n. from + n ≤ length space.new) }
+    ensures bytes { IfOk result (λ n. Consumes (R.remaining input.old) (R.remaining input.new) (take n (drop from space.new))) }
+    ensures end { IfOk result (λ n. n ≡ 0 → IsAtEnd (R.remaining input.new)) }
+{
+    input.read(&mut space[from..])
+}
+
+// Reads until the space is full or the input ends, and returns how many bytes it put at the start of the space.
+pub fn fill<R: Read>(input: &mut R, space: &mut [u8]) -> io::Result<usize>
+    ensures within { IfOk result (λ n. n ≤ length space.new) }
+    ensures bytes { IfOk result (λ n. Consumes (R.remaining input.old) (R.remaining input.new) (take n space.new)) }
+    ensures end { IfOk result (λ n. n < length space.new → IsAtEnd (R.remaining input.new)) }
+{
+    let mut filled = 0;
+    while filled < space.len() {
+        let n = more(input, space, filled)?;
+        if n == 0 {
+            return Ok(filled);
+        }
+        filled += n;
+    }
+    Ok(filled)
+}
+
 // Reads the next frame into the start of `block`. A block that `block` has no room for counts as cut off.
-pub fn next(block: &mut [u8]) -> Frame
-    ensures { (result.length ≤ length block.new) × (result.length ≤ 32768) }
+pub fn next<R: Read>(input: &mut R, block: &mut [u8]) -> io::Result<Frame>
+    ensures within { IfOk result (λ frame. frame.length ≤ length block.new) }
+    ensures most { IfOk result (λ frame. frame.length ≤ 32768) }
 {
     let mut head = [0u8; 2];
-    let got = io::read_full(STDIN_FILENO, &mut head);
+    let got = fill(input, &mut head)?;
     if got == 0 {
-        return none(Kind::End);
+        return Ok(none(Kind::End));
     }
     if got < 2 {
-        return none(Kind::CutOff);
+        return Ok(none(Kind::CutOff));
     }
     let length = wide(head[0]) * 256 + wide(head[1]);
     if block.len() < length {
-        return none(Kind::CutOff);
+        return Ok(none(Kind::CutOff));
     }
-    let had = io::read_full(STDIN_FILENO, &mut block[..length]);
+    let had = fill(input, &mut block[..length])?;
     if had < length {
-        return none(Kind::CutOff);
+        return Ok(none(Kind::CutOff));
     }
-    Frame {
+    Ok(Frame {
         kind: Kind::Block,
         length: taken(length),
-    }
+    })
 }

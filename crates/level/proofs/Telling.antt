@@ -174,7 +174,7 @@ marked-kept : (marks later : List Bool) (place : ℕ) (pending : Pending) (from 
 unfolding MarkedAt
 marked-kept marks later place done from h same m = tt
 marked-kept marks later place (these b children more) from h same m =
-    (heads-kept marks later place b children from h same m.0, marked-kept marks later _ more from (omega arith) same m.1)
+    (heads-kept marks later place b children from h same m.0, marked-kept marks later (place + length (laid children)) more from (omega arith) same m.1)
 
 -- the first child that is left to tell
 pub record First (marks : List Bool) (place : ℕ) (pending : Pending) : Type 0 where

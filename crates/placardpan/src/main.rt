@@ -5,16 +5,19 @@
 
 #![tactic(auto)]
 
-use libc::STDIN_FILENO;
+use frames::fill;
 use printing::{asked_for, print_asked};
+use std::io;
 
 // "It reads at most 32,768 bytes of a block on standard input; the rest is not read." The lines of an answer take at most 64,578 bytes
 // (`lift/specs/Lines.antt: lines_fit`).
-fn main() {
+fn main(rt: HostRuntime) -> io::Result<()> {
+    let mut input = rt.stdin();
+    let mut out = rt.stdout();
     let mut space = [0u8; 32768];
-    let length = io::read_full(STDIN_FILENO, &mut space);
+    let length = fill(&mut input, &mut space)?;
     let mut output = [0u8; 32768];
     let mut text = [0u8; 64578];
-    let asked = asked_for();
-    print_asked(&space[..length], &mut output, &mut text, asked);
+    let asked = asked_for(&rt);
+    print_asked(&mut out, &space[..length], &mut output, &mut text, asked)
 }

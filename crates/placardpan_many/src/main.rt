@@ -4,38 +4,54 @@
 #![tactic(auto)]
 
 use frames::Kind;
-use libc::STDOUT_FILENO;
 use printing::{Asked, asked_for, print_asked};
+use std::io;
+use std::io::{Read, Write};
 
 // One frame; whether there may be more.
-fn one(space: &mut [u8], output: &mut [u8], text: &mut [u8], asked: Asked) -> bool {
-    let frame = frames::next(space);
+fn one<R: Read, W: Write>(
+    input: &mut R,
+    out: &mut W,
+    space: &mut [u8],
+    output: &mut [u8],
+    text: &mut [u8],
+    asked: Asked,
+) -> io::Result<bool> {
+    let frame = frames::next(input, space)?;
     let n = frame.length;
     let kind = frame.kind;
     match kind {
         Kind::Block => {
-            print_asked(&space[..n], output, text, asked);
-            true
+            print_asked(out, &space[..n], output, text, asked)?;
+            Ok(true)
         }
         Kind::CutOff => {
-            io::write_all(STDOUT_FILENO, b"CUT OFF\n");
-            false
+            out.write_all(b"CUT OFF\n")?;
+            Ok(false)
         }
-        Kind::End => false,
+        Kind::End => Ok(false),
     }
 }
 
-// A proved loop has to end, and nothing says that standard input does: the turns are counted down from a number that no run uses up.
-fn main() {
-    let mut space = io::large_buffer();
-    let room: &mut [u8] = &mut space;
-    let mut answered = io::large_buffer();
-    let output: &mut [u8] = &mut answered;
-    let mut lines = io::large_buffer();
-    let text: &mut [u8] = &mut lines;
-    let asked = asked_for();
-    let mut turns = u64::MAX;
-    while turns > 0 && one(room, output, text, asked) {
-        turns -= 1;
+// A proved loop has to end, and nothing says that standard input does: the turns are counted up to a number that no run reaches.
+fn main(rt: HostRuntime) -> io::Result<()> {
+    let mut input = rt.stdin();
+    let mut out = rt.stdout();
+    let mut space = [0u8; 65536];
+    let mut output = [0u8; 65536];
+    let mut text = [0u8; 65536];
+    let asked = asked_for(&rt);
+    for _ in 0..u64::MAX {
+        if !one(
+            &mut input,
+            &mut out,
+            &mut space,
+            &mut output,
+            &mut text,
+            asked,
+        )? {
+            break;
+        }
     }
+    Ok(())
 }

@@ -4,22 +4,16 @@
 
 #![tactic(auto)]
 
-ghost use Rattle.std.specs.Prelude.{◌≤◌};
-
-use libc::STDIN_FILENO;
+use frames::fill;
 use printing::{Asked, asked_for, print_asked};
-
-fn wide(byte: u8) -> u64
-    ensures { result ≤ 255 }
-{
-    byte as u64
-}
+use std::io;
+use std::io::{Read, Write};
 
 // How often: the first four bytes.
-fn times() -> u64 {
+fn times<R: Read>(input: &mut R) -> io::Result<u32> {
     let mut head = [0u8; 4];
-    io::read_full(STDIN_FILENO, &mut head);
-    wide(head[0]) * 16777216 + wide(head[1]) * 65536 + wide(head[2]) * 256 + wide(head[3])
+    fill(input, &mut head)?;
+    Ok(u32::from_be_bytes(head))
 }
 
 fn call(input: &[u8], output: &mut [u8], plain: bool, rounds: bool) {
@@ -31,22 +25,36 @@ fn call(input: &[u8], output: &mut [u8], plain: bool, rounds: bool) {
 }
 
 // Answers the block so many times, and once at least; the last answer is printed.
-fn repeat(input: &[u8], output: &mut [u8], text: &mut [u8], times: u64, asked: Asked) {
-    let mut left = times;
-    while 1 < left {
+fn repeat<W: Write>(
+    out: &mut W,
+    input: &[u8],
+    output: &mut [u8],
+    text: &mut [u8],
+    times: u32,
+    asked: Asked,
+) -> io::Result<()> {
+    for _ in 1..times {
         call(input, output, asked.plain, asked.rounds);
-        left -= 1;
     }
-    print_asked(input, output, text, asked);
+    print_asked(out, input, output, text, asked)
 }
 
 // "It reads at most 32,768 bytes of a block"
-fn main() {
-    let often = times();
+fn main(rt: HostRuntime) -> io::Result<()> {
+    let mut input = rt.stdin();
+    let mut out = rt.stdout();
+    let often = times(&mut input)?;
     let mut space = [0u8; 32768];
-    let length = io::read_full(STDIN_FILENO, &mut space);
+    let length = fill(&mut input, &mut space)?;
     let mut output = [0u8; 32768];
     let mut text = [0u8; 64578];
-    let asked = asked_for();
-    repeat(&space[..length], &mut output, &mut text, often, asked);
+    let asked = asked_for(&rt);
+    repeat(
+        &mut out,
+        &space[..length],
+        &mut output,
+        &mut text,
+        often,
+        asked,
+    )
 }

@@ -3,36 +3,31 @@
 
 #![tactic(auto)]
 
-use libc::STDOUT_FILENO;
-
-fn print_word(word: &[u8]) {
-    io::write_all(STDOUT_FILENO, word);
-}
-
-fn print_number(number: u64) {
-    io::print_decimal(STDOUT_FILENO, number);
-}
+use std::io;
+use std::io::Write;
 
 // `ADDED 3`, `WITHDRAWN 3`, or `REFUSED` and the number of the refusal.
-fn tell(word: &[u8], number: usize, refusal: u8) {
+fn tell<W: Write>(out: &mut W, word: &str, number: usize, refusal: u8) -> io::Result<()> {
     if refusal == 0 {
-        print_word(word);
-        print_number(number as u64);
+        writeln!(out, "{word} {number}")
     } else {
-        print_word(b"REFUSED ");
-        print_number(refusal as u64);
+        writeln!(out, "REFUSED {refusal}")
     }
-    print_word(b"\n");
 }
 
-pub fn add(words: &mut [u64], number: usize, block: &[u8]) {
+pub fn add<W: Write>(
+    out: &mut W,
+    words: &mut [u64],
+    number: usize,
+    block: &[u8],
+) -> io::Result<()> {
     let refusal = pool::add(words, number, block);
-    tell(b"ADDED ", number, refusal);
+    tell(out, "ADDED", number, refusal)
 }
 
-pub fn withdraw(words: &mut [u64], number: usize) {
+pub fn withdraw<W: Write>(out: &mut W, words: &mut [u64], number: usize) -> io::Result<()> {
     let refusal = pool::withdraw(words, number);
-    tell(b"WITHDRAWN ", number, refusal);
+    tell(out, "WITHDRAWN", number, refusal)
 }
 
 // ---- show: n, the numbers present, and of each slot the row of marks, the number of terms, 16 coefficients and 16 monomials
@@ -55,16 +50,12 @@ fn place(slot: usize, k: usize) -> usize {
     4354
 }
 
-fn wide(count: u32) -> u64 {
-    count as u64
-}
-
 // How many of a word's 32 marks there are.
-fn marks(word: u64) -> u64 {
-    wide(u32::count_ones((word % 4294967296) as u32))
+fn marks(word: u64) -> u32 {
+    ((word % 4294967296) as u32).count_ones()
 }
 
-fn has_mark(word: u64, number: u64) -> bool {
+fn has_mark(word: u64, number: u32) -> bool {
     if number < 32 {
         return (word >> number) % 2 == 1;
     }
@@ -72,53 +63,42 @@ fn has_mark(word: u64, number: u64) -> bool {
 }
 
 // How many blocks list the form of a slot.
-fn uses(words: &[u64], slot: usize) -> u64 {
+fn uses(words: &[u64], slot: usize) -> u32 {
     marks(word(words, place(slot, 0)))
 }
 
-fn forms(words: &[u64]) -> u64 {
-    let mut total = 0;
-    let mut slot = 0;
-    while slot < 128 {
-        let at = slot;
-        slot += 1;
-        if uses(words, at) > 0 {
-            total += 1;
-        }
-    }
-    total
+fn forms(words: &[u64]) -> usize {
+    (0..128).filter(|slot| uses(words, *slot) > 0).count()
 }
 
 // A number behind a comma, unless it is the first.
-fn print_listed(first: bool, number: u64) {
+fn print_listed<W: Write>(out: &mut W, first: bool, number: u32) -> io::Result<()> {
     if !first {
-        print_word(b",");
+        out.write_all(b",")?;
     }
-    print_number(number);
+    write!(out, "{number}")
 }
 
 // The numbers whose marks a word has, joined by commas.
-fn print_numbers(row: u64) {
+fn print_numbers<W: Write>(out: &mut W, row: u64) -> io::Result<()> {
     let mut first = true;
-    let mut number = 0;
-    while number < 32 {
-        let at = number;
-        number += 1;
-        if has_mark(row, at) {
-            print_listed(first, at);
+    for number in 0..32 {
+        if has_mark(row, number) {
+            print_listed(out, first, number)?;
             first = false;
         }
     }
+    Ok(())
 }
 
 // A coefficient in decimal: an even word is twice the number, an odd one twice the magnitude and one less.
-fn print_coefficient(word: u64) {
+fn print_coefficient<W: Write>(out: &mut W, word: u64) -> io::Result<()> {
+    let half = word / 2;
     if word % 2 == 0 {
-        print_number(word / 2);
-        return;
+        return write!(out, "{half}");
     }
-    print_word(b"-");
-    print_number(word / 2 + 1);
+    let magnitude = half + 1;
+    write!(out, "-{magnitude}")
 }
 
 // The exponent behind which so many variables' exponents stand, four bits each; 0 where there are more than fifteen.
@@ -130,67 +110,67 @@ fn exponent(monomial: u64, behind: u64) -> u64 {
 }
 
 // The exponents of so many variables in decimal, joined by dots, the first variable foremost.
-fn print_exponents(monomial: u64, variables: u64) {
-    let mut left = variables;
-    while left > 0 {
-        left -= 1;
-        print_number(exponent(monomial, left));
-        if left > 0 {
-            print_word(b".");
+fn print_exponents<W: Write>(out: &mut W, monomial: u64, variables: u64) -> io::Result<()> {
+    for behind in (0..variables).rev() {
+        let degree = exponent(monomial, behind);
+        write!(out, "{degree}")?;
+        if behind > 0 {
+            out.write_all(b".")?;
         }
     }
+    Ok(())
 }
 
-fn print_term(words: &[u64], slot: usize, i: usize, variables: u64) {
+fn print_term<W: Write>(
+    out: &mut W,
+    words: &[u64],
+    slot: usize,
+    i: usize,
+    variables: u64,
+) -> io::Result<()> {
     if i < 16 {
-        print_word(b" ");
-        print_coefficient(word(words, place(slot, 2 + i)));
-        print_word(b":");
-        print_exponents(word(words, place(slot, 18 + i)), variables);
+        out.write_all(b" ")?;
+        print_coefficient(out, word(words, place(slot, 2 + i)))?;
+        out.write_all(b":")?;
+        print_exponents(out, word(words, place(slot, 18 + i)), variables)?;
     }
+    Ok(())
 }
 
-fn print_form(words: &[u64], slot: usize) {
+fn print_form<W: Write>(out: &mut W, words: &[u64], slot: usize) -> io::Result<()> {
     let variables = word(words, 0);
     let count = word(words, place(slot, 1));
-    let mut i = 0;
-    while i < 16 {
-        if i < count {
-            print_term(words, slot, i as usize, variables);
+    for i in 0..16 {
+        if (i as u64) < count {
+            print_term(out, words, slot, i, variables)?;
         }
-        i += 1;
     }
+    Ok(())
 }
 
 // The slot, the use count, the numbers of its blocks joined by commas, and the form.
-fn print_slot(words: &[u64], slot: usize) {
-    print_number(slot as u64);
-    print_word(b" ");
-    print_number(uses(words, slot));
-    print_word(b" ");
-    print_numbers(word(words, place(slot, 0)));
-    print_form(words, slot);
-    print_word(b"\n");
+fn print_slot<W: Write>(out: &mut W, words: &[u64], slot: usize) -> io::Result<()> {
+    let count = uses(words, slot);
+    write!(out, "{slot} {count} ")?;
+    print_numbers(out, word(words, place(slot, 0)))?;
+    print_form(out, words, slot)?;
+    out.write_all(b"\n")
 }
 
 // A line for each form in slot order.
-fn print_slots(words: &[u64]) {
-    let mut slot = 0;
-    while slot < 128 {
-        let at = slot;
-        slot += 1;
-        if uses(words, at) > 0 {
-            print_slot(words, at);
+fn print_slots<W: Write>(out: &mut W, words: &[u64]) -> io::Result<()> {
+    for slot in 0..128 {
+        if uses(words, slot) > 0 {
+            print_slot(out, words, slot)?;
         }
     }
+    Ok(())
 }
 
 // `FORMS k BLOCKS b`, then the forms.
-pub fn show(words: &[u64]) {
-    print_word(b"FORMS ");
-    print_number(forms(words));
-    print_word(b" BLOCKS ");
-    print_number(marks(word(words, 1)));
-    print_word(b"\n");
-    print_slots(words);
+pub fn show<W: Write>(out: &mut W, words: &[u64]) -> io::Result<()> {
+    let count = forms(words);
+    let blocks = marks(word(words, 1));
+    writeln!(out, "FORMS {count} BLOCKS {blocks}")?;
+    print_slots(out, words)
 }

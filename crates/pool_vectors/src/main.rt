@@ -4,64 +4,60 @@
 #![tactic(auto)]
 
 use frames::Kind;
-use libc::STDOUT_FILENO;
-
-fn clear(words: &mut [u64]) {
-    let mut i = 0;
-    while i < words.len() {
-        words[i] = 0;
-        i += 1;
-    }
-}
-
-fn wide(byte: u8) -> usize {
-    byte as usize
-}
+use std::io;
+use std::io::{Read, Write};
 
 // One call.
-fn run(words: &mut [u64], frame: &[u8]) {
+fn run<W: Write>(out: &mut W, words: &mut [u64], frame: &[u8]) -> io::Result<()> {
     if frame.len() < 2 {
-        io::write_all(STDOUT_FILENO, b"NO CALL\n");
-        return;
+        return out.write_all(b"NO CALL\n");
     }
-    let number = wide(frame[1]);
+    let number = frame[1] as usize;
     match frame[0] {
-        0 => clear(words),
-        1 => pool_telling::add(words, number, &frame[2..]),
-        2 => pool_telling::withdraw(words, number),
-        3 => pool_telling::show(words),
-        _ => {
-            io::write_all(STDOUT_FILENO, b"NO CALL\n");
+        0 => {
+            words.fill(0);
+            Ok(())
         }
+        1 => pool_telling::add(out, words, number, &frame[2..]),
+        2 => pool_telling::withdraw(out, words, number),
+        3 => pool_telling::show(out, words),
+        _ => out.write_all(b"NO CALL\n"),
     }
 }
 
 // One frame; whether there may be more.
-fn one(words: &mut [u64], space: &mut [u8]) -> bool {
-    let frame = frames::next(space);
+fn one<R: Read, W: Write>(
+    input: &mut R,
+    out: &mut W,
+    words: &mut [u64],
+    space: &mut [u8],
+) -> io::Result<bool> {
+    let frame = frames::next(input, space)?;
     let n = frame.length;
     let kind = frame.kind;
     match kind {
         Kind::Block => {
-            run(words, &space[..n]);
-            true
+            run(out, words, &space[..n])?;
+            Ok(true)
         }
         Kind::CutOff => {
-            io::write_all(STDOUT_FILENO, b"CUT OFF\n");
-            false
+            out.write_all(b"CUT OFF\n")?;
+            Ok(false)
         }
-        Kind::End => false,
+        Kind::End => Ok(false),
     }
 }
 
-// A proved loop has to end, and nothing says that standard input does: the turns are counted down from a number that no run uses up.
-fn main() {
-    let mut space = io::large_buffer();
-    let room: &mut [u8] = &mut space;
-    let mut pool = [0u64; 4354];
-    let words: &mut [u64] = &mut pool;
-    let mut turns = u64::MAX;
-    while turns > 0 && one(words, room) {
-        turns -= 1;
+// A proved loop has to end, and nothing says that standard input does: the turns are counted up to a number that no run reaches.
+fn main(rt: HostRuntime) -> io::Result<()> {
+    let mut input = rt.stdin();
+    let mut out = rt.stdout();
+    let mut space = [0u8; 65536];
+    let mut words = [0u64; 4354];
+    for _ in 0..u64::MAX {
+        if !one(&mut input, &mut out, &mut words, &mut space)? {
+            break;
+        }
     }
+    Ok(())
 }

@@ -4,43 +4,44 @@
 #![tactic(auto)]
 
 use frames::Kind;
-use libc::STDOUT_FILENO;
+use std::io;
+use std::io::{Read, Write};
 
-fn tell(refusal: u8) {
+fn tell<W: Write>(out: &mut W, refusal: u8) -> io::Result<()> {
     if refusal == 0 {
-        io::write_all(STDOUT_FILENO, b"ACCEPTED\n");
-        return;
+        return out.write_all(b"ACCEPTED\n");
     }
-    io::write_all(STDOUT_FILENO, b"REFUSED ");
-    io::print_decimal(STDOUT_FILENO, refusal as u64);
-    io::write_all(STDOUT_FILENO, b"\n");
+    writeln!(out, "REFUSED {refusal}")
 }
 
 // One frame; whether there may be more.
-fn one(space: &mut [u8]) -> bool {
-    let frame = frames::next(space);
+fn one<R: Read, W: Write>(input: &mut R, out: &mut W, space: &mut [u8]) -> io::Result<bool> {
+    let frame = frames::next(input, space)?;
     let n = frame.length;
     let kind = frame.kind;
     match kind {
         Kind::Block => {
             let outcome = block::read(&space[..n]);
-            tell(outcome.refusal);
-            true
+            tell(out, outcome.refusal)?;
+            Ok(true)
         }
         Kind::CutOff => {
-            io::write_all(STDOUT_FILENO, b"CUT OFF\n");
-            false
+            out.write_all(b"CUT OFF\n")?;
+            Ok(false)
         }
-        Kind::End => false,
+        Kind::End => Ok(false),
     }
 }
 
-// A proved loop has to end, and nothing says that standard input does: the turns are counted down from a number that no run uses up.
-fn main() {
-    let mut space = io::large_buffer();
-    let room: &mut [u8] = &mut space;
-    let mut turns = u64::MAX;
-    while turns > 0 && one(room) {
-        turns -= 1;
+// A proved loop has to end, and nothing says that standard input does: the turns are counted up to a number that no run reaches.
+fn main(rt: HostRuntime) -> io::Result<()> {
+    let mut input = rt.stdin();
+    let mut out = rt.stdout();
+    let mut space = [0u8; 65536];
+    for _ in 0..u64::MAX {
+        if !one(&mut input, &mut out, &mut space)? {
+            break;
+        }
     }
+    Ok(())
 }

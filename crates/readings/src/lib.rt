@@ -150,10 +150,8 @@ pub fn taken(line: Line, byte: u8, readings: &mut [i32]) -> Line {
 // The bytes of a word, one after the other, and a space behind it.
 pub fn word_taken(line: Line, word: &[u8], numbers: &mut [i32]) -> Line {
     let mut next = line;
-    let mut i = 0;
-    while i < word.len() {
-        next = taken(next, word[i], numbers);
-        i += 1;
+    for byte in word {
+        next = taken(next, *byte, numbers);
     }
     taken(next, b' ', numbers)
 }
@@ -169,23 +167,9 @@ pub fn over(line: Line, readings: &mut [i32]) -> usize {
 
 // Whether a word is a whole number, of however many bits.
 pub fn is_whole(word: &[u8]) -> bool {
-    let mut i = 0;
-    if 0 < word.len() {
-        if word[0] == b'-' {
-            i = 1;
-        }
-    }
-    if word.len() <= i {
-        return false;
-    }
-    while i < word.len() {
-        if word[i] < b'0' {
-            return false;
-        }
-        if b'9' < word[i] {
-            return false;
-        }
-        i += 1;
-    }
-    true
+    let digits = match word.split_first() {
+        Some((first, rest)) if *first == b'-' => rest,
+        _ => word,
+    };
+    !digits.is_empty() && digits.iter().all(|byte| byte.is_ascii_digit())
 }

@@ -13,9 +13,10 @@ ghost use Rattle.rounds.specs.Run.{NonVariable};
 use block::Held;
 use forms::WorkingTable;
 use frames::Kind;
-use libc::STDOUT_FILENO;
 use round::State;
 use round::list::many;
+use std::io;
+use std::io::{Read, Write};
 use table::Atoms;
 
 // The list: the tokens behind the AND.
@@ -38,18 +39,13 @@ fn list_of(held: Held) -> Atoms {
     }
 }
 
-fn tell_set(set: u8) {
-    io::print_decimal(STDOUT_FILENO, set as u64);
-}
-
 // So many sets as digits, behind a space.
-fn tell_sets(sets: &[u8], count: usize) {
-    io::write_all(STDOUT_FILENO, b" ");
-    let mut i = 0;
-    while i < count && i < sets.len() {
-        tell_set(sets[i]);
-        i += 1;
+fn tell_sets<W: Write>(out: &mut W, sets: &[u8], count: usize) -> io::Result<()> {
+    out.write_all(b" ")?;
+    for set in sets.iter().take(count) {
+        write!(out, "{set}")?;
     }
+    Ok(())
 }
 
 // What a settled state says of the block's polynomials.
@@ -95,7 +91,14 @@ fn said(table: WorkingTable, variables: usize, state: State, polynomials: usize)
 }
 
 // The sets on the board, those that the atoms of the list carry, and what the list says of the block's polynomials.
-fn tell_state(table: WorkingTable, variables: usize, list: Atoms, state: State, polynomials: usize)
+fn tell_state<W: Write>(
+    out: &mut W,
+    table: WorkingTable,
+    variables: usize,
+    list: Atoms,
+    state: State,
+    polynomials: usize,
+) -> io::Result<()>
     requires { let t = table_of variables table in
         Forms t × ((state.board.variables ≡ variables) × (NonVariable t list state.atoms × Settled variables (state_of t state))) }
 {
@@ -104,15 +107,15 @@ fn tell_state(table: WorkingTable, variables: usize, list: Atoms, state: State, 
     let terms = table.terms;
     let board = state.board;
     let sets = board.sets;
-    tell_sets(&sets, variables);
+    tell_sets(out, &sets, variables)?;
     let carried = settled::carried(&coefficient, &monomial, &terms, variables, list, state);
     let carried_sets = carried.set;
-    tell_sets(&carried_sets, carried.count);
+    tell_sets(out, &carried_sets, carried.count)?;
     let said_sets = said(table, variables, state, polynomials);
-    tell_sets(&said_sets, polynomials);
+    tell_sets(out, &said_sets, polynomials)
 }
 
-fn tell_rounds(held: Held)
+fn tell_rounds<W: Write>(out: &mut W, held: Held) -> io::Result<()>
     requires { TableRead held.coefficient held.monomial held.terms held.polynomials held.variables }
 {
     let variables = held.variables;
@@ -133,48 +136,51 @@ fn tell_rounds(held: Held)
         list,
     );
     let state = ran.state;
-    io::print_decimal(STDOUT_FILENO, ran.begun as u64);
+    let begun = ran.begun;
+    write!(out, "{begun}")?;
     if ran.contradiction {
-        io::write_all(STDOUT_FILENO, b" CONTRADICTION");
+        out.write_all(b" CONTRADICTION")?;
     } else {
-        tell_state(table, variables, list, state, polynomials);
+        tell_state(out, table, variables, list, state, polynomials)?;
     }
-    io::write_all(STDOUT_FILENO, b"\n");
+    out.write_all(b"\n")
 }
 
-fn tell(block: &[u8]) {
+fn tell<W: Write>(out: &mut W, block: &[u8]) -> io::Result<()> {
     let outcome = block::read(block);
     if outcome.refusal != 0 {
-        io::write_all(STDOUT_FILENO, b"REFUSED\n");
-        return;
+        return out.write_all(b"REFUSED\n");
     }
-    tell_rounds(outcome.held);
+    tell_rounds(out, outcome.held)
 }
 
 // One frame; whether there may be more.
-fn one(space: &mut [u8]) -> bool {
-    let frame = frames::next(space);
+fn one<R: Read, W: Write>(input: &mut R, out: &mut W, space: &mut [u8]) -> io::Result<bool> {
+    let frame = frames::next(input, space)?;
     let n = frame.length;
     let kind = frame.kind;
     match kind {
         Kind::Block => {
-            tell(&space[..n]);
-            true
+            tell(out, &space[..n])?;
+            Ok(true)
         }
         Kind::CutOff => {
-            io::write_all(STDOUT_FILENO, b"CUT OFF\n");
-            false
+            out.write_all(b"CUT OFF\n")?;
+            Ok(false)
         }
-        Kind::End => false,
+        Kind::End => Ok(false),
     }
 }
 
-// A proved loop has to end, and nothing says that standard input does: the turns are counted down from a number that no run uses up.
-fn main() {
-    let mut space = io::large_buffer();
-    let room: &mut [u8] = &mut space;
-    let mut turns = u64::MAX;
-    while turns > 0 && one(room) {
-        turns -= 1;
+// A proved loop has to end, and nothing says that standard input does: the turns are counted up to a number that no run reaches.
+fn main(rt: HostRuntime) -> io::Result<()> {
+    let mut input = rt.stdin();
+    let mut out = rt.stdout();
+    let mut space = [0u8; 65536];
+    for _ in 0..u64::MAX {
+        if !one(&mut input, &mut out, &mut space)? {
+            break;
+        }
     }
+    Ok(())
 }

@@ -33,8 +33,8 @@ use Rattle.script_back.specs.declared.declarations.Declared.TheVariants.{Stopped
 use Rattle.script_back.specs.declared.tree.Place.{Place}
 use Rattle.script_back.specs.declared.tree.Branch.{Branch}
 use Rattle.script_back.specs.declared.tree.Branch.TheVariants.{Stopped as NoBranch, Read as IsBranch}
-use Rattle.script_back.specs.declared.whole.Script.{Script}
-use Rattle.script_back.specs.declared.whole.Script.TheVariants.{Stopped, Numbers}
+use Rattle.script_back.specs.declared.whole_script.Script.{Script}
+use Rattle.script_back.specs.declared.whole_script.Script.TheVariants.{Stopped, Numbers}
 use Rattle.script_back.proofs.Positions.{say-then, byte_at, first_byte}
 use Rattle.script_back.proofs.Tokens.{each-nodes}
 use Rattle.script_back.proofs.Walk.{found-mapped, found-same}

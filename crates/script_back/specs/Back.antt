@@ -23,8 +23,8 @@ use Rattle.script_back.specs.Whole.{BlockStored, ScriptBy, Scripts, ScriptFound}
 use Rattle.script_back.specs.declared.Outcome.{Outcome}
 use Rattle.script_back.specs.declared.Outcome.TheVariants.{Stopped, Read}
 use Rattle.script_back.specs.declared.Reading.{Reading}
-use Rattle.script_back.specs.declared.whole.Script.{Script}
-use Rattle.script_back.specs.declared.whole.Script.TheVariants.{Stopped as NoScript, Numbers}
+use Rattle.script_back.specs.declared.whole_script.Script.{Script}
+use Rattle.script_back.specs.declared.whole_script.Script.TheVariants.{Stopped as NoScript, Numbers}
 
 pub data Back : Type 0 where
   stops_at : ℕ → Back

@@ -17,8 +17,8 @@ use Rattle.script_back.specs.declared.declarations.Declared.{Declared}
 use Rattle.script_back.specs.declared.declarations.Declared.TheVariants.{Stopped as NotDeclared, Read as IsDeclared}
 use Rattle.script_back.specs.declared.tree.Place.{Place}
 use Rattle.script_back.specs.declared.tree.Branch.{Branch}
-use Rattle.script_back.specs.declared.whole.Script.{Script}
-use Rattle.script_back.specs.declared.whole.Script.TheVariants.{Stopped, Numbers}
+use Rattle.script_back.specs.declared.whole_script.Script.{Script}
+use Rattle.script_back.specs.declared.whole_script.Script.TheVariants.{Stopped, Numbers}
 
 -- ---- declarations
 

@@ -13,15 +13,15 @@ ghost use Rattle.script_back.specs.Back.{GivesBack, reading_of};
 
 use block::Held;
 use convert::{Converted, to_edition1};
-use whole::{Script, read_into};
+use whole_script::{Script, read_into};
 use writer::write;
 
 mod declarations; // from the logic to the assertion
-mod exported; // the entry for C
+pub mod exported; // the entry for C
 mod opening; // what a node begins with
 mod runs; // bytes that must stand at a position
 mod tree; // nodes and their children
-mod whole; // the root, the end, the whole text
+mod whole_script; // the root, the end, the whole text
 
 // What reading a script gives: 25 and the position where the text stopped, and nothing held; or 0, and what the block holds, as `block::read` gives it.
 #[derive(Clone, Copy)]

@@ -10,10 +10,10 @@ pub mod bytes; // a byte, and a run of bytes
 mod numbers; // numbers of either sign
 mod products; // a number and its factors
 mod sums; // terms and polynomials
-mod table; // the known polynomials
+mod tabled; // the known polynomials
 
 use sums::{Sum, read_polynomial};
-use table::{find, longest, store};
+use tabled::{find, longest, store};
 
 // What reading the polynomial of an atom finds: the position where it stopped; or its number in the table, how many polynomials the table has
 // with it, and the position behind it and its space.

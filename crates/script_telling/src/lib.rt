@@ -4,50 +4,40 @@
 #![tactic(auto)]
 
 use convert::Converted;
-use libc::STDOUT_FILENO;
 use lines::put_hex;
 use script_back::{Outcome, block_of};
+use std::io;
+use std::io::Write;
 
 // A block in lower-case hex pairs, one space apart. None has more than 21,516 bytes.
-fn print_block(block: &[u8]) {
+fn print_block<W: Write>(out: &mut W, block: &[u8]) -> io::Result<()> {
     if block.len() <= 21516 {
-        let mut line = io::large_buffer();
+        let mut line = [0u8; 65536];
         let end = put_hex(&mut line, 0, block);
         if end <= line.len() {
-            io::write_all(STDOUT_FILENO, &line[..end]);
+            out.write_all(&line[..end])?;
         }
     }
-    io::write_all(STDOUT_FILENO, b"\n");
+    out.write_all(b"\n")
 }
 
-fn wide(number: u8) -> u64 {
-    number as u64
-}
-
-fn print_converted(converted: Converted, output: &[u8]) {
+fn print_converted<W: Write>(out: &mut W, converted: Converted, output: &[u8]) -> io::Result<()> {
     match converted {
-        Converted::Refused(number) => {
-            io::write_all(STDOUT_FILENO, b"REFUSED ");
-            io::print_decimal(STDOUT_FILENO, wide(number));
-            io::write_all(STDOUT_FILENO, b"\n");
-        }
+        Converted::Refused(number) => writeln!(out, "REFUSED {number}"),
         Converted::Finished(size) => {
             if size <= output.len() {
-                print_block(&output[..size]);
+                print_block(out, &output[..size])?;
             }
+            Ok(())
         }
     }
 }
 
 // The block of a script as a line of hex pairs, or `REFUSED 25 p`, p the position.
-pub fn tell(text: &[u8], output: &mut [u8]) {
+pub fn tell<W: Write>(out: &mut W, text: &[u8], output: &mut [u8]) -> io::Result<()> {
     let outcome = block_of(text, output);
     match outcome {
-        Outcome::Stopped(position) => {
-            io::write_all(STDOUT_FILENO, b"REFUSED 25 ");
-            io::print_decimal(STDOUT_FILENO, position as u64);
-            io::write_all(STDOUT_FILENO, b"\n");
-        }
-        Outcome::Read(converted) => print_converted(converted, output),
+        Outcome::Stopped(position) => writeln!(out, "REFUSED 25 {position}"),
+        Outcome::Read(converted) => print_converted(out, converted, output),
     }
 }

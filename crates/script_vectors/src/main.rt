@@ -5,8 +5,10 @@
 
 ghost use Rattle.std.specs.Prelude.{◌≡◌, ◌≤◌, length};
 
-use libc::{STDIN_FILENO, STDOUT_FILENO};
+use frames::fill;
 use script_telling::tell;
+use std::io;
+use std::io::{Read, Write};
 
 fn wide(byte: u8) -> usize
     ensures { result ≤ 255 }
@@ -22,41 +24,48 @@ fn blank() -> [u8; 2024783]
 }
 
 // Whether a text was read into the start of the space and told; else the stream ends or is cut off.
-fn one(space: &mut [u8], output: &mut [u8]) -> bool {
+fn one<R: Read, W: Write>(
+    input: &mut R,
+    out: &mut W,
+    space: &mut [u8],
+    output: &mut [u8],
+) -> io::Result<bool> {
     let mut head = [0u8; 4];
-    let got = io::read_full(STDIN_FILENO, &mut head);
+    let got = fill(input, &mut head)?;
     if got == 0 {
-        return false;
+        return Ok(false);
     }
     let size = wide(head[0]) * 16777216
         + wide(head[1]) * 65536
         + wide(head[2]) * 256
         + wide(head[3]);
     if got < 4 {
-        io::write_all(STDOUT_FILENO, b"CUT OFF\n");
-        return false;
+        out.write_all(b"CUT OFF\n")?;
+        return Ok(false);
     }
     if space.len() < size {
-        io::write_all(STDOUT_FILENO, b"CUT OFF\n");
-        return false;
+        out.write_all(b"CUT OFF\n")?;
+        return Ok(false);
     }
-    let had = io::read_full(STDIN_FILENO, &mut space[..size]);
+    let had = fill(input, &mut space[..size])?;
     if had < size {
-        io::write_all(STDOUT_FILENO, b"CUT OFF\n");
-        return false;
+        out.write_all(b"CUT OFF\n")?;
+        return Ok(false);
     }
-    tell(&space[..size], output);
-    true
+    tell(out, &space[..size], output)?;
+    Ok(true)
 }
 
-// A proved loop has to end, and nothing says that standard input does: the turns are counted down from a number that no run uses up.
-fn main() {
-    let mut text = blank();
-    let space: &mut [u8] = &mut text;
-    let mut room = io::large_buffer();
-    let output: &mut [u8] = &mut room;
-    let mut turns = u64::MAX;
-    while turns > 0 && one(space, output) {
-        turns -= 1;
+// A proved loop has to end, and nothing says that standard input does: the turns are counted up to a number that no run reaches.
+fn main(rt: HostRuntime) -> io::Result<()> {
+    let mut input = rt.stdin();
+    let mut out = rt.stdout();
+    let mut space = blank();
+    let mut output = [0u8; 65536];
+    for _ in 0..u64::MAX {
+        if !one(&mut input, &mut out, &mut space, &mut output)? {
+            break;
+        }
     }
+    Ok(())
 }

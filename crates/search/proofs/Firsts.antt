@@ -1,6 +1,6 @@
 -- The first finding that changes a set: what it leaves is another set, and where no finding changes one it is the set itself.
 -- So a search that has found nothing so far, and the first thing that it finds.
-use mathlib.Core.Path.{◌≡◌, refl, sym, ap, ◌∙◌}
+use mathlib.Core.Path.{◌≡◌, refl, sym, subst, ap, ◌∙◌}
 use mathlib.Core.Bool.{false, true≢false}
 use mathlib.Core.List.{List, [], ◌∷◌, ◌++◌}
 use mathlib.Core.Option.{Option, none, some}
@@ -114,13 +114,17 @@ module _ (t : Table) (numbers : List ℕ) (sets : List SignSet) (board : Board) 
   atoms-first i zero d e a b idle f = absurd (omega arith)
   atoms-first i (suc k) zero {cut} e a b idle f =
       let here : i + 0 ≡ i = omega arith in
-      simp here (rw (later-at i k e (rw here at f), get_or-set_same sets i cut 0 (omega arith), set-later t numbers sets (suc i) k i cut (omega arith)))
+      subst (λ (p : ℕ). search_atoms board (atoms_from t numbers sets 0 i) (atoms_from t numbers sets i (suc k))
+      ≡ some (atoms_from t numbers (set sets p cut) i (suc k))) (sym here)
+      (rw (later-at i k e (rw here at f), get_or-set_same sets i cut 0 (omega arith), set-later t numbers sets (suc i) k i cut (omega arith)))
   atoms-first i (suc k) (suc d) {cut} e a b idle f =
       let next : i + suc d ≡ suc i + d = omega arith in
       let rest = rw (before-next t numbers sets i) at
       (atoms-first (suc i) k d (omega arith) (omega arith) (omega arith) (λ j h l. idle j (omega arith) (omega arith)) (rw next at f)) in
       let other : i ≡ suc i + d → ⊥ = λ q. omega arith in
-      rw (next, later-at i k e (idle i (omega arith) (omega arith)), get_or-set_other sets (suc i + d) i cut 0 other, rest)
+      subst (λ (p : ℕ). search_atoms board (atoms_from t numbers sets 0 i) (atoms_from t numbers sets i (suc k))
+      ≡ some (atoms_from t numbers (set sets p cut) i (suc k))) (sym next)
+      (rw (later-at i k e (idle i (omega arith) (omega arith)), get_or-set_other sets (suc i + d) i cut 0 other, rest))
 
   pub first-of-atoms : (j : ℕ) {cut : SignSet} → j < n → j < length sets → ((m : ℕ) → m < j → first_at t numbers sets board n m ≡ none)
       → first_at t numbers sets board n j ≡ some cut

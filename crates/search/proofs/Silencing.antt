@@ -1,5 +1,5 @@
 -- The full set stored at one place of a list of atoms: what is left to be tried are the others.
-use mathlib.Core.Path.{◌≡◌, refl}
+use mathlib.Core.Path.{◌≡◌, refl, sym, subst}
 use mathlib.Core.List.{List, ◌++◌}
 use mathlib.Core.Logic.{◌⊎◌, inl, inr}
 use Prim.Native.Nat.{ℕ, zero, suc, ◌+◌, ◌-◌, ◌<◌}
@@ -34,13 +34,17 @@ module _ (t : Table) (numbers : List ℕ) (sets : List SignSet) where
       let left : suc k - (0 + 1) ≡ k = omega arith in
       let later : Quieted (atoms_from t numbers (set sets b full) (suc b) k) (atoms_from t numbers sets (suc b) k) =
       rw (set-later t numbers sets (suc b) k b full (omega arith)) (quieted-same (atoms_from t numbers sets (suc b) k)) in
-      simp here (rw (left, add-one b) (silent _ (get_or-set_same sets b full 0 (omega arith)) later))
+      subst (λ (p : ℕ). Quieted (atoms_from t numbers (set sets p full) b (suc k))
+      (atoms_from t numbers sets b 0 ++ atoms_from t numbers sets (p + 1) (suc k - (0 + 1)))) (sym here)
+      (rw (left, add-one b) (silent _ (get_or-set_same sets b full 0 (omega arith)) later))
   quieted-from b (suc k) (suc d) h low =
       let next : b + suc d ≡ suc b + d = omega arith in
       let left : suc k - (suc d + 1) ≡ k - (d + 1) = omega arith in
       let other : b ≡ suc b + d → ⊥ = λ q. omega arith in
-      rw (next, left, get_or-set_other sets (suc b + d) b full 0 other)
-      (kept (atom_at t numbers sets b) (quieted-from (suc b) k d (omega arith) (omega arith)))
+      subst (λ (p : ℕ). Quieted (atoms_from t numbers (set sets p full) b (suc k))
+      (atoms_from t numbers sets b (suc d) ++ atoms_from t numbers sets (p + 1) (suc k - (suc d + 1)))) (sym next)
+      (rw (left, get_or-set_other sets (suc b + d) b full 0 other)
+      (kept (atom_at t numbers sets b) (quieted-from (suc b) k d (omega arith) (omega arith))))
 
 -- the atom at i silenced
 pub silenced-at : (a : Atoms) (i : ℕ) → i < many a.count → i < length a.set

@@ -3,29 +3,26 @@
 #![tactic(auto)]
 
 use evaluate::{Evaluation, evaluate};
-use libc::STDOUT_FILENO;
+use std::io;
+use std::io::Write;
 
-fn tell(evaluation: Evaluation) {
+fn tell<W: Write>(out: &mut W, evaluation: Evaluation) -> io::Result<()> {
     match evaluation {
-        Evaluation::Refused(number) => {
-            io::write_all(STDOUT_FILENO, b"REFUSED ");
-            io::print_decimal(STDOUT_FILENO, number as u64);
-            io::write_all(STDOUT_FILENO, b"\n");
-        }
-        Evaluation::Deny => {
-            io::write_all(STDOUT_FILENO, b"DENY\n");
-        }
-        Evaluation::Permit => {
-            io::write_all(STDOUT_FILENO, b"PERMIT\n");
-        }
+        Evaluation::Refused(number) => writeln!(out, "REFUSED {number}"),
+        Evaluation::Deny => out.write_all(b"DENY\n"),
+        Evaluation::Permit => out.write_all(b"PERMIT\n"),
     }
 }
 
 // Runs the block on the first `count` readings. More than there are stand for readings of no number: no block has so few, which is 16 after the reader's.
-pub fn answer(block: &[u8], readings: &[i32], count: usize) {
+pub fn answer<W: Write>(
+    out: &mut W,
+    block: &[u8],
+    readings: &[i32],
+    count: usize,
+) -> io::Result<()> {
     if count <= readings.len() {
-        tell(evaluate(block, &readings[..count]));
-        return;
+        return tell(out, evaluate(block, &readings[..count]));
     }
-    tell(evaluate(block, &readings[..0]));
+    tell(out, evaluate(block, &readings[..0]))
 }

@@ -4,38 +4,28 @@
 #![tactic(auto)]
 
 use block::{Contents, read_into};
-use libc::STDOUT_FILENO;
 use reasons::{Found, Reason, record};
+use std::io;
+use std::io::Write;
 use why::Outcome;
 use why::reading::explained;
-
-fn print_word(word: &[u8]) {
-    io::write_all(STDOUT_FILENO, word);
-}
-
-fn print_number(number: u64) {
-    io::print_decimal(STDOUT_FILENO, number);
-}
-
-fn wide(byte: u8) -> u64 {
-    byte as u64
-}
 
 // ---- the line of a record
 
 // "sets as < = <= > != >="
-fn print_set(set: u8, mirrored: bool) {
+fn print_set<W: Write>(out: &mut W, set: u8, mirrored: bool) -> io::Result<()> {
     match set {
-        1 => print_word(b" >"),
-        2 => print_word(b" ="),
-        3 => print_word(b" >="),
-        4 => print_word(b" <"),
-        5 => print_word(b" !="),
-        _ => print_word(b" <="),
+        1 => out.write_all(b" >")?,
+        2 => out.write_all(b" =")?,
+        3 => out.write_all(b" >=")?,
+        4 => out.write_all(b" <")?,
+        5 => out.write_all(b" !=")?,
+        _ => out.write_all(b" <=")?,
     }
     if mirrored {
-        print_word(b" MIRRORED");
+        out.write_all(b" MIRRORED")?;
     }
+    Ok(())
 }
 
 fn has_bit(word: u64, k: usize) -> bool {
@@ -54,63 +44,55 @@ fn has_place(places: [u64; 4], place: usize) -> bool {
 }
 
 // A place behind a space, the first behind the word BY.
-fn print_named(first: bool, place: u64) {
+fn print_named<W: Write>(out: &mut W, first: bool, place: usize) -> io::Result<()> {
     if first {
-        print_word(b" BY");
+        out.write_all(b" BY")?;
     }
-    print_word(b" ");
-    print_number(place);
+    write!(out, " {place}")
 }
 
 // The places that are named, rising.
-fn print_places(places: [u64; 4]) {
+fn print_places<W: Write>(out: &mut W, places: [u64; 4]) -> io::Result<()> {
     let mut first = true;
-    let mut place = 0;
-    while place < 256 {
-        let at = place;
-        place += 1;
-        if has_place(places, at) {
-            print_named(first, at as u64);
+    for place in 0..256 {
+        if has_place(places, place) {
+            print_named(out, first, place)?;
             first = false;
         }
     }
+    Ok(())
 }
 
 // "REMOVED without BY: its terms alone say so; without a set: a true constant, or all signs allowed."
-fn print_removed(reason: Reason, mirrored: bool) {
-    print_word(b" REMOVED");
+fn print_removed<W: Write>(out: &mut W, reason: Reason, mirrored: bool) -> io::Result<()> {
+    out.write_all(b" REMOVED")?;
     if reason.set < 7 {
-        print_set(reason.set, mirrored);
+        print_set(out, reason.set, mirrored)?;
     }
-    let places = reason.places;
-    print_places(places);
+    print_places(out, reason.places)
 }
 
-fn print_false(reason: Reason) {
-    print_word(b" FALSE");
-    let places = reason.places;
-    print_places(places);
+fn print_false<W: Write>(out: &mut W, reason: Reason) -> io::Result<()> {
+    out.write_all(b" FALSE")?;
+    print_places(out, reason.places)
 }
 
-fn print_reason(reason: Reason, mirrored: bool) {
-    let kind = reason.kind;
-    match kind {
+fn print_reason<W: Write>(out: &mut W, reason: Reason, mirrored: bool) -> io::Result<()> {
+    let place = reason.place;
+    match reason.kind {
         1 => {
-            print_word(b" KEPT");
-            print_set(reason.set, mirrored);
+            out.write_all(b" KEPT")?;
+            print_set(out, reason.set, mirrored)?;
         }
         2 => {
-            print_word(b" NARROWED");
-            print_set(reason.set, mirrored);
+            out.write_all(b" NARROWED")?;
+            print_set(out, reason.set, mirrored)?;
         }
-        3 => {
-            print_word(b" MERGED ");
-            print_number(wide(reason.place));
-        }
-        4 => print_removed(reason, mirrored),
-        _ => print_false(reason),
+        3 => write!(out, " MERGED {place}")?,
+        4 => print_removed(out, reason, mirrored)?,
+        _ => print_false(out, reason)?,
     }
-    print_word(b"\n");
+    out.write_all(b"\n")
 }
 
 // ---- the head line: "verdict word, atoms in, atoms kept"
@@ -131,43 +113,31 @@ fn is_kept(kind: u8) -> bool {
 }
 
 // How many records are kept or narrowed.
-fn count_kept(found: Found) -> u64 {
-    let mut kept = 0;
-    let mut i = 0;
-    while i < 255 {
-        let at = i;
-        i += 1;
-        if at < found.count {
-            if is_kept(kind_at(found, at)) {
-                kept += 1;
-            }
-        }
-    }
-    kept
+fn count_kept(found: Found) -> usize {
+    (0..255)
+        .filter(|at| *at < found.count && is_kept(kind_at(found, *at)))
+        .count()
 }
 
 // The whole is false in every record, or in none.
-fn print_verdict(found: Found, kept: u64) {
+fn print_verdict<W: Write>(out: &mut W, found: Found, kept: usize) -> io::Result<()> {
     if 0 < found.count {
         if kind_at(found, 0) == 5 {
-            print_word(b"UNSATISFIABLE ");
-            return;
+            return out.write_all(b"UNSATISFIABLE ");
         }
     }
     if kept == 0 {
-        print_word(b"ALWAYS ");
+        out.write_all(b"ALWAYS ")
     } else {
-        print_word(b"FORMULA ");
+        out.write_all(b"FORMULA ")
     }
 }
 
-fn print_head(found: Found) {
+fn print_head<W: Write>(out: &mut W, found: Found) -> io::Result<()> {
+    let count = found.count;
     let kept = count_kept(found);
-    print_verdict(found, kept);
-    print_number(found.count as u64);
-    print_word(b" ");
-    print_number(kept);
-    print_word(b"\n");
+    print_verdict(out, found, kept)?;
+    writeln!(out, "{count} {kept}")
 }
 
 // ---- all lines
@@ -183,28 +153,33 @@ fn is_mirrored(coefficient: &[i32], token: &[u32], at: usize) -> bool {
     false
 }
 
-fn print_line(found: Found, i: usize, mirrored: bool) {
+fn print_line<W: Write>(out: &mut W, found: Found, i: usize, mirrored: bool) -> io::Result<()> {
     if i < 255 {
-        print_number(i as u64);
-        print_reason(record(found, i), mirrored);
+        write!(out, "{i}")?;
+        print_reason(out, record(found, i), mirrored)?;
     }
+    Ok(())
 }
 
 // A line for each record; the atoms' tokens stand behind the root's.
-fn print_lines(found: Found, coefficient: &[i32], token: &[u32], root: usize) {
-    let mut i = 0;
-    while i < 255 {
-        let at = i;
-        i += 1;
+fn print_lines<W: Write>(
+    out: &mut W,
+    found: Found,
+    coefficient: &[i32],
+    token: &[u32],
+    root: usize,
+) -> io::Result<()> {
+    for at in 0..255 {
         if at < found.count {
             if root < 2 {
-                print_line(found, at, is_mirrored(coefficient, token, root + at));
+                print_line(out, found, at, is_mirrored(coefficient, token, root + at))?;
             }
         }
     }
+    Ok(())
 }
 
-fn print_all(input: &[u8], found: Found) {
+fn print_all<W: Write>(out: &mut W, input: &[u8], found: Found) -> io::Result<()> {
     let mut coefficient = [0i32; 1024];
     let mut monomial = [0u64; 1024];
     let mut terms = [0u8; 64];
@@ -216,31 +191,25 @@ fn print_all(input: &[u8], found: Found) {
         &mut terms,
         &mut token,
     );
-    print_head(found);
+    print_head(out, found)?;
     match contents {
-        Contents::Refused(_) => (),
+        Contents::Refused(_) => Ok(()),
         Contents::Numbers {
             variables: _,
             polynomials: _,
             root,
             tokens: _,
-        } => print_lines(found, &coefficient, &token, root as usize),
+        } => print_lines(out, found, &coefficient, &token, root as usize),
     }
 }
 
-fn refuse(number: u8) {
-    print_word(b"REFUSED ");
-    print_number(wide(number));
-    print_word(b"\n");
-}
-
 // A block has at most 255 atoms.
-pub fn tell(input: &[u8]) {
+pub fn tell<W: Write>(out: &mut W, input: &[u8]) -> io::Result<()> {
     let told = explained(input, 255);
     let found = told.found;
     let outcome = told.outcome;
     match outcome {
-        Outcome::Refused(number) => refuse(number),
-        Outcome::Explained(_) => print_all(input, found),
+        Outcome::Refused(number) => writeln!(out, "REFUSED {number}"),
+        Outcome::Explained(_) => print_all(out, input, found),
     }
 }

@@ -3,32 +3,36 @@
 #![tactic(auto)]
 
 use frames::Kind;
-use libc::STDOUT_FILENO;
+use std::io;
+use std::io::{Read, Write};
 
 // One frame; whether there may be more.
-fn one(space: &mut [u8]) -> bool {
-    let frame = frames::next(space);
+fn one<R: Read, W: Write>(input: &mut R, out: &mut W, space: &mut [u8]) -> io::Result<bool> {
+    let frame = frames::next(input, space)?;
     let n = frame.length;
     let kind = frame.kind;
     match kind {
         Kind::Block => {
-            why_telling::tell(&space[..n]);
-            true
+            why_telling::tell(out, &space[..n])?;
+            Ok(true)
         }
         Kind::CutOff => {
-            io::write_all(STDOUT_FILENO, b"CUT OFF\n");
-            false
+            out.write_all(b"CUT OFF\n")?;
+            Ok(false)
         }
-        Kind::End => false,
+        Kind::End => Ok(false),
     }
 }
 
-// A proved loop has to end, and nothing says that standard input does: the turns are counted down from a number that no run uses up.
-fn main() {
-    let mut space = io::large_buffer();
-    let room: &mut [u8] = &mut space;
-    let mut turns = u64::MAX;
-    while turns > 0 && one(room) {
-        turns -= 1;
+// A proved loop has to end, and nothing says that standard input does: the turns are counted up to a number that no run reaches.
+fn main(rt: HostRuntime) -> io::Result<()> {
+    let mut input = rt.stdin();
+    let mut out = rt.stdout();
+    let mut space = [0u8; 65536];
+    for _ in 0..u64::MAX {
+        if !one(&mut input, &mut out, &mut space)? {
+            break;
+        }
     }
+    Ok(())
 }

@@ -93,9 +93,9 @@ module _ (c : tie.After-simplified-short) {bytes : List ℕ} (accepted : ReadFro
 
 module _ (c : tie.After-plain_tokens) {bytes : List ℕ} (accepted : ReadFrom bytes (start (working (normalising (simplifying c))))) where
   -- plain,
-  holds : Holds c.plain_tokens.new.token (simplifying c).simplified.result.tree.tokens.count (tree (simplifying c) accepted)
+  holds : Holds c.plain_tokens.new.token (simplifying c).simplified-short.result.tree.tokens.count (tree (simplifying c) accepted)
   holds =
-      simpler-holds (prepared (normalising (simplifying c)) accepted) (simplifying c).simplified.result.tree (simpler (simplifying c) accepted) c.plain_tokens.new.token
+      simpler-holds (prepared (normalising (simplifying c)) accepted) (simplifying c).simplified-short.result.tree (simpler (simplifying c) accepted) c.plain_tokens.new.token
       c.plain_tokens.ensures
 
 module _ (c : tie.After-collect-new_polynomials) where
@@ -113,27 +113,27 @@ module _ (c : tie.After-collect-new_polynomials) where
 
   abbrev new : Held
   new =
-      let last = c.collect-new_polynomials.new.1.1.1.1.1.1 in
-      let simplified = simplified-at.simplified.result.tree in
-      held_by first.args.variables c.collect-new_polynomials.result simplified.root simplified.tokens.count last.normal_coefficient last.normal_monomial last.normal_terms last.number
+      let last = c.collect-new_polynomials.new in
+      let simplified = simplified-at.simplified-short.result.tree in
+      held_by first.args.variables c.collect-new_polynomials.result simplified.root simplified.tokens.count last.new_coefficient last.new_monomial last.new_terms last.new_token
 
   module _ {bytes : List ℕ} (accepted : ReadFrom bytes first) where
     -- and collected to the new block,
-    new_is : new ≡ new_held first.args.output.now accepted (prepared normal-at accepted) simplified-at.simplified.result.tree (simpler simplified-at accepted)
-        given-at.give.last.token
+    new_is : new ≡ new_held first.args.output.now accepted (prepared normal-at accepted) simplified-at.simplified-short.result.tree (simpler simplified-at accepted)
+        given-at.give.new.token
     new_is =
-        collects first.args.output.now accepted (prepared normal-at accepted) simplified-at.simplified.result.tree (simpler simplified-at accepted)
-        given-at.give.last.token (c.collect-new_polynomials.ensures (tree simplified-at accepted) (holds (plaining c) accepted))
+        collects first.args.output.now accepted (prepared normal-at accepted) simplified-at.simplified-short.result.tree (simpler simplified-at accepted)
+        given-at.give.new.token (c.collect-new_polynomials.ensures (tree simplified-at accepted) (holds (plaining c) accepted))
 
     -- which can be written.
     new-writable : Writable first.args.edition new (length first.args.output.now) (new_block accepted.given)
     new-writable =
-        writes first.args.output.now accepted (prepared normal-at accepted) simplified-at.simplified.result.tree (simpler simplified-at accepted)
-        given-at.give.last.token new new_is (long given-at accepted)
+        writes first.args.output.now accepted (prepared normal-at accepted) simplified-at.simplified-short.result.tree (simpler simplified-at accepted)
+        given-at.give.new.token new new_is (long given-at accepted)
 
     new-room : BlockRoom new.coefficient new.monomial new.terms new.token
     new-room =
-        let room = asks-room accepted given-at.give.last.token (long given-at accepted) in
+        let room = asks-room accepted given-at.give.new.token (long given-at accepted) in
         let kept = c.collect-new_polynomials.auto in
         record {
           coefficients = omega (arith, room.coefficients, kept.new_coefficient);
@@ -255,21 +255,21 @@ returns c bytes accepted =
     let here = c.before.before.before.before.before.before.before.before.before.before.before.before in
     let counting = here.atoms-atoms_out in
     let simplified = simplified-at here in
-    let counted = (giving simplified).before.before.before.before.before.before.atoms in
-    let uses = (giving simplified).before.before.forms_used-polynomials_in in
+    let counted = (giving simplified).atoms-atoms_in in
+    let uses = (giving simplified).forms_used-polynomials_in in
     let told = (telling-of (plaining here)).tell in
     let ready = prepared (normal-at here) accepted in
     let worked = working (normal-at here) in
     let written = writing.ensures _ (new-writable here accepted) in
     let tape = (given-at here).give.new.token in (
-      answers (first here).args.output.now accepted ready simplified.simplified.result.tree (simpler simplified accepted) tape (new here) (new_is here accepted)
+      answers (first here).args.output.now accepted ready simplified.simplified-short.result.tree (simpler simplified accepted) tape (new here) (new_is here accepted)
           writing.new.out counted.result counting.result uses.result writing.result telling.result written.0 written.1
           (counted.ensures ready.tree ready.holds) (counting.ensures (tree simplified accepted) (holds (plaining here) accepted))
           (uses.ensures (first here).args.variables (table worked).coefficient ready.tree worked.work.ensures.forms ready.holds) telling.ensures,
       (
-        places-told (first here).args.output.now accepted ready simplified.simplified.result.tree (simpler simplified accepted) tape
-            (first here).args.places.now told.last.1.1.0 told.ensures,
-        counts-rounds accepted ready (simplified.simplified.ensures (token_tree ready.tree) (placed (giving simplified) accepted)).counts,
+        places-told (first here).args.output.now accepted ready simplified.simplified-short.result.tree (simpler simplified accepted) tape
+            (first here).args.places.now told.new.places told.ensures,
+        counts-rounds accepted ready (simplified.simplified-short.ensures (token_tree ready.tree) (placed (giving simplified) accepted)).counts,
       ),
     )
 

@@ -92,10 +92,10 @@ pub +read_node_read_parts_spec : {M : Type 1} → statement M
     let l = at.loop-left.invariant in
     (omega arith, (l.inside, l.allows, omega (arith, l.tape, s.requires.1.2))))
     (λ c. search rules)
-    (λ c. let first = c.before.before.before.before.before in first.read_node-step.auto.token ∙ first.loop-left.invariant.tape)
+    (λ c. c.read_node-step.auto.token ∙ c.loop-left.invariant.tape)
     (λ c.
-    let first = c.before.before.before.before.before in
-    let turn = first.before.before in
+    let first = c in
+    let turn = first in
     parts-stop _ turn.loop-left.invariant turn.loop-left-test.true first.read_node-step.ensures c.in-Refused.is)
     (λ c. search rules) (λ c. omega arith)
     (λ c.

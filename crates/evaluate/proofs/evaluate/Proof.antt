@@ -6,18 +6,18 @@ use Rattle.evaluate.proofs.evaluate.Tie as tie
 
 run-requires : tie.Need-run-requires
 run-requires c κs =
-    let chosen = c.before.before.before.before.before in
-    let reading = chosen.before.before.before.before.before.before in
+    let chosen = c in
+    let reading = chosen in
     record {
-      bytes = reading.before.before.before.before.before.before.args.input.now;
+      bytes = reading.args.input.now;
       stands = few-read reading.read_few_into-few.ensures chosen.in-Read.is;
     }
 
 returns-2 : tie.Need-returns-in-Read
 returns-2 c =
-    let chosen = c.before.before.before.before.before.before in
-    let reading = chosen.before.before.before.before.before.before in
-    c.run.ensures reading.before.before.before.before.before.before.args.input.now (few-read reading.read_few_into-few.ensures chosen.in-Read.is)
+    let chosen = c in
+    let reading = chosen in
+    c.run.ensures reading.args.input.now (few-read reading.read_few_into-few.ensures chosen.in-Read.is)
 
 pub evaluate_spec : {M : Type 1} → statement M
 evaluate_spec =

@@ -9,16 +9,16 @@ use Rattle.evaluate.proofs.run.Tie as tie
 
 returns : tie.Need-returns-then-readings-variables
 returns c bytes stands =
-    let chosen = c.before.before in
-    let s = chosen.before.before.before.before.before in
+    let chosen = c in
+    let s = chosen in
     entry-many bytes s.args.readings.now (stand-taken stands chosen.in-Numbers.is) c.if-readings-variables.true
 
 -- ---- the tree
 
 node-requires : tie.Need-node-seen-requires
 node-requires c κs =
-    let chosen = c.before.before in
-    let s = chosen.before.before.before.before.before in
+    let chosen = c in
+    let s = chosen in
     let bytes = s.requires.bytes in
     let taken = stand-taken s.requires.stands chosen.in-Numbers.is in (
       table-room bytes s.args.readings.now taken,
@@ -30,16 +30,16 @@ node-requires c κs =
 
 returns-2 : tie.Need-returns-in-Refused
 returns-2 c bytes stands =
-    let chosen = c.before in
-    let s = chosen.before.before.before.before.before in
+    let chosen = c in
+    let s = chosen in
     entry-refused bytes s.args.readings.now (stand-refused stands chosen.in-Refused.is)
 
 returns-3 : tie.Need-returns-else-readings-variables
 returns-3 c bytes stands =
-    let tested = c.before.before in
-    let chosen = tested.before.before in
-    let s = chosen.before.before.before.before.before in
-    c.verdict.ensures ∙ entry-answer bytes s.args.readings.now (stand-taken stands chosen.in-Numbers.is) tested.if-readings-variables.false c.before.node-seen.ensures
+    let tested = c in
+    let chosen = tested in
+    let s = chosen in
+    c.verdict.ensures ∙ entry-answer bytes s.args.readings.now (stand-taken stands chosen.in-Numbers.is) tested.if-readings-variables.false c.node-seen.ensures
 
 pub run_spec : {M : Type 1} → statement M
 run_spec = tie.close (tie.spec (λ c. search rules) (λ c. search rules) returns node-requires (λ c κs. search rules) returns-2 returns-3)

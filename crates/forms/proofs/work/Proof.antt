@@ -102,8 +102,8 @@ number-all-requires c κs =
 
 fill-requires : tie.Need-fill-requires
 fill-requires c κs =
-    let numbering = c.before.before.before.before.before.before in
-    let here = numbering.before.before.before.before.before in
+    let numbering = c.before.before.before.before.before in
+    let here = numbering.before.before in
     let start = first here in
     let laid = forms-laid here in (
       omega (arith, laid.coefficients),
@@ -115,7 +115,7 @@ fill-requires c κs =
 put-variables-requires : tie.Need-put_variables-requires
 put-variables-requires c κs =
     let filling = c.before.before.before.before.before.before.before.before in
-    let here = filling.before.before.before.before.before.before.before.before.before.before.before.before in
+    let here = filling.before.before.before.before.before.before.before.before in
     let laid = forms-laid here in (
       omega (arith, filling.fill.auto.coefficient, laid.coefficients),
       omega (arith, filling.fill.auto.monomial, laid.monomials),
@@ -127,15 +127,15 @@ same_length : tie.Need-shape_of-normal_coefficient
 same_length c =
     let ending = c.before.before.before.before.before in
     let filling = ending.before.before.before.before.before.before.before.before.before in
-    let here = filling.before.before.before.before.before.before.before.before.before.before.before.before in
+    let here = filling.before.before.before.before.before.before.before.before in
     ending.put_variables.auto.coefficient ∙ filling.fill.auto.coefficient ∙ (normalizing here).normalize_all.auto.target
 
 returns : tie.Need-returns
 returns c =
     let ending = c.before.before.before.before.before in
     let filling = ending.before.before.before.before.before.before.before.before.before in
-    let numbering = filling.before.before.before.before.before.before.before in
-    let here = numbering.before.before.before.before.before in
+    let numbering = filling.before.before.before.before.before.before in
+    let here = numbering.before.before in
     let start = first here in
     let a = start.args in
     subst⁻¹ (Worked (plain here) a.coefficient.now a.monomial.now a.terms.now a.polynomials a.variables)

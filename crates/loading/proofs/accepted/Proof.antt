@@ -12,12 +12,12 @@ read-into-requires c κs = record { coefficients = omega arith; monomials = omeg
 
 returns : tie.Need-returns-in-Refused
 returns c =
-    let reading = c.before.before.before.before.before.before.before in
-    found-refused reading.read_into-contents.ensures c.before.in-Refused.is
+    let reading = c in
+    found-refused reading.read_into-contents.ensures c.in-Refused.is
 
 returns-2 : tie.Need-returns-in-Numbers
 returns-2 c =
-    let reading = c.before.before.before.before.before.before in
+    let reading = c in
     found-accepted reading.read_into-contents.ensures c.in-Numbers.is
 
 pub accepted_spec : {M : Type 1} → statement M

@@ -11,37 +11,37 @@ use Rattle.loading.proofs.load.Tie as tie
 
 returns : tie.Need-returns-then-area-size
 returns c =
-    let chosen = c.before.before in
-    let reading = chosen.before.before in
-    let a = reading.before.before.before.args in
+    let chosen = c in
+    let reading = chosen in
+    let a = reading.args in
     short-load a.block.now a.area.now _ (sym chosen.in-Starts.is ∙ reading.accepted-answer.ensures) (omega (arith, c.if-area-size.true))
 
 write-all-requires : tie.Need-write_all-requires
 write-all-requires c κs =
-    let chosen = c.before.before.before in
-    let reading = chosen.before.before in
-    let a = reading.before.before.before.args in
+    let chosen = c in
+    let reading = chosen in
+    let a = reading.args in
     head-found a.block.now a.area.now _ (sym chosen.in-Starts.is ∙ reading.accepted-answer.ensures)
 
 returns-2 : tie.Need-returns-in-Refused
 returns-2 c =
-    let reading = c.before.before.before in
-    let a = reading.before.before.before.args in
-    refused-load a.block.now a.area.now _ (sym c.before.in-Refused.is ∙ reading.accepted-answer.ensures)
+    let reading = c in
+    let a = reading.args in
+    refused-load a.block.now a.area.now _ (sym c.in-Refused.is ∙ reading.accepted-answer.ensures)
 
 same_length : tie.Need-shape_of-area
 same_length c =
-    let writing = c.before.before in
-    let a = writing.before.before.before.before.before.before.before.before.before.args in
+    let writing = c in
+    let a = writing.args in
     ap length writing.write_all.ensures ∙ length-image a.block.now a.area.now (length a.block.now + 1)
 
 returns-3 : tie.Need-returns-else-area-size
 returns-3 c =
-    let writing = c.before.before in
-    let tested = writing.before.before in
-    let chosen = tested.before.before in
-    let reading = chosen.before.before in
-    let a = reading.before.before.before.args in
+    let writing = c in
+    let tested = writing in
+    let chosen = tested in
+    let reading = chosen in
+    let a = reading.args in
     let whole = whole-load a.block.now a.area.now _ (sym chosen.in-Starts.is
     ∙ reading.accepted-answer.ensures) (omega (arith, tested.if-area-size.false)) in
     (whole.0, writing.write_all.ensures ∙ whole.1)

@@ -9,14 +9,14 @@ use Rattle.loading.proofs.start.Tie as tie
 
 slice-aggregate-accepted : tie.Need-slice_bounds-accepted-end
 slice-aggregate-accepted c =
-    let size = c.before.lent_length-size in
-    let a = c.before.before.before.args in
+    let size = c.lent_length-size in
+    let a = c.args in
     sym (length-take-le size.result a.area.now size.ensures.within)
 
 returns : tie.Need-returns
 returns c =
-    let size = c.before.before.lent_length-size in
-    let a = c.before.before.before.before.args in
+    let size = c.lent_length-size in
+    let a = c.args in
     c.accepted.ensures ∙ ap found (start-found a.area.now size.result size.ensures)
 
 pub start_spec : {M : Type 1} → statement M

@@ -14,17 +14,17 @@ use Rattle.loading.proofs.started.Tie as tie
 
 slice-aggregate-result : tie.Need-slice_bounds-result-end
 slice-aggregate-result c =
-    let filled = c.before.length_in-size in
-    let starting = c.before.before in
-    let a = starting.before.before.args in
+    let filled = c.length_in-size in
+    let starting = c in
+    let a = starting.args in
     let is = filled.ensures ∙ ap length_in starting.start.ensures in
     sym (length-take-le filled.result a.area.now (rw is (part-within a.area.now)))
 
 returns : tie.Need-returns
 returns c =
-    let filled = c.before.length_in-size in
-    let starting = c.before.before in
-    let a = starting.before.before.args in
+    let filled = c.length_in-size in
+    let starting = c in
+    let a = starting.args in
     let is = filled.ensures ∙ ap length_in starting.start.ensures in
     let first : take filled.result a.area.now ≡ started_part (start_of a.area.now) = rw is (part-first a.area.now) in
     (first, refl, ap (λ (l : List ℕ). eqb (length l) 0) first ∙ empty-exactly-on-refusal a.area.now)

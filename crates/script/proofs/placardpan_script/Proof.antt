@@ -12,10 +12,9 @@ small c κs = let telling = c.before.before in subst (λ (o : Outcome). size_in 
 
 returns : tie.Need-returns
 returns c =
-    let telling = c.before.before.before in
     record {
-      returns = c.number_in.ensures ∙ ap number_in telling.script-outcome.ensures.returns ∙ number-told _;
-      text = telling.script-outcome.ensures.text;
+      returns = c.number_in.ensures ∙ ap number_in c.script-outcome.ensures.returns ∙ number-told _;
+      text = c.script-outcome.ensures.text;
     }
 
 pub placardpan_script_spec : {M : Type 1} → statement M

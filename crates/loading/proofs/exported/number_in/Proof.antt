@@ -6,10 +6,10 @@ use Rattle.loading.proofs.exported.number_in.Statement.{statement}
 use Rattle.loading.proofs.exported.number_in.Tie as tie
 
 above-requires : tie.Need-above-requires
-above-requires c κs = subst Short c.before.in-Starts.is c.before.before.before.requires
+above-requires c κs = subst Short c.in-Starts.is c.requires
 
 returns-2 : tie.Need-returns-in-Starts
-returns-2 c = c.above.ensures ∙ sym (ap number_of c.before.before.in-Starts.is)
+returns-2 c = c.above.ensures ∙ sym (ap number_of c.in-Starts.is)
 
 pub number_in_spec : {M : Type 1} → statement M
 number_in_spec = tie.close (tie.spec (λ c. search rules) (λ c. search rules) (λ c. search rules) above-requires (λ c. search rules) returns-2)

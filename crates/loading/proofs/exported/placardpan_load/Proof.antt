@@ -7,14 +7,14 @@ use Rattle.loading.proofs.exported.placardpan_load.Tie as tie
 
 number-in-requires : tie.Need-number_in-requires
 number-in-requires c κs =
-    let loading = c.before.before in
-    let a = loading.before.before.before.before.args in
+    let loading = c in
+    let a = loading.args in
     short-found (load_answer a.block.now a.area.now) loading.load.ensures.0 (short-load a.block.now a.area.now)
 
 returns : tie.Need-returns
 returns c =
-    let loading = c.before.before.before in
-    let a = loading.before.before.before.before.args in
+    let loading = c in
+    let a = loading.args in
     (number-told (load_answer a.block.now a.area.now) loading.load.ensures.0 c.number_in.ensures, loading.load.ensures.1)
 
 pub placardpan_load_spec : {M : Type 1} → statement M

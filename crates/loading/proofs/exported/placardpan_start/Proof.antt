@@ -7,13 +7,13 @@ use Rattle.loading.proofs.exported.placardpan_start.Tie as tie
 
 number-in-requires : tie.Need-number_in-requires
 number-in-requires c κs =
-    let a = c.before.before.args in
+    let a = c.args in
     short-found (start_of a.area.now) c.start.ensures (short-start a.area.now)
 
 returns : tie.Need-returns
 returns c =
-    let starting = c.before in
-    let a = starting.before.before.args in
+    let starting = c in
+    let a = starting.args in
     number-told (start_of a.area.now) starting.start.ensures c.number_in.ensures
 
 pub placardpan_start_spec : {M : Type 1} → statement M

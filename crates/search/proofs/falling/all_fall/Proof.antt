@@ -28,7 +28,7 @@ loop-again c =
     let l = c.loop-i in (
       l.invariant.0,
       below_more (λ (j : ℕ). FallingSlot a.monomial.now a.terms.now (atom_slot a.atoms.number j)) l.i l.invariant.1
-          (c.slot_falls.ensures (not-false c.slot_falls.result c.if-not-slot_falls.false)),
+          (c.slot_falls.ensures c.if-not-slot_falls.false),
     )
 
 returns-2 : tie.Need-returns invariant-loop decreases-loop
