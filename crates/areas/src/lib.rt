@@ -3,66 +3,57 @@
 
 #![tactic(auto)]
 
-ghost use Rattle.std.specs.Prelude.{◌≡◌, ◌≤◌, length};
-
-use libc::STDOUT_FILENO;
+use files::{argument, tell};
 use loading::{Loaded, place, value};
+use std::fs::{File, OpenFile};
+use std::io;
+use std::io::Write;
+use std::os::unix::fs::FileExt;
 
-fn opened(path: &[u8], update: bool) -> i32 {
-    if update {
-        return os::open_update(path);
-    }
-    os::open_read(path)
-}
-
-// The file that the first argument names, for reading or for reading and writing; -1 if there is none, after a line on standard error.
-pub fn open(update: bool) -> i32 {
+// The file that the first argument names, for reading or for reading and writing; none if there is none, after a line on standard error.
+pub fn open(rt: &HostRuntime, update: bool) -> io::Result<Option<File>> {
     let mut name = [0u8; 4096];
-    let n = os::arg(1, &mut name);
-    let descriptor = opened(&name[..n], update);
-    if descriptor < 0 {
-        os::fail(&name[..n]);
+    let n = argument(rt, 1, &mut name);
+    let found = files::open(rt, &name[..n], update);
+    match found {
+        Ok(file) => Ok(Some(file)),
+        Err(error) => {
+            tell(&mut rt.stderr(), &name[..n], &error)?;
+            Ok(None)
+        }
     }
-    descriptor
 }
 
 // A line of a word and a number.
-fn print_line(word: &[u8], number: u64) {
-    io::write_all(STDOUT_FILENO, word);
-    io::print_decimal(STDOUT_FILENO, number);
-    io::write_all(STDOUT_FILENO, b"\n");
+fn print_line<W: Write>(out: &mut W, word: &[u8], number: u64) -> io::Result<()> {
+    out.write_all(word)?;
+    writeln!(out, "{number}")
 }
 
 // The line of an answer: REFUSED and the number, or the word for what was done and the block's length.
-pub fn print_answer(answer: Loaded, word: &[u8]) {
+pub fn print_answer<W: Write>(out: &mut W, answer: Loaded, word: &[u8]) -> io::Result<()> {
     match answer {
-        Loaded::Refused(number) => print_line(b"REFUSED ", number as u64),
-        Loaded::Starts(size) => print_line(word, size as u64),
+        Loaded::Refused(number) => print_line(out, b"REFUSED ", number as u64),
+        Loaded::Starts(size) => print_line(out, word, size as u64),
     }
 }
 
-// Write k of a load, put into the file; with `sync` it is waited for. Whether it was taken.
-fn put(descriptor: i32, block: &[u8], k: usize, sync: bool) -> bool {
+// Write k of a load, put into the file; with `sync` it is waited for.
+fn put<F: FileExt + OpenFile>(file: &F, block: &[u8], k: usize, sync: bool) -> io::Result<()> {
     let at = place(block.len(), k);
     let byte = [value(block, k)];
-    if libc::pwrite(descriptor, &byte, (at % 65536) as i64) != 1 {
-        return false;
-    }
+    file.write_all_at(&byte, at as u64)?;
     if sync {
-        return libc::fsync(descriptor) == 0;
+        file.sync_all()?;
     }
-    true
+    Ok(())
 }
 
-// The writes of a load from the first one on, each finished before the next; whether all were taken.
-pub fn put_all(descriptor: i32, block: &[u8], first: usize, sync: bool) -> bool {
+// The writes of a load from the first one on, each finished before the next, up to the first that is not taken.
+pub fn put_all<F: FileExt + OpenFile>(file: &F, block: &[u8], first: usize, sync: bool) -> io::Result<()> {
     let size = block.len();
-    let mut k = first;
-    while k < size {
-        if !put(descriptor, block, k, sync) {
-            return false;
-        }
-        k += 1;
+    for k in first..size {
+        put(file, block, k, sync)?;
     }
-    put(descriptor, block, size, sync)
+    put(file, block, size, sync)
 }

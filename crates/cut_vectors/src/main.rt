@@ -4,8 +4,9 @@
 
 #![tactic(auto)]
 
-use libc::STDOUT_FILENO;
 use loading::{Loaded, first_write, place, start, step};
+use std::io;
+use std::io::{Read, Write};
 
 // How many images started the old block, none, the new one, or another.
 #[derive(Clone, Copy)]
@@ -35,14 +36,7 @@ fn same(image: &[u8], block: &[u8]) -> bool {
     if image.len() < block.len() {
         return false;
     }
-    let mut i = 0;
-    while i < block.len() {
-        if image[i] != block[i] {
-            return false;
-        }
-        i += 1;
-    }
-    true
+    &image[..block.len()] == block
 }
 
 // What an image starts, counted.
@@ -98,11 +92,9 @@ fn cut_in(
 fn cuts(tally: Tally, image: &mut [u8], block: &[u8], old: &[u8], steps: usize) -> Tally {
     let size = block.len();
     let mut counted = tally;
-    let mut k = first_write(image);
-    while k < size {
+    for k in first_write(image)..size {
         counted = cut_in(counted, image, block, old, k, steps);
         step(image, block, k);
-        k += 1;
     }
     counted = cut_in(counted, image, block, old, size, steps);
     step(image, block, size);
@@ -111,10 +103,8 @@ fn cuts(tally: Tally, image: &mut [u8], block: &[u8], old: &[u8], steps: usize) 
 
 // The bytes of one list into another of the same length.
 fn copy(from: &[u8], to: &mut [u8]) {
-    let mut i = 0;
-    while i < to.len() {
+    for i in 0..to.len() {
         put(to, i, byte_at(from, i));
-        i += 1;
     }
 }
 
@@ -156,68 +146,82 @@ fn again_in(
 fn again(tally: Tally, image: &mut [u8], torn: &mut [u8], block: &[u8], old: &[u8]) -> Tally {
     let size = block.len();
     let mut counted = tally;
-    let mut k = first_write(image);
-    while k < size {
+    for k in first_write(image)..size {
         counted = again_in(counted, image, torn, block, old, k);
         step(image, block, k);
-        k += 1;
     }
     again_in(counted, image, torn, block, old, size)
 }
 
-fn print_count(word: &[u8], n: u64) {
-    io::write_all(STDOUT_FILENO, word);
-    io::print_decimal(STDOUT_FILENO, n);
-}
-
-fn print(tally: Tally) {
-    print_count(b"OLD ", tally.old);
-    print_count(b" REFUSED ", tally.refused);
-    print_count(b" NEW ", tally.new);
-    print_count(b" OTHER ", tally.other);
-    io::write_all(STDOUT_FILENO, b"\n");
+fn print<W: Write>(out: &mut W, tally: Tally) -> io::Result<()> {
+    writeln!(
+        out,
+        "OLD {} REFUSED {} NEW {} OTHER {}",
+        tally.old, tally.refused, tally.new, tally.other
+    )
 }
 
 // One load: the area, with the block in it that starts, and the block that is loaded. A line for one cut, a line for two.
-fn one(area: &[u8], image: &mut [u8], torn: &mut [u8], block: &[u8]) {
+fn one<W: Write>(
+    out: &mut W,
+    area: &[u8],
+    image: &mut [u8],
+    torn: &mut [u8],
+    block: &[u8],
+) -> io::Result<()> {
     let old = loading::started(area);
     copy(area, image);
-    print(cuts(nothing(), image, block, old, 0));
+    print(out, cuts(nothing(), image, block, old, 0))?;
     copy(area, image);
-    print(again(nothing(), image, torn, block, old));
+    print(out, again(nothing(), image, torn, block, old))
 }
 
 // The next load of the stream; whether there may be more.
-fn load(space: &mut [u8], given: &mut [u8], image: &mut [u8], torn: &mut [u8]) -> bool {
-    let area = frames::next(space);
+fn load<R: Read, W: Write>(
+    input: &mut R,
+    out: &mut W,
+    space: &mut [u8],
+    given: &mut [u8],
+    image: &mut [u8],
+    torn: &mut [u8],
+) -> io::Result<bool> {
+    let area = frames::next(input, space)?;
     let n = area.length;
-    let block = frames::next(given);
+    let block = frames::next(input, given)?;
     let m = block.length;
     if m == 0 {
-        return false;
+        return Ok(false);
     }
     if image.len() < n {
-        return false;
+        return Ok(false);
     }
     if torn.len() < n {
-        return false;
+        return Ok(false);
     }
-    one(&space[..n], &mut image[..n], &mut torn[..n], &given[..m]);
-    true
+    one(
+        out,
+        &space[..n],
+        &mut image[..n],
+        &mut torn[..n],
+        &given[..m],
+    )?;
+    Ok(true)
 }
 
-// A proved loop has to end, and nothing says that standard input does: the turns are counted down from a number that no run uses up.
-fn main() {
-    let mut areas = io::large_buffer();
-    let space: &mut [u8] = &mut areas;
-    let mut blocks = io::large_buffer();
-    let given: &mut [u8] = &mut blocks;
-    let mut images = io::large_buffer();
-    let image: &mut [u8] = &mut images;
-    let mut torn_images = io::large_buffer();
-    let torn: &mut [u8] = &mut torn_images;
-    let mut turns = u64::MAX;
-    while turns > 0 && load(space, given, image, torn) {
-        turns -= 1;
+// A proved loop has to end, and nothing says that standard input does: the turns are counted up to a number that no run reaches.
+fn main(rt: HostRuntime) -> io::Result<()> {
+    let mut input = rt.stdin();
+    let mut out = rt.stdout();
+    let mut space = [0u8; 65536];
+    let mut given = [0u8; 65536];
+    let mut image = [0u8; 65536];
+    let mut torn = [0u8; 65536];
+    for _ in 0..u64::MAX {
+        if !load(
+            &mut input, &mut out, &mut space, &mut given, &mut image, &mut torn,
+        )? {
+            break;
+        }
     }
+    Ok(())
 }

@@ -5,17 +5,21 @@
 
 use block::edition;
 use convert::{Converted, to_edition1, to_edition2};
-use libc::{STDERR_FILENO, STDIN_FILENO, STDOUT_FILENO};
+use files::argument;
+use frames::fill;
+use std::env::Env;
+use std::io;
+use std::io::Write;
 
 // The edition that is asked for: the argument's, or the one that the input is not in.
-fn asked(input: &[u8]) -> u64 {
-    let mut argument = [0u8; 2];
-    let length = os::arg(1, &mut argument);
+fn asked<E: Env>(env: &E, input: &[u8]) -> u64 {
+    let mut word = [0u8; 2];
+    let length = argument(env, 1, &mut word);
     if length == 1 {
-        if argument[0] == b'1' {
+        if word[0] == b'1' {
             return 1;
         }
-        if argument[0] == b'2' {
+        if word[0] == b'2' {
             return 2;
         }
     }
@@ -25,38 +29,37 @@ fn asked(input: &[u8]) -> u64 {
     1
 }
 
-fn converted(input: &[u8], output: &mut [u8]) -> Converted {
-    if asked(input) == 1 {
+fn converted<E: Env>(env: &E, input: &[u8], output: &mut [u8]) -> Converted {
+    if asked(env, input) == 1 {
         return to_edition1(input, output);
     }
     to_edition2(input, output)
 }
 
-// A word and a number behind it.
-fn print_number(word: &[u8], number: u64) {
-    io::write_all(STDERR_FILENO, word);
-    io::print_decimal(STDERR_FILENO, number);
-}
-
-fn wide(byte: u8) -> u64 {
-    byte as u64
+// The block on one stream, where there is one, and what became of it on the other.
+fn print<W: Write, V: Write>(
+    out: &mut W,
+    said: &mut V,
+    outcome: Converted,
+    length: usize,
+    output: &[u8],
+) -> io::Result<()> {
+    match outcome {
+        Converted::Refused(number) => writeln!(said, "REFUSED {number}"),
+        Converted::Finished(size) => {
+            if size <= output.len() {
+                out.write_all(&output[..size])?;
+            }
+            writeln!(said, "CONVERTED {length} {size}")
+        }
+    }
 }
 
 // "It reads at most 32,768 bytes of a block on standard input; the rest is not read." No finished block is as long.
-fn main() {
+fn main(rt: HostRuntime) -> io::Result<()> {
     let mut space = [0u8; 32768];
-    let length = io::read_full(STDIN_FILENO, &mut space);
+    let length = fill(&mut rt.stdin(), &mut space)?;
     let mut output = [0u8; 32768];
-    let outcome = converted(&space[..length], &mut output);
-    match outcome {
-        Converted::Refused(number) => print_number(b"REFUSED ", wide(number)),
-        Converted::Finished(size) => {
-            if size <= output.len() {
-                io::write_all(STDOUT_FILENO, &output[..size]);
-            }
-            print_number(b"CONVERTED ", length as u64);
-            print_number(b" ", size as u64);
-        }
-    }
-    io::write_all(STDERR_FILENO, b"\n");
+    let outcome = converted(&rt, &space[..length], &mut output);
+    print(&mut rt.stdout(), &mut rt.stderr(), outcome, length, &output)
 }

@@ -4,56 +4,76 @@
 
 #![tactic(auto)]
 
-use libc::STDIN_FILENO;
+use files::{argument, is_given, tell};
+use frames::fill;
 use readings::{Line, begin, is_whole, over, taken, word_taken};
+use std::env::Env;
+use std::io;
+use std::io::{Read, Write};
 use verdicts::answer;
 
 // One argument.
-fn argument(i: usize, word: &mut [u8], line: Line, numbers: &mut [i32]) -> Line {
-    let n = os::arg(i, word);
+fn one_argument<E: Env>(
+    env: &E,
+    i: usize,
+    word: &mut [u8],
+    line: Line,
+    numbers: &mut [i32],
+) -> Line {
+    let n = argument(env, i, word);
     word_taken(line, &word[..n], numbers)
 }
 
 // The readings are the arguments from the first on: how many there are, 17 if one is no whole number of 32 bits.
-fn arguments(word: &mut [u8], numbers: &mut [i32]) -> usize {
+fn arguments<E: Env>(env: &E, word: &mut [u8], numbers: &mut [i32]) -> usize {
     let mut line = begin();
-    let count = os::arg_count();
-    let mut i = 1;
-    while i < count {
-        line = argument(i, word, line, numbers);
-        i += 1;
+    for i in 1..usize::MAX {
+        if !is_given(env, i) {
+            break;
+        }
+        line = one_argument(env, i, word, line, numbers);
     }
     over(line, numbers)
 }
 
 // The block on standard input, the readings as arguments.
-fn once(word: &mut [u8]) {
+fn once(rt: &HostRuntime, word: &mut [u8]) -> io::Result<()> {
     let mut space = [0u8; 32768];
-    let length = io::read_full(STDIN_FILENO, &mut space);
+    let length = fill(&mut rt.stdin(), &mut space)?;
     let mut numbers = [0i32; 16];
-    let count = arguments(word, &mut numbers);
-    answer(&space[..length], &numbers, count);
+    let count = arguments(rt, word, &mut numbers);
+    answer(&mut rt.stdout(), &space[..length], &numbers, count)
 }
 
 // One byte of the stream of readings: at the end of a line the line is answered.
-fn heard(block: &[u8], byte: u8, line: Line, numbers: &mut [i32]) -> Line {
+fn heard<W: Write>(
+    out: &mut W,
+    block: &[u8],
+    byte: u8,
+    line: Line,
+    numbers: &mut [i32],
+) -> io::Result<Line> {
     if byte == b'\n' {
         let count = over(line, numbers);
-        answer(block, numbers, count);
-        return begin();
+        answer(out, block, numbers, count)?;
+        return Ok(begin());
     }
-    taken(line, byte, numbers)
+    Ok(taken(line, byte, numbers))
 }
 
 // Some bytes of it.
-fn lines(block: &[u8], bytes: &[u8], line: Line, numbers: &mut [i32]) -> Line {
+fn lines<W: Write>(
+    out: &mut W,
+    block: &[u8],
+    bytes: &[u8],
+    line: Line,
+    numbers: &mut [i32],
+) -> io::Result<Line> {
     let mut next = line;
-    let mut i = 0;
-    while i < bytes.len() {
-        next = heard(block, bytes[i], next, numbers);
-        i += 1;
+    for byte in bytes {
+        next = heard(out, block, *byte, next, numbers)?;
     }
-    next
+    Ok(next)
 }
 
 // What a part of it leaves: whether there may be more, and how far the line is.
@@ -63,62 +83,85 @@ struct Part {
     line: Line,
 }
 
-fn some_lines(block: &[u8], bytes: &mut [u8], line: Line, numbers: &mut [i32]) -> Part {
-    let got = io::count(libc::read(STDIN_FILENO, bytes), bytes);
-    let next = lines(block, &bytes[..got], line, numbers);
-    Part {
+fn some_lines<R: Read, W: Write>(
+    input: &mut R,
+    out: &mut W,
+    block: &[u8],
+    bytes: &mut [u8],
+    line: Line,
+    numbers: &mut [i32],
+) -> io::Result<Part> {
+    let got = input.read(bytes)?;
+    let next = lines(out, block, &bytes[..got], line, numbers)?;
+    Ok(Part {
         more: got > 0,
         line: next,
-    }
+    })
 }
 
-// Live readings: what standard input has is answered as soon as it is there. A last line without its end counts if it has a byte.
-// A proved loop has to end, and nothing says that standard input does: the turns are counted down from a number that no run uses up.
-fn stream(block: &[u8], bytes: &mut [u8], numbers: &mut [i32]) {
+// Live readings: what the input has is answered as soon as it is there. A last line without its end counts if it has a byte.
+// A proved loop has to end, and nothing says that the input does: the turns are counted up to a number that no run reaches.
+fn stream<R: Read, W: Write>(
+    input: &mut R,
+    out: &mut W,
+    block: &[u8],
+    bytes: &mut [u8],
+    numbers: &mut [i32],
+) -> io::Result<()> {
     let mut line = begin();
-    let mut turns = u64::MAX;
-    let mut more = true;
-    while turns > 0 && more {
-        turns -= 1;
-        let now = some_lines(block, bytes, line, numbers);
+    for _ in 0..u64::MAX {
+        let now = some_lines(input, out, block, bytes, line, numbers)?;
         line = now.line;
-        more = now.more;
+        if !now.more {
+            break;
+        }
     }
     if line.begun {
-        heard(block, b'\n', line, numbers);
+        heard(out, block, b'\n', line, numbers)?;
     }
+    Ok(())
 }
 
 // The block from a file.
-fn live(path: &[u8]) {
-    let file = os::open_read(path);
-    if file < 0 {
-        os::fail(path);
-        return;
+fn live(rt: &HostRuntime, path: &[u8]) -> io::Result<()> {
+    let found = files::open(rt, path, false);
+    match found {
+        Ok(file) => live_on(rt, file),
+        Err(error) => tell(&mut rt.stderr(), path, &error),
     }
+}
+
+fn live_on<F: Read + Drop>(rt: &HostRuntime, mut file: F) -> io::Result<()> {
     let mut space = [0u8; 32768];
-    let length = io::read_full(file, &mut space);
-    let mut bytes = io::buffer();
+    let length = fill(&mut file, &mut space)?;
+    let mut bytes = [0u8; 4096];
     let mut numbers = [0i32; 16];
-    stream(&space[..length], &mut bytes, &mut numbers);
+    stream(
+        &mut rt.stdin(),
+        &mut rt.stdout(),
+        &space[..length],
+        &mut bytes,
+        &mut numbers,
+    )
 }
 
 // Whether the one argument is no whole number: then it names a file, and the readings are live.
-fn named(word: &mut [u8]) -> bool {
-    if os::arg_count() != 2 {
-        return false;
+fn named(rt: &HostRuntime, word: &mut [u8]) -> io::Result<bool> {
+    if !is_given(rt, 1) || is_given(rt, 2) {
+        return Ok(false);
     }
-    let n = os::arg(1, word);
+    let n = argument(rt, 1, word);
     if is_whole(&word[..n]) {
-        return false;
+        return Ok(false);
     }
-    live(&word[..n]);
-    true
+    live(rt, &word[..n])?;
+    Ok(true)
 }
 
-fn main() {
-    let mut word = io::large_buffer();
-    if !named(&mut word) {
-        once(&mut word);
+fn main(rt: HostRuntime) -> io::Result<()> {
+    let mut word = [0u8; 65536];
+    if !named(&rt, &mut word)? {
+        once(&rt, &mut word)?;
     }
+    Ok(())
 }

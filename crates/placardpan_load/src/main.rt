@@ -4,34 +4,33 @@
 #![tactic(auto)]
 
 use areas::{open, print_answer, put_all};
-use libc::STDIN_FILENO;
+use files::{is_given, tell};
+use frames::fill;
 use loading::{Loaded, first_write, load};
+use std::env::Env;
+use std::io;
 
 // "a second argument": whether each write is waited for.
-fn asks_sync() -> bool {
-    os::arg_count() > 2
+fn asks_sync<R: Env>(rt: &R) -> bool {
+    is_given(rt, 2)
 }
 
-fn main() {
-    let descriptor = open(true);
-    if descriptor < 0 {
-        return;
-    }
+fn main(rt: HostRuntime) -> io::Result<()> {
+    let Some(mut file) = open(&rt, true)? else {
+        return Ok(());
+    };
     let mut area = [0u8; 65536];
-    let n = io::read_full(descriptor, &mut area);
+    let n = fill(&mut file, &mut area)?;
     let mut given = [0u8; 32768];
-    let length = io::read_full(STDIN_FILENO, &mut given);
+    let length = fill(&mut rt.stdin(), &mut given)?;
     let block = &given[..length];
     let first = first_write(&area[..n]);
     let answer = load(block, &mut area[..n]);
     match answer {
-        Loaded::Refused(_) => print_answer(answer, b""),
-        Loaded::Starts(_) => {
-            if put_all(descriptor, block, first, asks_sync()) {
-                print_answer(answer, b"LOADED ");
-            } else {
-                os::fail(b"placardpan_load");
-            }
-        }
+        Loaded::Refused(_) => print_answer(&mut rt.stdout(), answer, b""),
+        Loaded::Starts(_) => match put_all(&file, block, first, asks_sync(&rt)) {
+            Ok(()) => print_answer(&mut rt.stdout(), answer, b"LOADED "),
+            Err(error) => tell(&mut rt.stderr(), b"placardpan_load", &error),
+        },
     }
 }

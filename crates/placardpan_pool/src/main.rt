@@ -5,7 +5,10 @@
 
 ghost use Rattle.std.specs.Prelude.{◌≤◌, length};
 
-use libc::{STDIN_FILENO, STDOUT_FILENO};
+use frames::fill;
+use std::fs::Files;
+use std::io;
+use std::io::{Read, Write};
 
 // How far a line is: so many of its bytes are held; whether there were more than there is room for; whether there was a byte.
 #[derive(Clone, Copy)]
@@ -30,15 +33,7 @@ fn begins(line: &[u8], word: &[u8]) -> bool {
     if line.len() < word.len() {
         return false;
     }
-    let mut i = 0;
-    while i < word.len() {
-        let at = i;
-        i += 1;
-        if line[at] != word[at] {
-            return false;
-        }
-    }
-    true
+    &line[..word.len()] == word
 }
 
 // A decimal digit; 10 if it is none.
@@ -58,14 +53,12 @@ fn digit(byte: u8) -> usize
 fn digits_end(line: &[u8]) -> usize
     ensures { result ≤ length line.now }
 {
-    let mut i = 0;
-    while i < line.len() {
+    for i in 0..line.len() {
         if digit(line[i]) == 10 {
             return i;
         }
-        i += 1;
     }
-    i
+    line.len()
 }
 
 // A digit more; from 100 on the number stays, above all numbers of blocks.
@@ -79,117 +72,120 @@ fn one_more(number: usize, byte: u8) -> usize {
 // The number of some digits.
 fn number_of(digits: &[u8]) -> usize {
     let mut number = 0;
-    let mut i = 0;
-    while i < digits.len() {
-        number = one_more(number, digits[i]);
-        i += 1;
+    for byte in digits {
+        number = one_more(number, *byte);
     }
     number
 }
 
 // ---- the calls
 
-fn no_call() {
-    io::write_all(STDOUT_FILENO, b"NO CALL\n");
+fn no_call<W: Write>(out: &mut W) -> io::Result<()> {
+    out.write_all(b"NO CALL\n")
 }
 
-fn no_file() {
-    io::write_all(STDOUT_FILENO, b"NO FILE\n");
+fn no_file<W: Write>(out: &mut W) -> io::Result<()> {
+    out.write_all(b"NO FILE\n")
 }
 
-// Whether bytes can be read from what was opened: a directory has none.
-fn is_readable(file: i32) -> bool {
-    let mut none = [0u8; 0];
-    libc::read(file, &mut none) >= 0
-}
-
-// The block of an open file, added under a number.
-fn add_opened(words: &mut [u64], number: usize, file: i32) {
-    if !is_readable(file) {
-        no_file();
-        return;
-    }
+// The block of an open file, added under a number. A directory can be opened, and has no bytes that can be read.
+fn add_opened<F: Read, W: Write>(
+    out: &mut W,
+    words: &mut [u64],
+    number: usize,
+    file: &mut F,
+) -> io::Result<()> {
     let mut space = [0u8; 32768];
-    let length = io::read_full(file, &mut space);
-    pool_telling::add(words, number, &space[..length]);
+    match fill(file, &mut space) {
+        Ok(length) => pool_telling::add(out, words, number, &space[..length]),
+        Err(_) => no_file(out),
+    }
 }
 
-fn add_file(words: &mut [u64], number: usize, path: &[u8]) {
-    let file = os::open_read(path);
-    if file < 0 {
-        no_file();
-        return;
+fn add_file<R: Files, W: Write>(
+    rt: &R,
+    out: &mut W,
+    words: &mut [u64],
+    number: usize,
+    path: &[u8],
+) -> io::Result<()> {
+    match files::open(rt, path, false) {
+        Ok(mut file) => add_opened(out, words, number, &mut file),
+        Err(_) => no_file(out),
     }
-    add_opened(words, number, file);
-    libc::close(file);
 }
 
 // Behind `add `: a number, a space and the name of a file.
-fn add_named(words: &mut [u64], line: &[u8]) {
+fn add_named<R: Files, W: Write>(
+    rt: &R,
+    out: &mut W,
+    words: &mut [u64],
+    line: &[u8],
+) -> io::Result<()> {
     let end = digits_end(line);
     if end > 0 {
         if end < line.len() {
             if line[end] == b' ' {
                 let number = number_of(&line[..end]);
-                add_file(words, number, &line[end + 1..]);
-                return;
+                return add_file(rt, out, words, number, &line[end + 1..]);
             }
         }
     }
-    no_call();
+    no_call(out)
 }
 
 // Behind `withdraw `: a number and nothing else.
-fn withdraw_named(words: &mut [u64], line: &[u8]) {
+fn withdraw_named<W: Write>(out: &mut W, words: &mut [u64], line: &[u8]) -> io::Result<()> {
     if line.len() > 0 {
         if digits_end(line) == line.len() {
-            pool_telling::withdraw(words, number_of(line));
-            return;
+            return pool_telling::withdraw(out, words, number_of(line));
         }
     }
-    no_call();
+    no_call(out)
 }
 
 // A line that is neither `add ..` nor `withdraw ..`.
-fn show(words: &[u64], line: &[u8]) {
+fn show<W: Write>(out: &mut W, words: &[u64], line: &[u8]) -> io::Result<()> {
     if line.len() == 4 {
         if begins(line, b"show") {
-            pool_telling::show(words);
-            return;
+            return pool_telling::show(out, words);
         }
     }
-    no_call();
+    no_call(out)
 }
 
 // A line.
-fn call(words: &mut [u64], line: &[u8]) {
+fn call<R: Files, W: Write>(rt: &R, out: &mut W, words: &mut [u64], line: &[u8]) -> io::Result<()> {
     if line.len() > 4 {
         if begins(line, b"add ") {
-            add_named(words, &line[4..]);
-            return;
+            return add_named(rt, out, words, &line[4..]);
         }
     }
     if line.len() > 9 {
         if begins(line, b"withdraw ") {
-            withdraw_named(words, &line[9..]);
-            return;
+            return withdraw_named(out, words, &line[9..]);
         }
     }
-    show(words, line);
+    show(out, words, line)
 }
 
 // ---- the lines of standard input, byte by byte
 
 // The line is over: one that there was no room for is none of the calls.
-fn over(words: &mut [u64], line: Line, text: &[u8]) {
+fn over<R: Files, W: Write>(
+    rt: &R,
+    out: &mut W,
+    words: &mut [u64],
+    line: Line,
+    text: &[u8],
+) -> io::Result<()> {
     let n = line.length;
     if !line.long {
         if n <= text.len() {
-            call(words, &text[..n]);
-            return;
+            return call(rt, out, words, &text[..n]);
         }
     }
-    no_call();
+    no_call(out)
 }
 
 // A byte more of a line.
@@ -210,23 +206,35 @@ fn taken(line: Line, byte: u8, text: &mut [u8]) -> Line {
     }
 }
 
-fn heard(words: &mut [u64], byte: u8, line: Line, text: &mut [u8]) -> Line {
+fn heard<R: Files, W: Write>(
+    rt: &R,
+    out: &mut W,
+    words: &mut [u64],
+    byte: u8,
+    line: Line,
+    text: &mut [u8],
+) -> io::Result<Line> {
     if byte == b'\n' {
-        over(words, line, text);
-        return begin();
+        over(rt, out, words, line, text)?;
+        return Ok(begin());
     }
-    taken(line, byte, text)
+    Ok(taken(line, byte, text))
 }
 
 // Some bytes.
-fn lines(words: &mut [u64], bytes: &[u8], line: Line, text: &mut [u8]) -> Line {
+fn lines<R: Files, W: Write>(
+    rt: &R,
+    out: &mut W,
+    words: &mut [u64],
+    bytes: &[u8],
+    line: Line,
+    text: &mut [u8],
+) -> io::Result<Line> {
     let mut next = line;
-    let mut i = 0;
-    while i < bytes.len() {
-        next = heard(words, bytes[i], next, text);
-        i += 1;
+    for byte in bytes {
+        next = heard(rt, out, words, *byte, next, text)?;
     }
-    next
+    Ok(next)
 }
 
 // What a part of standard input leaves: whether there may be more, and how far the line is.
@@ -236,35 +244,52 @@ struct Part {
     line: Line,
 }
 
-fn some_lines(words: &mut [u64], bytes: &mut [u8], line: Line, text: &mut [u8]) -> Part {
-    let got = io::count(libc::read(STDIN_FILENO, bytes), bytes);
-    let next = lines(words, &bytes[..got], line, text);
-    Part {
+fn some_lines<R: Files, I: Read, W: Write>(
+    rt: &R,
+    input: &mut I,
+    out: &mut W,
+    words: &mut [u64],
+    bytes: &mut [u8],
+    line: Line,
+    text: &mut [u8],
+) -> io::Result<Part> {
+    let got = input.read(bytes)?;
+    let next = lines(rt, out, words, &bytes[..got], line, text)?;
+    Ok(Part {
         more: got > 0,
         line: next,
-    }
+    })
 }
 
-// What standard input has is answered as soon as it is there. A last line without its end counts if it has a byte.
-// A proved loop has to end, and nothing says that standard input does: the turns are counted down from a number that no run uses up.
-fn stream(words: &mut [u64], bytes: &mut [u8], text: &mut [u8]) {
+// What the input has is answered as soon as it is there. A last line without its end counts if it has a byte.
+// A proved loop has to end, and nothing says that the input does: the turns are counted up to a number that no run reaches.
+fn stream<R: Files, I: Read, W: Write>(
+    rt: &R,
+    input: &mut I,
+    out: &mut W,
+    words: &mut [u64],
+    bytes: &mut [u8],
+    text: &mut [u8],
+) -> io::Result<()> {
     let mut line = begin();
-    let mut turns = u64::MAX;
-    let mut more = true;
-    while turns > 0 && more {
-        turns -= 1;
-        let now = some_lines(words, bytes, line, text);
+    for _ in 0..u64::MAX {
+        let now = some_lines(rt, input, out, words, bytes, line, text)?;
         line = now.line;
-        more = now.more;
+        if !now.more {
+            break;
+        }
     }
     if line.begun {
-        heard(words, b'\n', line, text);
+        heard(rt, out, words, b'\n', line, text)?;
     }
+    Ok(())
 }
 
-fn main() {
+fn main(rt: HostRuntime) -> io::Result<()> {
     let mut pool = [0u64; 4354];
-    let mut bytes = io::buffer();
+    let mut bytes = [0u8; 4096];
     let mut text = [0u8; 8192];
-    stream(&mut pool, &mut bytes, &mut text);
+    let mut input = rt.stdin();
+    let mut out = rt.stdout();
+    stream(&rt, &mut input, &mut out, &mut pool, &mut bytes, &mut text)
 }

@@ -5,21 +5,20 @@
 
 ghost use Rattle.std.specs.Prelude.{◌≡◌, length};
 
-use libc::{STDIN_FILENO, STDOUT_FILENO};
+use files::argument;
+use frames::fill;
 use script::{Outcome, script};
 use script_telling::tell;
-
-fn refuse(number: u8) {
-    io::write_all(STDOUT_FILENO, b"REFUSED ");
-    io::print_decimal(STDOUT_FILENO, number as u64);
-    io::write_all(STDOUT_FILENO, b"\n");
-}
+use std::env::Env;
+use std::io;
+use std::io::Write;
 
 // The first bytes of the text.
-fn print_first(text: &[u8], length: usize) {
+fn print_first<W: Write>(out: &mut W, text: &[u8], length: usize) -> io::Result<()> {
     if length <= text.len() {
-        io::write_all(STDOUT_FILENO, &text[..length]);
+        out.write_all(&text[..length])?;
     }
+    Ok(())
 }
 
 // A text that every script fits into, and a byte more: none is longer than 2,024,782 bytes (`script_laws/specs/Length.antt: script-length`).
@@ -30,48 +29,33 @@ fn blank() -> [u8; 2024783]
 }
 
 // Whether the argument is `back`.
-fn is_back() -> bool {
-    let mut argument = [0u8; 5];
-    let length = os::arg(1, &mut argument);
-    if length != 4 {
-        return false;
-    }
-    if argument[0] != b'b' {
-        return false;
-    }
-    if argument[1] != b'a' {
-        return false;
-    }
-    if argument[2] != b'c' {
-        return false;
-    }
-    argument[3] == b'k'
+fn is_back<E: Env>(env: &E) -> bool {
+    let mut word = [0u8; 5];
+    let length = argument(env, 1, &mut word);
+    &word[..length] == b"back".as_slice()
 }
 
 // "It reads at most 32,768 bytes of a block on standard input; the rest is not read."
-fn forth() {
+fn forth(rt: &HostRuntime) -> io::Result<()> {
     let mut space = [0u8; 32768];
-    let length = io::read_full(STDIN_FILENO, &mut space);
+    let length = fill(&mut rt.stdin(), &mut space)?;
     let mut text = blank();
     let outcome = script(&space[..length], &mut text);
+    let mut out = rt.stdout();
     match outcome {
-        Outcome::Refused(number) => refuse(number),
-        Outcome::Written(size) => print_first(&text, size),
+        Outcome::Refused(number) => writeln!(out, "REFUSED {number}"),
+        Outcome::Written(size) => print_first(&mut out, &text, size),
     }
 }
 
 // A text that is longer than the longest script stops before its end, so that no more of it need be read.
-fn back() {
+fn back(rt: &HostRuntime) -> io::Result<()> {
     let mut text = blank();
-    let length = io::read_full(STDIN_FILENO, &mut text);
+    let length = fill(&mut rt.stdin(), &mut text)?;
     let mut output = [0u8; 32768];
-    tell(&text[..length], &mut output);
+    tell(&mut rt.stdout(), &text[..length], &mut output)
 }
 
-fn main() {
-    if is_back() {
-        back();
-    } else {
-        forth();
-    }
+fn main(rt: HostRuntime) -> io::Result<()> {
+    if is_back(&rt) { back(&rt) } else { forth(&rt) }
 }

@@ -4,13 +4,14 @@
 #![tactic(auto)]
 
 use areas::{open, print_answer};
+use frames::fill;
+use std::io;
 
-fn main() {
-    let descriptor = open(false);
-    if descriptor < 0 {
-        return;
-    }
+fn main(rt: HostRuntime) -> io::Result<()> {
+    let Some(mut file) = open(&rt, false)? else {
+        return Ok(());
+    };
     let mut area = [0u8; 65536];
-    let n = io::read_full(descriptor, &mut area);
-    print_answer(loading::start(&area[..n]), b"STARTS ");
+    let n = fill(&mut file, &mut area)?;
+    print_answer(&mut rt.stdout(), loading::start(&area[..n]), b"STARTS ")
 }

@@ -2,11 +2,12 @@
 
 #![tactic(auto)]
 
-use libc::STDIN_FILENO;
+use frames::fill;
+use std::io;
 
 // "It reads at most 32,768 bytes of a block on standard input; the rest is not read."
-fn main() {
+fn main(rt: HostRuntime) -> io::Result<()> {
     let mut space = [0u8; 32768];
-    let length = io::read_full(STDIN_FILENO, &mut space);
-    why_telling::tell(&space[..length]);
+    let length = fill(&mut rt.stdin(), &mut space)?;
+    why_telling::tell(&mut rt.stdout(), &space[..length])
 }

@@ -24,7 +24,7 @@ returns-2 c =
 cast-t17 : tie.Need-overflow_cast-result
 cast-t17 c =
     let small = (number_read c.read_magnitude-found.ensures
-    c.in-Read.is).1.at_most in
+    c.in-Read.is).1.at-most in
     record { sfits = omega (arith, small) }
 
 sub-t18 : tie.Need-overflow_sub-result

@@ -7,7 +7,7 @@ use Rattle.script_polynomial.proofs.numbers.read_plain.Tie as tie
 
 cast-t9 : tie.Need-overflow_cast-result
 cast-t9 c =
-    let small = (number_read c.read_magnitude-found.ensures c.in-Read.is).1.at_most in
+    let small = (number_read c.read_magnitude-found.ensures c.in-Read.is).1.at-most in
     record { sfits = omega (arith, small) }
 
 returns-2 : tie.Need-returns-in-Read
