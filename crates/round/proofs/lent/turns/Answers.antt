@@ -1,5 +1,5 @@
 -- Each turn asks what the turns before it have left, and leaves the same of one turn more.
-use Rattle.std.proofs.Common.{◌<◌, ◌≤◌, refl, arith}
+use Rattle.std.proofs.Common.{refl, arith}
 use Rattle.round.proofs.Narrowing.{narrowing, asked, narrowed, narrowed-all}
 use Rattle.round.proofs.lent.turns.Goals as goal
 
