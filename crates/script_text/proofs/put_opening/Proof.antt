@@ -15,7 +15,7 @@ put_opening_spec =
     (λ c κs. fits-as (opening-least _ c.in-3.is) c.requires)
     (λ c κs. fits-as (opening-below _ c.in-4.is) c.requires)
     (λ c κs. fits-as (opening-other _ c.in-5.is) c.requires)
-    (λ c κs. let m = c.in_default.in_default-own in fits-as (opening-most _ m.0.0.0.0.0.1 m.0.0.0.0.1 m.0.0.0.1 m.0.0.1 m.0.1 m.1)
+    (λ c κs. let m = c.in_default.in_default-own.rest in fits-as (opening-most _ m.0.0.0.0.0.1 m.0.0.0.0.1 m.0.0.0.1 m.0.0.1 m.0.1 m.1)
     c.requires)
     (λ c. wrote_as wrote_nothing (opening-empty _ c.in-0.is))
     (λ c. search rules) (λ c. wrote_as c.put_bytes.ensures (opening-above _ c.in-1.is))
@@ -25,5 +25,5 @@ put_opening_spec =
     (λ c. search rules) (λ c. wrote_as c.put_bytes-in-5.ensures (opening-other _ c.in-5.is))
     (λ c. search rules)
     (λ c.
-    let m = c.in_default.in_default-own in
+    let m = c.in_default.in_default-own.rest in
     wrote_as c.put_bytes-in_default.ensures (opening-most _ m.0.0.0.0.0.1 m.0.0.0.0.1 m.0.0.0.1 m.0.0.1 m.0.1 m.1)))

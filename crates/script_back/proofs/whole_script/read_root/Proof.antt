@@ -11,7 +11,7 @@ read_root_spec =
     tie.close
     (tie.spec (λ c κs. search rules) (λ c κs. search rules) (λ c. search rules)
     (λ c.
-    root-is-true c.requires.0 (sym c.byte_at-first.ensures ∙ c.if-first-eq116.true) c.Read-none.ensures) (λ c κs. search rules) (λ c. search rules)
+    root-is-true c.requires.0 (sym c.byte_at-first.ensures ∙ c.if-first-eq116.true) c.read_none.ensures) (λ c κs. search rules) (λ c. search rules)
     (λ c.
     root-is-false c.requires.0 (sym c.byte_at-first.ensures ∙ c.if-first-eq102.true) c.read_none-then-first-eq102.ensures)
     (λ c κs.
