@@ -40,8 +40,7 @@ pub +put_declarations_spec : {M : Type 1} → statement M
     record { fits = omega (arith, c.requires.1.0) })
     (λ c.
     omega (arith, c.if-count-eq0.false))
-    (λ c κs.
-    (
+    (λ c κs. (
       omega (arith, c.if-count-eq0.false),
       (
         omega (arith, c.requires.1.0, c.if-count-eq0.false),

@@ -39,8 +39,7 @@ pub +put_parts_spec : {M : Type 1} → statement M
     (λ c.
     omega (arith, first-there c.requires.1 c.if-count-eq0.false))
     (λ c. omega (arith, c.if-count-eq0.false))
-    (λ c κs.
-    (
+    (λ c κs. (
       omega (arith, first-there c.requires.1 c.if-count-eq0.false),
       after-atom c.requires.1 c.if-count-eq0.false c.if-first-lt-JOIN.true c.put_byte-start.ensures c.put_atom-next.ensures,
     ))
@@ -57,8 +56,7 @@ pub +put_parts_spec : {M : Type 1} → statement M
     omega (arith, c.shared_slice_known-4-1.given c.args.k))
     (λ c.
     kind_fits c.requires.1 c.if-count-eq0.false c.if-first-lt-JOIN.false)
-    (λ c κs.
-    (
+    (λ c κs. (
       omega (arith, first-there c.requires.1 c.if-count-eq0.false),
       inside-join c.requires.1 c.if-count-eq0.false c.if-first-lt-JOIN.false c.put_byte-start.ensures c.put_join-kids.ensures,
     ))
@@ -66,8 +64,7 @@ pub +put_parts_spec : {M : Type 1} → statement M
     fits-end c.requires.1 c.if-count-eq0.false c.if-first-lt-JOIN.false c.put_byte-start.ensures c.put_join-kids.ensures c.put_parts-inner.ensures)
     (λ c.
     omega (arith, c.if-count-eq0.false))
-    (λ c κs.
-    (
+    (λ c κs. (
       omega (
         arith,
         first-there c.requires.1 c.if-count-eq0.false,

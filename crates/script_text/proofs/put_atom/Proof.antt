@@ -11,8 +11,7 @@ put_atom_spec =
     (tie.spec (λ c. search rules) (λ c. search rules) (λ c. search rules)
     (λ c κs. fits-first (atom-split _ _) c.requires.3)
     (λ c. search rules)
-    (λ c κs.
-    (
+    (λ c κs. (
       c.requires.0,
       c.requires.2,
       fits-first two_runs (fits-second (atom-split _ _) c.requires.3 c.put_opening-polynomial.ensures),

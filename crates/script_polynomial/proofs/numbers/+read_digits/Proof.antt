@@ -58,8 +58,7 @@ pub +read_digits_spec : {M : Type 1} → statement M
     (λ c. omega (arith, (digit t c).0))
     (λ c. omega (arith, (digit t c).1))
     (λ c. omega (arith, (digit t c).2))
-    (λ c κs.
-    (
+    (λ c κs. (
       omega (arith, c.if-most-eq0.false, c.requires.0),
       (
         omega (arith, here t c),

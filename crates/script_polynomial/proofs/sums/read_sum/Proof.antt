@@ -8,14 +8,13 @@ use Rattle.script_polynomial.proofs.sums.read_sum.Statement.{statement}
 use Rattle.script_polynomial.proofs.sums.read_sum.Tie as tie
 
 read-term-requires : tie.Need-read_term-found-requires
-read-term-requires c κs =
-    (
-      run_inside _ _ (40 ∷ 43 ∷ 32 ∷ []) c.agreed-start.ensures c.requires.0,
-      c.requires.1,
-      c.requires.2,
-      c.highest.ensures.1,
-      record { coefficients = omega (arith, c.requires.3.coefficients); monomials = omega (arith, c.requires.3.monomials) },
-    )
+read-term-requires c κs = (
+  run_inside _ _ (40 ∷ 43 ∷ 32 ∷ []) c.agreed-start.ensures c.requires.0,
+  c.requires.1,
+  c.requires.2,
+  c.highest.ensures.1,
+  record { coefficients = omega (arith, c.requires.3.coefficients); monomials = omega (arith, c.requires.3.monomials) },
+)
 
 read-others-requires : tie.Need-read_others-requires
 read-others-requires c κs =

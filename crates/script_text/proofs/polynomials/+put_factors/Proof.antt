@@ -28,15 +28,13 @@ pub +put_factors_spec : {M : Type 1} → statement M
     (λ c. omega (arith, c.if-count-eq0.false))
     (λ c. record { fits = omega (arith, c.requires.1.0) })
     (λ c. omega (arith, c.requires.1.0))
-    (λ c κs.
-    (
+    (λ c κs. (
       omega (arith, c.requires.1.0, c.if-count-eq0.false),
       fits-first (factors-more _ _ _ c.if-count-eq0.false) c.requires.1.1,
     ))
     (λ c. record { fits = omega (arith, c.requires.1.0) })
     (λ c. omega (arith, c.if-count-eq0.false))
-    (λ c κs.
-    (
+    (λ c κs. (
       omega (arith, c.if-count-eq0.false),
       (
         omega (arith, c.requires.1.0, c.if-count-eq0.false),

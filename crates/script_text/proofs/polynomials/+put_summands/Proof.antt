@@ -36,8 +36,7 @@ pub +put_summands_spec : {M : Type 1} → statement M
     (λ c. omega (arith, c.requires.1.1.coefficients, c.if-count-eq0.false))
     (λ c. search rules)
     (λ c. omega (arith, c.requires.1.1.monomials, c.if-count-eq0.false))
-    (λ c κs.
-    (
+    (λ c κs. (
       c.requires.1.0,
       fits-first two_runs (fits-second (summands-more _ _ _ _ _ c.if-count-eq0.false (to_z-of_z w32 _ (record { sfits = c.value-1.given })))
           c.requires.1.2 c.put_byte-term.ensures),
@@ -45,8 +44,7 @@ pub +put_summands_spec : {M : Type 1} → statement M
     (λ c.
     record { fits = omega (arith, c.requires.1.1.coefficients, c.if-count-eq0.false, c.ranges.k) })
     (λ c. omega (arith, c.if-count-eq0.false))
-    (λ c κs.
-    (
+    (λ c κs. (
       omega (arith, c.if-count-eq0.false),
       (
         c.requires.1.0,

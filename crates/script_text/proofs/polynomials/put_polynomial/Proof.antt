@@ -12,8 +12,7 @@ pub put_polynomial_spec : {M : Type 1} → statement M
 put_polynomial_spec =
     tie.close
     (tie.spec (λ c. polynomial-none _ _ _ _ _ c.if-count-eq0.true) (λ c. search rules) (λ c. search rules) (λ c. search rules) (λ c. search rules)
-    (λ c κs.
-    (
+    (λ c κs. (
       c.requires.0,
       fits-as (polynomial-one _ _ _ _ _ c.if-count-eq1.true (to_z-of_z w32 _ (record { sfits = c.value-1.given }))) c.requires.2,
     ))
@@ -22,8 +21,7 @@ put_polynomial_spec =
     wrote_as c.put_term.ensures (polynomial-one _ _ _ _ _ c.if-count-eq1.true (to_z-of_z w32 _ (record { sfits = c.value-1.given }))))
     (λ c κs.
     fits-first (polynomial-many _ _ _ _ _ c.if-count-eq0.false c.if-count-eq1.false) c.requires.2)
-    (λ c κs.
-    (
+    (λ c κs. (
       c.requires.0,
       c.requires.1,
       fits-first two_runs (fits-second (polynomial-many _ _ _ _ _ c.if-count-eq0.false c.if-count-eq1.false) c.requires.2 c.put_bytes-terms.ensures),

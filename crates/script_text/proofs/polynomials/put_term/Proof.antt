@@ -26,8 +26,7 @@ put_term_spec =
     (λ c κs. fits-first (term-product _ _ _ (back c.before.before.before.before.before) c.if-monomial-eq0.false) c.requires.1)
     (λ c κs.
     fits-first two_runs (fits-second (term-product _ _ _ (back c.before.before.before.before.before.before.before.before.before) c.if-monomial-eq0.false) c.requires.1 c.put_bytes-number.ensures))
-    (λ c κs.
-    (
+    (λ c κs. (
       omega (arith, c.requires.0),
       fits-first two_runs (fits-second two_runs
           (fits-second (term-product _ _ _ (back c.before.before.before.before.before.before.before.before.before.before.before.before.before) c.if-monomial-eq0.false) c.requires.1 c.put_bytes-number.ensures) c.put_number-product.ensures),

@@ -33,8 +33,7 @@ pub +put_digits_spec : {M : Type 1} → statement M
     (λ c.
     wrote_as c.put_digit-then-x-lt10.ensures (digits_low _ _ c.if-most-eq0.false c.if-x-lt10.true))
     (λ c. omega (arith, c.if-most-eq0.false))
-    (λ c κs.
-    (
+    (λ c κs. (
       omega (arith, c.if-most-eq0.false),
       fits-first (digits-high _ _ c.if-most-eq0.false c.if-x-lt10.false) c.requires.1,
     ))

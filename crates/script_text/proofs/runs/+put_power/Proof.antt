@@ -30,8 +30,7 @@ pub +put_power_spec : {M : Type 1} → statement M
     (λ c κs.
     fits-first two_runs (fits-second (power-more _ _ c.if-exponent-eq0.false) c.requires.1.1 c.put_byte-letter.ensures))
     (λ c. omega (arith, c.if-exponent-eq0.false))
-    (λ c κs.
-    (
+    (λ c κs. (
       omega (arith, c.if-exponent-eq0.false),
       (
         c.requires.1.0,
