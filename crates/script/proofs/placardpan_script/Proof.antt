@@ -8,7 +8,7 @@ use Rattle.script.proofs.placardpan_script.Statement.{statement}
 use Rattle.script.proofs.placardpan_script.Tie as tie
 
 small : tie.Need-number_in-requires
-small c κs = let telling = c.before.before in subst (λ (o : Outcome). size_in o ≤ 2024782) (sym telling.script-outcome.ensures.returns) (outcome-small _ _)
+small c κs = subst (λ (o : Outcome). size_in o ≤ 2024782) (sym c.script-outcome.ensures.returns) (outcome-small _ _)
 
 returns : tie.Need-returns
 returns c =
