@@ -50,7 +50,12 @@ fn put<F: FileExt + OpenFile>(file: &F, block: &[u8], k: usize, sync: bool) -> i
 }
 
 // The writes of a load from the first one on, each finished before the next, up to the first that is not taken.
-pub fn put_all<F: FileExt + OpenFile>(file: &F, block: &[u8], first: usize, sync: bool) -> io::Result<()> {
+pub fn put_all<F: FileExt + OpenFile>(
+    file: &F,
+    block: &[u8],
+    first: usize,
+    sync: bool,
+) -> io::Result<()> {
     let size = block.len();
     for k in first..size {
         put(file, block, k, sync)?;

@@ -44,8 +44,7 @@ fn without_number(text: &str) -> &str {
 }
 
 // Puts the text of an error at the start of `space` and returns its length.
-fn put_text(error: &Error, space: &mut [u8]) -> io::Result<usize>
-{
+fn put_text(error: &Error, space: &mut [u8]) -> io::Result<usize> {
     let size = space.len();
     let mut room = space;
     write!(room, "{error}")?;
