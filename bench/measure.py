@@ -1,6 +1,6 @@
 """What the commands of this folder share: building what is missing, the blocks, and how a call is measured.
 
-On x86-64 all run as they are. On Arm the proved program is for x86-64 and runs under the kit's emulator; plain.c is then compiled by Debian's
+On x86-64 all run as they are. On Arm the proved program is for x86-64 and runs under qemu-x86_64; plain.c is then compiled by Debian's
 cross compiler and runs under the same one. CC, CFLAGS and EMULATOR override."""
 import os
 import platform
@@ -11,9 +11,11 @@ import tempfile
 
 ROOT = os.path.join(os.path.dirname(os.path.abspath(__file__)), "..")
 os.chdir(ROOT)
+sys.path.insert(0, "front")
+import programs
 
 INDEPENDENT = "independent/target/release/independent"
-PROGRAM = "target/bin/placardpan_repeat"
+PROGRAM = "crates/placardpan_repeat/out/placardpan_repeat"
 PLAIN = "target/bench/plain"
 PLAIN_COUNT = "target/bench/plain-count"
 
@@ -26,21 +28,19 @@ def output(words, given=b""):
 
 
 def kit():
-    """The kit's folder for this machine's tools."""
-    guide = output(["rt", "doc"]).decode().split()[-1]
-    home = os.path.dirname(os.path.dirname(guide))
-    return os.path.join(home, "on", platform.machine(), "toolchain")
+    """The kit's folder with the loader and the C library of its programs."""
+    return os.path.join(os.path.dirname(output(["rt", "doc"]).decode().strip()), "toolchain")
 
 
 def emulator():
     """The words before an x86-64 program's name: none on x86-64."""
     if EMULATOR:
         return [EMULATOR]
-    return [] if NATIVE else [os.path.join(kit(), "bin", "qemu-x86_64")]
+    return [] if NATIVE else ["qemu-x86_64"]
 
 
 def program(path=PROGRAM):
-    """The words that run a proved program: under an emulator it takes the kit's loader and C library, as rt runs it."""
+    """The words that run a proved program: under an emulator it takes the kit's loader and C library."""
     before = emulator()
     if not before:
         return [path]
@@ -71,10 +71,8 @@ def build(proved=True):
 
 
 def prove(name):
-    """Proves and builds a program."""
-    checked = subprocess.run(["rt", "check", name], stdout=subprocess.PIPE, stderr=subprocess.STDOUT)
-    if checked.returncode:
-        sys.exit(checked.stdout.decode())
+    """Proves and builds a program, as ./placardpan does."""
+    programs.build(name)
 
 
 def corpus(words):

@@ -59,22 +59,27 @@ def lines_of(pipe):
 
 
 def tell_progress(pipe, log, crates):
-    """What rt prints, kept in the log, and told as how many of so many crates are proved, once one is proved that was not proved before."""
+    """What rt prints, kept in the log, and told as the crates that it proves, of at most so many (it names none that is built already).
+    Whether the program was built: rt says then that it runs it."""
     before, after = ("\r\033[K", "") if sys.stderr.isatty() else ("", "\n")
-    proved, begun = 0, False
+    proved, begun, crate, is_built = 0, False, "", False
     for line in lines_of(pipe):
         if line is not None:
             log.write(line + "\n")
-        if not begun and (line is None or re.match(r"rt: \w+ proved \([0-9]+ s\)", line)):
+        if not begun and (line is None or line.startswith("fn ")):
             begun = True
             say("placardpan: proving and building the program; the first time this takes some minutes")
-        found = line is not None and re.match(r"rt: (\w+) proved \(", line)
-        if found:
+        line = line or ""
+        found = re.match(r"crate (\w+): modules loaded=", line)
+        crate = found.group(1) if found else crate
+        if line.startswith("logic=proved "):
             proved += 1
             if begun:
-                say("%splacardpan: %d of %d crates proved, %s" % (before, proved, crates, found.group(1)), after)
+                say("%splacardpan: %d proved of at most %d crates, %s" % (before, proved, crates, crate), after)
+        is_built = is_built or line.startswith("rt: running out/")
     if begun and after == "":
         say("")
+    return is_built
 
 
 def build(name):
@@ -95,10 +100,13 @@ def build(name):
         if os.path.exists(kept):
             os.remove(kept)
         crates = subprocess.run([tool("made-of"), name], stdout=subprocess.PIPE).stdout.split()
+        # rt run proves, builds and then runs the program, here on an empty input; how that run ends has no meaning
         with open(log, "w") as file:
-            child = subprocess.Popen(["rt", "check", name], cwd=HERE, stdin=subprocess.DEVNULL, stdout=subprocess.PIPE, stderr=subprocess.STDOUT)
-            tell_progress(child.stdout, file, len(crates))
-        if child.wait() != 0:
+            folder = os.path.join(HERE, "crates", name)
+            child = subprocess.Popen(["rt", "run"], cwd=folder, stdin=subprocess.DEVNULL, stdout=subprocess.PIPE, stderr=subprocess.STDOUT)
+            is_made = tell_progress(child.stdout, file, len(crates))
+        child.wait()
+        if not is_made:
             raise Failed("the program is not built; the log is in %s" % log)
         with open(kept, "w") as file:
             file.write(made_of(name) + "\n")

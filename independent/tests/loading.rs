@@ -85,8 +85,8 @@ fn the_cases_that_the_laws_are_tried_on() {
     let list =
         |name: &str| numbers(text.split(&format!("\n{name} = ")).nth(1).unwrap().lines().next().unwrap());
     let mut claims = 0;
-    for line in text.lines().filter(|line| line.contains("(startOf (cutAt case")) {
-        let words: Vec<&str> = line.split("(startOf (cutAt ").nth(1).unwrap().split([' ', ')']).collect();
+    for line in text.lines().filter(|line| line.contains("(start_of (cut_at case")) {
+        let words: Vec<&str> = line.split("(start_of (cut_at ").nth(1).unwrap().split([' ', ')']).collect();
         let (block, mut area) = (list(words[0]), list(words[1]));
         let (k, value): (usize, u8) = (words[2].parse().unwrap(), words[3].parse().unwrap());
         let left_out = usize::from(area[3] == 255);

@@ -128,7 +128,7 @@ module _ (bytes : List ℕ) where
                   record {
                     found = record {
                       reading = by-numbers ∙ rw (first, le-leb n 16 few, ← w, le-leb polynomials 64 table, ← x, lt-ltb 0 nodes some_nodes);
-                      inside = record { at-most = omega arith; short = rw (← same, z) (value-take-lt 16 (drop 24 (unpack bytes))) };
+                      inside = record { at_most = omega arith; short = rw (← same, z) (value-take-lt 16 (drop 24 (unpack bytes))) };
                       variables = few;
                       polynomials = table;
                       nodes = rw x (omega (arith, value-take-lt 8 (drop 16 (unpack bytes))));

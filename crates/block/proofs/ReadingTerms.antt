@@ -85,7 +85,7 @@ module _ (n above : ℕ) (first : Bool) {bytes : List ℕ} {place : Place} {rest
           reads (record { coefficient = signed minus magnitude; monomial = exponents })
           (by-fields bytes place n (ceiling first n above) l long
           ∙ rw (← m, lt-ltb 0 magnitude o, ← x, same_test bytes place n above first x f, not-false fall h, ← s))
-          (record { at-most = omega (arith, l.up_to_end); short = short }) (record { allows = refl; coefficient = ap (set cs k) c; monomial = refl })
+          (record { at_most = omega (arith, l.up_to_end); short = short }) (record { allows = refl; coefficient = ap (set cs k) c; monomial = refl })
 
 -- ---- the terms of a polynomial
 

@@ -113,7 +113,7 @@ module _ (bytes : List ℕ) (place : Place) (nesting m parent : ℕ) where
           atom-opens h short = record {
             opens = record {
               reading = by_number ∙ rw (lt-ltb (both / 8) m h);
-              inside = record { at-most = omega arith; short = short };
+              inside = record { at_most = omega arith; short = short };
               some_allowed = some_left;
               number_small = rw number_is (value-take-lt 6 (drop (place.at + 2) (unpack bytes)));
               set_small = rw set_is (value-take-lt 3 (drop (place.at + 8) (unpack bytes)));
@@ -153,7 +153,7 @@ module _ (bytes : List ℕ) (place : Place) (nesting m parent : ℕ) where
             join-opens deep {count} c short = record {
               opens = record {
                 reading = by-parent ∙ rw (ne_eqb kind parent other, ← c) (one-less nesting deep);
-                inside = record { at-most = omega arith; short = short };
+                inside = record { at_most = omega arith; short = short };
                 some_allowed = some_left;
                 some_nesting = omega arith;
                 children_small = rw c (value-take-lt 8 (drop (place.at + 2) (unpack bytes)));

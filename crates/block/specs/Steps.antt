@@ -31,7 +31,7 @@ stream_at bytes place = record { allowed = place.allowed; bits = drop place.at (
 
 -- The place lies in the input, whose length a field of 16 bits can give.
 pub record Inside (bytes : List ℕ) (place : Place) : Type 0 where
-  pub at-most : place.at ≤ 8 * length bytes
+  pub at_most : place.at ≤ 8 * length bytes
   pub short : length bytes < 2 ^ 16
 
 -- So many bits are left from a place on.

@@ -135,9 +135,9 @@ pack_bytes-unpack (byte ∷ bytes) small =
 -- ---- Zero bits up to the byte end.
 
 -- Where fewer than eight bits more fill up bytes, the bits need that many bytes.
-pub bytes_for-filled : (n zeros bytes : ℕ) → n + zeros ≡ 8 * bytes → zeros < 8 → bytes_for n ≡ bytes
+pub bytes_for-filled : (n more bytes : ℕ) → n + more ≡ 8 * bytes → more < 8 → bytes_for n ≡ bytes
 unfolding bytes_for
-bytes_for-filled n zeros bytes filled few = omega arith
+bytes_for-filled n more bytes filled few = omega arith
 
 -- Fewer than eight bits are added.
 pub few-added : (n : ℕ) → bytes_for n * 8 - n < 8

@@ -1,4 +1,5 @@
-// The entries for C, declared in `include/placardpan.h`: to C a slice is a pointer and a length, and each outcome is one number.
+// The entries for C, declared in `include/placardpan.h` and exported by crate convert_c.
+// To C a slice is a pointer and a length, and each outcome is one number.
 // Below 256 it is the refusal's number, else 65,536 more than the length of the finished block.
 ghost use Rattle.std.specs.Prelude.{◌≡◌, ◌+◌, ◌<◌};
 ghost use Rattle.rules.specs.Block.{edition1, edition2};
@@ -26,16 +27,14 @@ fn number_in(outcome: Converted) -> u32
 }
 
 // `to_edition1`
-#[unsafe(no_mangle)]
-pub extern "C" fn placardpan_to_edition1(input: &[u8], output: &mut [u8]) -> u32
+pub fn placardpan_to_edition1(input: &[u8], output: &mut [u8]) -> u32
     ensures { ExportsConversion edition1 input.now output.old output.new result }
 {
     number_in(to_edition1(input, output))
 }
 
 // `to_edition2`
-#[unsafe(no_mangle)]
-pub extern "C" fn placardpan_to_edition2(input: &[u8], output: &mut [u8]) -> u32
+pub fn placardpan_to_edition2(input: &[u8], output: &mut [u8]) -> u32
     ensures { ExportsConversion edition2 input.now output.old output.new result }
 {
     number_in(to_edition2(input, output))

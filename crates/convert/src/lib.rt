@@ -13,7 +13,7 @@ use block::{Contents, read_into};
 use lines::put_bytes;
 use writer::write;
 
-mod exported; // the entries for C
+pub mod exported; // the entries for C
 
 // A refusal's number, or the length of the finished block.
 #[derive(Clone, Copy)]

@@ -16,10 +16,8 @@ fn board_of(held: Held) -> Board {
     let token = held.token;
     let n = few(held.variables);
     let mut sets = [0u8; 16];
-    let mut i = 0;
-    while i < n {
+    for i in 0..n {
         sets[i] = (token[3 + i] % 8) as u8;
-        i += 1;
     }
     Board { variables: n, sets }
 }

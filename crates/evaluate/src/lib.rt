@@ -215,9 +215,8 @@ fn number_in(evaluation: Evaluation) -> u32
     }
 }
 
-// The entry for C, declared in `include/placardpan.h`.
-#[unsafe(no_mangle)]
-pub extern "C" fn placardpan_evaluate(input: &[u8], readings: &[i32]) -> u32
+// The entry for C, declared in `include/placardpan.h` and exported by crate evaluate_c.
+pub fn placardpan_evaluate(input: &[u8], readings: &[i32]) -> u32
     ensures { result ≡ evaluation_number (evaluate_book input.now readings.now) }
 {
     number_in(evaluate(input, readings))

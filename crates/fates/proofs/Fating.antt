@@ -1,9 +1,8 @@
 -- What becomes of the atoms, by the merged list, the atoms behind its last empty one, and their rounds.
-use mathlib.Core.Path.{◌≡◌, refl, sym, ap, ◌∙◌, subst}
+use mathlib.Core.Path.{◌≡◌, sym, ap, ◌∙◌, subst}
 use mathlib.Core.Bool.{Bool, true, false, true≢false}
-use mathlib.Core.List.{List, [], ◌∷◌, ◌++◌, append-nil}
+use mathlib.Core.List.{List, [], ◌∷◌, ◌++◌}
 use Prim.Native.Nat.{ℕ, suc, ◌+◌, ◌-◌, ◌%◌, ◌<◌, ◌≤◌}
-use native.Mathlib.Numerals.{add-one}
 use native.Mathlib.Omega.{arith}
 use lib.Dec.{eqb}
 use borrow.Author.Tests.{eq-eqb}
@@ -12,8 +11,8 @@ use lib.Seq.{take_all, drop-cons, get_or-drop}
 use Rattle.rules.specs.Signs.{empty}
 use Rattle.rules.specs.Polynomial.{Atom}
 use Rattle.rules.specs.Deduce.{any_empty}
-use Rattle.rules.specs.Rounds.{sets_of, Outcome, settled, run, carried}
-use Rattle.rules.specs.Level.{Placed, plain, plains, carry, remove_implied}
+use Rattle.rules.specs.Rounds.{sets_of, settled, run, carried}
+use Rattle.rules.specs.Level.{Placed, plains, carry}
 use Rattle.sign_laws.specs.Booleans.{or-first, or-second}
 use Rattle.level_laws.specs.Carried.{carried-plain}
 use Rattle.removal_laws.specs.Fewer.{Fewer, left_out, all-kept}
@@ -24,7 +23,6 @@ use Rattle.tape.specs.declared.rows.Row.{Row}
 use Rattle.tape.specs.Row.{Lists}
 use Rattle.tape.specs.Token.{atom_of, atoms_in}
 use Rattle.tape.specs.Entering.{map-append}
-use Rattle.round.specs.declared.State.{State}
 use Rattle.round.specs.Views.{state_of}
 use Rattle.rounds.specs.Views.{ending}
 use Rattle.settled.specs.Remaining.{CarriedFrom}
@@ -34,13 +32,13 @@ use Rattle.rules.specs.Reasons.{places_of, join_all, not_full, has_contradiction
 use Rattle.reason_laws.specs.SaysLess.{fails-by-more}
 use Rattle.reason_laws.specs.LeaveOut.{leave_out-map}
 use Rattle.reason_laws.specs.Places.{Among, all_among}
-use Rattle.reason_laws.specs.Sooner.{reasons_of, told-false, failing-later, failing-empty, failing-by-rounds, Unempty}
+use Rattle.reason_laws.specs.Sooner.{reasons_of, told-false, failing-later, failing-empty, failing-by-rounds}
 use Rattle.merging.specs.Merged.{Sparse, JoinsAll, NotFull, BehindEmpty}
 use Rattle.merging.specs.Slots.{Filled, filled-all, sparse-drop, sparse-few}
 use Rattle.leaving.specs.declared.Question.{Question}
-use Rattle.leaving.specs.Enough.{enough_if, enough_for, Proper, AsksAll, LeavesOut}
+use Rattle.leaving.specs.Enough.{enough_if, enough_for, AsksAll, LeavesOut}
 use Rattle.fates.specs.declared.Fates.{Fates}
-use Rattle.fates.specs.Fated.{FalseBy, EachBy, FatesOf, all_false, each_told}
+use Rattle.fates.specs.Fated.{FatesOf, all_false, each_told}
 use Rattle.fates.proofs.Tokens.{apart-tokens, low-tokens, unempty-tokens}
 
 -- All of a part up to the end.

@@ -1,14 +1,13 @@
 -- Tokens with no set empty, of which all but the first of a slot have the empty set: different slots, so different polynomials.
-use mathlib.Core.Path.{◌≡◌, refl, sym, ap, ◌∙◌}
-use mathlib.Core.Bool.{true, false}
+use mathlib.Core.Path.{◌≡◌, refl, sym, ◌∙◌}
+use mathlib.Core.Bool.{false}
 use mathlib.Core.List.{List, [], ◌∷◌}
 use Prim.Native.Nat.{ℕ, ◌%◌, ◌<◌}
 use native.Mathlib.Omega.{arith}
-use lib.Dec.{eqb}
 use borrow.Author.Tests.{ne_eqb}
 use Rattle.rules.specs.Deduce.{any_empty}
 use Rattle.rules.specs.Rounds.{sets_of}
-use Rattle.rules.specs.Level.{Placed, plain, plains}
+use Rattle.rules.specs.Level.{plains}
 use Rattle.sign_laws.specs.Lists.{Every, every_none, every}
 use Rattle.removal_laws.specs.Apart.{Other, Apart, none_apart, apart}
 use Rattle.removal_laws.specs.Rounds.{LowAtoms}

@@ -6,7 +6,7 @@ use Rattle.tape.specs.declared.rows.Row.{Row}
 use Rattle.tape.specs.Row.{Lists}
 use Rattle.tape.specs.Token.{atoms_in}
 use Rattle.settled.specs.Remaining.{CarriedFrom}
-use Rattle.rules.specs.Reasons.{places_of, join_all, told_from, each_reason, each_false}
+use Rattle.rules.specs.Reasons.{places_of, told_from, each_reason, each_false}
 use Rattle.reason_laws.specs.Places.{Among}
 use Rattle.reason_laws.specs.Sooner.{reasons_of}
 use Rattle.fates.specs.declared.Fates.{Fates}

@@ -3,7 +3,7 @@
 
 #![tactic(auto)]
 
-ghost use Rattle.std.specs.Prelude.{◌≤◌, ◌<◌, ◌≡◌, ◌+◌, IfOk, length, take, drop};
+ghost use Rattle.std.specs.Prelude.{◌≤◌, ◌<◌, ◌≡◌, ◌+◌, IfOk, IfSome, length, take, drop};
 ghost use Rattle.std.specs.Io.KnownBytes.{Consumes, IsAtEnd};
 
 use std::io;
@@ -63,6 +63,7 @@ pub fn fill<R: Read>(input: &mut R, space: &mut [u8]) -> io::Result<usize>
     ensures within { IfOk result (λ n. n ≤ length space.new) }
     ensures bytes { IfOk result (λ n. Consumes (R.remaining input.old) (R.remaining input.new) (take n space.new)) }
     ensures end { IfOk result (λ n. n < length space.new → IsAtEnd (R.remaining input.new)) }
+    ensures first { IfOk result (λ n. IfSome (R.remaining input.old) (λ xs. take n space.new ≡ take (length space.new) xs)) }
 {
     let mut filled = 0;
     while filled < space.len() {

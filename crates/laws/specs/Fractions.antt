@@ -14,7 +14,7 @@ use Rattle.rules.specs.Signs.{Sign, sign_of, positive, full, only, has}
 use Rattle.rules.specs.Polynomial.{Term, Polynomial, Atom, Board, exponent, monomial_sign, variable, constant}
 use Rattle.rules.specs.Formula.{Node}
 use Rattle.rules.specs.Meaning.{monomial_at, value_by, sign_at, atom_holds, holds, holds_at, Choice, whole_numbers, degree, total_degree, monomial_over, sign_over, holds_over}
-use Rattle.rules.specs.Tenths.{power-above-zero}
+use Rattle.rules.proofs.Tenths.{power-above-zero}
 use Rattle.sign_laws.specs.Lists.{every-wider}
 use Rattle.sign_laws.specs.Sets.{◌In◌}
 use Rattle.sign_laws.specs.Whole.{◌∈◌, by_sign, by-same-sign, sign_pos, sign-times}

@@ -1,14 +1,14 @@
 -- Fewer tokens are enough for less: what the laws of leave-out ask of a test.
-use mathlib.Core.Path.{◌≡◌, refl, sym, ap, ◌∙◌, subst}
+use mathlib.Core.Path.{◌≡◌, refl}
 use mathlib.Core.Bool.{Bool, true, false}
-use mathlib.Core.List.{List, [], ◌∷◌, ◌++◌}
+use mathlib.Core.List.{List}
 use Prim.Native.Nat.{ℕ}
-use Rattle.rules.specs.Signs.{SignSet, empty, inside, open_signs}
+use Rattle.rules.specs.Signs.{inside, open_signs}
 use Rattle.rules.specs.Polynomial.{Atom}
-use Rattle.rules.specs.Rounds.{Outcome, contradiction, settled, run, says, says_in}
+use Rattle.rules.specs.Rounds.{run, says, says_in}
 use Rattle.rules.specs.Level.{plain, plains, implied}
 use Rattle.removal_laws.specs.Apart.{Apart}
-use Rattle.turn_laws.specs.Some.{Some, none_there, not_there, there, some-fewer, all_there, some-both}
+use Rattle.turn_laws.specs.Some.{Some, not_there, there, some-fewer, all_there, some-both}
 use Rattle.table.specs.Table.{Table}
 use Rattle.tape.specs.Token.{atom_of, atoms_in}
 use Rattle.round.specs.declared.State.{State}

@@ -16,7 +16,8 @@ use Rattle.rules.specs.Answer as book
 use Rattle.rules.specs.Answer.{written, filled_part, formula_of, looked_up, answer}
 use Rattle.rules.specs.Meaning.{monomial_at, value_by, sign_at, atom_holds, holds, holds_at}
 use Rattle.rules.specs.Demands.{SameLifts, SameWholeLifts}
-use Rattle.rules.specs.Cases.{case_a, short_a, bytes-of-A}
+use Rattle.rules.specs.Cases.{case_a, short_a}
+use Rattle.rules.proofs.Cases.{bytes-of-A}
 use Rattle.laws.specs.Answers.{at-whole-numbers}
 use Rattle.answer.specs.declared.Verdict.{Verdict}
 use Rattle.answer.specs.declared.Verdict.TheVariants.{Always}

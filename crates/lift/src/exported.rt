@@ -1,4 +1,5 @@
-// The entries for C, declared in `include/placardpan.h`: to C a slice is a pointer and a length, and each outcome is one number.
+// The entries for C, declared in `include/placardpan.h` and exported by crate lift_c.
+// To C a slice is a pointer and a length, and each outcome is one number.
 // `specs/Exported.antt` has the number for each case of the book's answer.
 ghost use Rattle.std.specs.Prelude.{◌≡◌, ◌<◌};
 ghost use Rattle.answer.specs.Answered.{length_in as length_in_of};
@@ -56,8 +57,7 @@ fn counts_or_zero(answer: Answer) -> Counts
 }
 
 // `simplify`: below 256 the refusal's number, else the verdict and the length.
-#[unsafe(no_mangle)]
-pub extern "C" fn placardpan_simplify(input: &[u8], output: &mut [u8]) -> u32
+pub fn placardpan_simplify(input: &[u8], output: &mut [u8]) -> u32
     ensures { ExportsAnswer input.now output.old output.new result }
 {
     let given = simplify(input, output);
@@ -65,8 +65,7 @@ pub extern "C" fn placardpan_simplify(input: &[u8], output: &mut [u8]) -> u32
 }
 
 // `simplify_by`: the engine is 1 for the plain one; any other number takes the fast one. The outcome is that of `placardpan_simplify`.
-#[unsafe(no_mangle)]
-pub extern "C" fn placardpan_simplify_by(engine: u8, input: &[u8], output: &mut [u8]) -> u32
+pub fn placardpan_simplify_by(engine: u8, input: &[u8], output: &mut [u8]) -> u32
     ensures { ExportsAnswer input.now output.old output.new result }
 {
     let given = simplify_by(engine == 1, input, output);
@@ -74,8 +73,7 @@ pub extern "C" fn placardpan_simplify_by(engine: u8, input: &[u8], output: &mut 
 }
 
 // `simplified`: the filled part is the output's start, and this its length, 0 exactly on refusal.
-#[unsafe(no_mangle)]
-pub extern "C" fn placardpan_simplified(input: &[u8], output: &mut [u8]) -> usize
+pub fn placardpan_simplified(input: &[u8], output: &mut [u8]) -> usize
     ensures { ExportsLength input.now output.old output.new result }
 {
     length_in(simplify(input, output))
@@ -83,8 +81,7 @@ pub extern "C" fn placardpan_simplified(input: &[u8], output: &mut [u8]) -> usiz
 
 // `simplify` with the counts, each through a number of the caller's: atoms in and out; polynomials in, the different non-constant normal forms that
 // the given tree uses; polynomials out, those of the new table.
-#[unsafe(no_mangle)]
-pub extern "C" fn placardpan_counted(
+pub fn placardpan_counted(
     input: &[u8],
     output: &mut [u8],
     atoms_in: &mut usize,
@@ -105,8 +102,7 @@ pub extern "C" fn placardpan_counted(
 }
 
 // `placed`: the number as `placardpan_simplify` gives it, with refusal 18 if fewer than 255 places are lent; the places through the caller's slice.
-#[unsafe(no_mangle)]
-pub extern "C" fn placardpan_placed(input: &[u8], output: &mut [u8], places: &mut [u8]) -> u32
+pub fn placardpan_placed(input: &[u8], output: &mut [u8], places: &mut [u8]) -> u32
     ensures { ExportsPlaces input.now output.old output.new places.old places.new result }
 {
     let given = placed(input, output, places);
@@ -115,8 +111,7 @@ pub extern "C" fn placardpan_placed(input: &[u8], output: &mut [u8], places: &mu
 
 // `with_rounds`: the number as `placardpan_simplify` gives it; the largest number of rounds that one run took, 0 on refusal, through a number of the
 // caller's.
-#[unsafe(no_mangle)]
-pub extern "C" fn placardpan_rounds(input: &[u8], output: &mut [u8], rounds: &mut usize) -> u32
+pub fn placardpan_rounds(input: &[u8], output: &mut [u8], rounds: &mut usize) -> u32
     ensures { ExportsRounds input.now output.old output.new result rounds.new }
 {
     let given = with_rounds(input, output);
@@ -126,8 +121,7 @@ pub extern "C" fn placardpan_rounds(input: &[u8], output: &mut [u8], rounds: &mu
 }
 
 // `report`: the program's lines in the caller's text, and how many bytes they are; 0 if they do not fit.
-#[unsafe(no_mangle)]
-pub extern "C" fn placardpan_report(input: &[u8], output: &mut [u8], text: &mut [u8]) -> usize
+pub fn placardpan_report(input: &[u8], output: &mut [u8], text: &mut [u8]) -> usize
     ensures { Reports input.now output.old output.new text.old text.new result }
 {
     report(input, output, text)

@@ -14,7 +14,7 @@ ghost use Rattle.lift.specs.Lines.{Reports};
 ghost use Rattle.lift.specs.Places.{Places};
 
 mod counting; // the entry with the number of rounds
-mod exported; // the entries for C
+pub mod exported; // the entries for C
 mod placing; // the entry with the places of the atoms
 
 use answer::answer_to;

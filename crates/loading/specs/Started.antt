@@ -10,7 +10,7 @@ use Rattle.block.specs.declared.Contents.TheVariants.{Refused as NoBlock, Number
 use Rattle.block.specs.Steps.{ContentsOf, ContentsFound}
 use Rattle.loading_laws.specs.Loading.{front_if, lent, Start, refusal, starts, start_from, start_of, started_part}
 use Rattle.loading_laws.specs.Lengths.{length-said}
-use Rattle.loading_laws.specs.Starts.{started}
+use Rattle.loading_laws.proofs.Starts.{started}
 use Rattle.loading.specs.declared.Loaded.{Loaded}
 use Rattle.loading.specs.declared.Loaded.TheVariants.{Refused, Starts}
 

@@ -10,7 +10,7 @@ use borrow.Author.Tests.{le-leb, lt-leb, eq-eqb, ne_eqb}
 use Rattle.rules.specs.Block.{Block, Stream, Reading, refused, read, read_block}
 use Rattle.loading_laws.specs.Loading.{either, place, value, first_write, step, image_after, Start, refusal, starts, start_from, if_room, load_answer, area_after, load}
 use Rattle.block_laws.specs.Head.{head-accepted}
-use Rattle.loading_laws.specs.Load.{load-refused, load-short, load-unchanged}
+use Rattle.loading_laws.proofs.Load.{load-refused, load-short, load-unchanged}
 use Rattle.loading.specs.declared.Loaded.{Loaded}
 use Rattle.loading.specs.declared.Loaded.TheVariants.{Refused, Starts}
 use Rattle.loading.specs.Started.{found, length_in, number_in}

@@ -1,4 +1,5 @@
-// The entries for C, declared in `include/placardpan.h`: to C a slice is a pointer and a length, and each outcome is one number.
+// The entries for C, declared in `include/placardpan.h` and exported by crate loading_c.
+// To C a slice is a pointer and a length, and each outcome is one number.
 // A driver asks for the place and the value of each write, or calls `placardpan_step`, and waits for its memory after each.
 ghost use Rattle.std.specs.Prelude.{◌≡◌, ◌+◌, ◌<◌};
 ghost use Rattle.loading_laws.specs.Loading.{start_of, first_write, load_answer};
@@ -27,48 +28,42 @@ fn number_in(answer: Loaded) -> u32
 }
 
 // `start`: below 256 the refusal's number, else 65,536 more than the length of the block that starts.
-#[unsafe(no_mangle)]
-pub extern "C" fn placardpan_start(area: &[u8]) -> u32
+pub fn placardpan_start(area: &[u8]) -> u32
     ensures { result ≡ number_in_of (start_of area.now) }
 {
     number_in(start(area))
 }
 
 // `place`
-#[unsafe(no_mangle)]
-pub extern "C" fn placardpan_place(size: usize, k: usize) -> usize
+pub fn placardpan_place(size: usize, k: usize) -> usize
     ensures { result ≡ place_of size k }
 {
     place(size, k)
 }
 
 // `value`
-#[unsafe(no_mangle)]
-pub extern "C" fn placardpan_value(block: &[u8], k: usize) -> u8
+pub fn placardpan_value(block: &[u8], k: usize) -> u8
     ensures { result ≡ value_of block.now k }
 {
     value(block, k)
 }
 
 // `first_write`
-#[unsafe(no_mangle)]
-pub extern "C" fn placardpan_first_write(area: &[u8]) -> usize
+pub fn placardpan_first_write(area: &[u8]) -> usize
     ensures { result ≡ first_write area.now }
 {
     first_write(area)
 }
 
 // `step`
-#[unsafe(no_mangle)]
-pub extern "C" fn placardpan_step(area: &mut [u8], block: &[u8], k: usize)
+pub fn placardpan_step(area: &mut [u8], block: &[u8], k: usize)
     ensures { area.new ≡ step_of block.now area.old k }
 {
     step(area, block, k)
 }
 
 // `load`: below 256 the refusal's number, else 65,536 more than the length of the block that was loaded.
-#[unsafe(no_mangle)]
-pub extern "C" fn placardpan_load(block: &[u8], area: &mut [u8]) -> u32
+pub fn placardpan_load(block: &[u8], area: &mut [u8]) -> u32
     ensures { (result ≡ number_in_of (load_answer block.now area.old))
         × (area.new ≡ load_of block.now area.old) }
 {

@@ -11,7 +11,7 @@ ghost use Rattle.loading.specs.Started.{found, length_in as length_in_of, is_ref
 
 use block::{Contents, read_into};
 
-mod exported; // the entries for C
+pub mod exported; // the entries for C
 
 // What the check at the start finds, or what a load comes to: a refusal's number, or the length of the block.
 #[derive(Clone, Copy)]

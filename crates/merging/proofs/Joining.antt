@@ -10,16 +10,16 @@ use lib.Dec.{eqb}
 use lib.ListN.{length, take, drop, get_or, set, length-append, length-set}
 use lib.Seq.{take-suc, set_split, take-set-lt, take_all}
 use Rattle.rules.specs.Signs.{SignSet, intersect, open_signs}
-use Rattle.rules.specs.Polynomial.{same, constant}
+use Rattle.rules.specs.Polynomial.{same}
 use Rattle.rules.specs.Level.{Placed, with_set, merged_if, merge_into}
 use Rattle.sign_laws.specs.Sets.{intersect-below}
-use Rattle.table.specs.Table.{Table, form_at, Forms}
+use Rattle.table.specs.Table.{Table, Forms}
 use Rattle.tape.specs.declared.rows.Row.{Row}
 use Rattle.tape.specs.Row.{Lists}
 use Rattle.tape.specs.Token.{slot, place, atom_of, atoms_in}
 use Rattle.tape.specs.Listing.{held_at, rest-next, rest-none}
 use Rattle.tape.specs.Entering.{map-append, same_place}
-use Rattle.rules.specs.Reasons.{join_normal, join_all, unless_full, not_full}
+use Rattle.rules.specs.Reasons.{join_all, unless_full, not_full}
 use Rattle.merging.specs.declared.Truth.{Truth}
 use Rattle.merging.specs.declared.Truth.TheVariants.{Open, True, False}
 use Rattle.merging.specs.Merged.{after_truth, TruthIs, Sparse, MergesInto, Joins, JoinsAll, NotFull}

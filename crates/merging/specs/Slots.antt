@@ -1,5 +1,5 @@
 -- Lists of tokens in which all but the first of a slot have the empty set: how they stay so, and that those with no empty set have at most 64 tokens.
-use Rattle.std.specs.Prelude.{◌≡◌, refl, List, [], ◌∷◌, ◌++◌, map, ℕ, zero, suc, ◌+◌, ◌%◌, ◌<◌, ◌≤◌, length, get_or, set, drop}
+use Rattle.std.specs.Prelude.{◌≡◌, refl, List, [], ◌∷◌, ◌++◌, map, ℕ, zero, suc, ◌%◌, ◌<◌, ◌≤◌, length, get_or, set, drop}
 use Rattle.std.proofs.Common.{sym, ◌∙◌, ⊎_elim, eq-or-lt_of_le, le_of_suc-le-suc, arith}
 use mathlib.Core.List.Memᴰ.{head as here}
 use mathlib.Core.List.Memᴰ.{tail as later}
@@ -81,6 +81,7 @@ filled-all (x ∷ l) h = (h 0 (omega arith), filled-all l (λ j k. h (suc j) (om
 
 absent-slot : {k : ℕ} (l : List ℕ) → EmptyAt k l → Filled l → Member k (map slot l) → ⊥
 unfolding EmptyAt Filled
+absent-slot {k = k} [] a f m = elim m [ ]
 absent-slot (x ∷ l) a f (here e) = f.0 (a.0 (sym e))
 absent-slot (x ∷ l) a f (later m) = absent-slot l a.1 f.1 m
 

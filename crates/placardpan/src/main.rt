@@ -5,19 +5,29 @@
 
 #![tactic(auto)]
 
+ghost use Rattle.std.specs.Prelude.{◌≡◌, false, OnOk, IfSome, take};
+ghost use Rattle.std.specs.Io.KnownBytes.{Appends};
+ghost use Rattle.rules.specs.Answer.{answer};
+ghost use Rattle.rules.specs.Report.{report};
+
 use frames::fill;
-use printing::{asked_for, print_asked};
+use printing::{Asked, asked_for, print_asked};
 use std::io;
+use std::io::{Read, Write};
 
 // "It reads at most 32,768 bytes of a block on standard input; the rest is not read." The lines of an answer take at most 64,578 bytes
-// (`lift/specs/Lines.antt: lines_fit`).
-fn main(rt: HostRuntime) -> io::Result<()> {
-    let mut input = rt.stdin();
-    let mut out = rt.stdout();
+// (`lift/specs/Lines.antt: lines_fit`). Where no line more is asked for, what is printed is the report of the book's answer to the first bytes.
+pub fn run<R: Read, W: Write>(input: &mut R, out: &mut W, asked: Asked) -> io::Result<()>
+    ensures { asked.places ≡ false → asked.rounds ≡ false → OnOk result (IfSome (R.remaining input.old)
+        (λ bytes. Appends (W.contents out.old) (W.contents out.new) (report (answer 32768 (take 32768 bytes))))) }
+{
     let mut space = [0u8; 32768];
-    let length = fill(&mut input, &mut space)?;
+    let length = fill(input, &mut space)?;
     let mut output = [0u8; 32768];
     let mut text = [0u8; 64578];
-    let asked = asked_for(&rt);
-    print_asked(&mut out, &space[..length], &mut output, &mut text, asked)
+    print_asked(out, &space[..length], &mut output, &mut text, asked)
+}
+
+fn main(rt: HostRuntime) -> io::Result<()> {
+    run(&mut rt.stdin(), &mut rt.stdout(), asked_for(&rt))
 }

@@ -2,7 +2,7 @@
 -- left out. Their forms are the ones that the book lists.
 use Rattle.std.specs.Prelude.{◌≡◌, Bool, ◌||◌, ℕ, zero, suc, ◌+◌, ◌*◌, ◌<◌, ◌≤◌, eqb, ℤ, pos, length, get_or, set}
 use Rattle.std.proofs.Math.Path.{refl, sym, ap, ap₂}
-use Rattle.std.proofs.Common.{◌∙◌, arith, get_or-set_same, get_or-set_other}
+use Rattle.std.proofs.Common.{◌∙◌, subst, arith, get_or-set_same, get_or-set_other}
 use Rattle.std.proofs.Math.Bool.{true, false}
 use mathlib.Core.List.{List, [], ◌∷◌, ◌++◌, map, map-append}
 use Rattle.std.proofs.Math.Option.{Option, none, some, none-ne-some}
@@ -135,4 +135,5 @@ unfolding numbers_from
 numbers-stored xs i zero v h = let e : i + 0 ≡ i = omega arith in rw e (ap (λ (x : ℕ). x ∷ []) (get_or-set_same xs i v 0 (omega arith)))
 numbers-stored xs i (suc k) v h =
     let e : i + suc k ≡ suc i + k = omega arith in
-    ap₂ (λ (x : ℕ) (l : List ℕ). x ∷ l) (get_or-set_other xs (i + suc k) i v 0 (λ f. omega arith)) (rw e (numbers-stored xs (suc i) k v (omega arith)))
+    ap₂ (λ (x : ℕ) (l : List ℕ). x ∷ l) (get_or-set_other xs (i + suc k) i v 0 (λ f. omega arith)) (subst (λ (p : ℕ). numbers_from (set xs p v) (suc i) (suc k) ≡ numbers_from xs (suc i) k ++ (v ∷ [])) (sym e)
+    (numbers-stored xs (suc i) k v (omega arith)))

@@ -1,4 +1,5 @@
-// The entries for C, declared in `include/placardpan.h`: to C the pool is a pointer to words and how many there are, and each outcome is one number.
+// The entries for C, declared in `include/placardpan.h` and exported by crate pool_c.
+// To C the pool is a pointer to words and how many there are, and each outcome is one number.
 // 0 is done, any other is the number of the refusal.
 ghost use Rattle.rules.specs.Block.{read_block};
 ghost use Rattle.rules.specs.Pool.{add as add_book, withdraw as withdraw_book};
@@ -8,8 +9,7 @@ ghost use Rattle.pool.specs.Entry.{Gives, entered, added_read};
 use crate::{add, withdraw};
 
 // `add`.
-#[unsafe(no_mangle)]
-pub extern "C" fn placardpan_pool_add(pool: &mut [u64], number: usize, block: &[u8]) -> u8
+pub fn placardpan_pool_add(pool: &mut [u64], number: usize, block: &[u8]) -> u8
     ensures { Gives pool.old pool.new result (entered pool.old (add_book number block.now (pool_of pool.old)))
         (added_read number (read_block block.now) pool.old) }
 {
@@ -17,8 +17,7 @@ pub extern "C" fn placardpan_pool_add(pool: &mut [u64], number: usize, block: &[
 }
 
 // `withdraw`.
-#[unsafe(no_mangle)]
-pub extern "C" fn placardpan_pool_withdraw(pool: &mut [u64], number: usize) -> u8
+pub fn placardpan_pool_withdraw(pool: &mut [u64], number: usize) -> u8
     ensures { Gives pool.old pool.new result (entered pool.old (withdraw_book number (pool_of pool.old)))
         (withdrawn_words number pool.old) }
 {

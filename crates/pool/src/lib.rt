@@ -14,7 +14,7 @@ ghost use Rattle.pool.specs.Words.{slots_of, pool_of, all_listed, added_words, a
 ghost use Rattle.pool.specs.Reading.{forms_in, block_from, FormRoom, Order, Blank, HoldsForms};
 ghost use Rattle.pool.specs.Entry.{Filled, Gives, entered, added_read};
 
-mod exported; // the entries for C
+pub mod exported; // the entries for C
 mod listed;
 mod slots;
 mod words;

@@ -1,8 +1,14 @@
 // The lines for a block on standard output: what the two programs share.
 // What is printed is `lift::report_by`'s text, with the argument `places` the places that `lift::placed_by` tells, and with `rounds` the number that
-// `lift::with_rounds` does; the argument `plain` chooses the plain engine (02, #110). That standard output takes it is no promise of ours.
+// `lift::with_rounds` does; the argument `plain` chooses the plain engine (02, #110). What a writer that says what it holds is given is promised; that
+// standard output takes it is no promise of ours.
 
 #![tactic(auto)]
+
+ghost use Rattle.std.specs.Prelude.{◌≡◌, ◌≤◌, false, OnOk, length, take};
+ghost use Rattle.std.specs.Io.KnownBytes.{Appends};
+ghost use Rattle.rules.specs.Answer.{answer};
+ghost use Rattle.rules.specs.Report.{report};
 
 use answer::Answer;
 use std::env::Env;
@@ -10,9 +16,11 @@ use std::io;
 use std::io::Write;
 
 // The first bytes of the text.
-fn print_first<W: Write>(out: &mut W, text: &[u8], length: usize) -> io::Result<()> {
-    if length <= text.len() {
-        out.write_all(&text[..length])?;
+fn print_first<W: Write>(out: &mut W, text: &[u8], size: usize) -> io::Result<()>
+    ensures { size ≤ length text.now → OnOk result (Appends (W.contents out.old) (W.contents out.new) (take size text.now)) }
+{
+    if size <= text.len() {
+        out.write_all(&text[..size])?;
     }
     Ok(())
 }
@@ -24,9 +32,12 @@ pub fn print_answer<W: Write>(
     input: &[u8],
     output: &mut [u8],
     text: &mut [u8],
-) -> io::Result<()> {
-    let length = lift::report_by(plain, input, output, text);
-    print_first(out, text, length)
+) -> io::Result<()>
+    ensures { 64578 ≤ length text.old
+        → OnOk result (Appends (W.contents out.old) (W.contents out.new) (report (answer (length output.old) input.now))) }
+{
+    let size = lift::report_by(plain, input, output, text);
+    print_first(out, text, size)
 }
 
 // ---- the arguments
@@ -120,7 +131,10 @@ pub fn print_asked<W: Write>(
     output: &mut [u8],
     text: &mut [u8],
     asked: Asked,
-) -> io::Result<()> {
+) -> io::Result<()>
+    ensures { asked.places ≡ false → asked.rounds ≡ false → 64578 ≤ length text.old
+        → OnOk result (Appends (W.contents out.old) (W.contents out.new) (report (answer (length output.old) input.now))) }
+{
     let plain = asked.plain;
     print_answer(out, plain, input, output, text)?;
     if asked.places {

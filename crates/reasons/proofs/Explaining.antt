@@ -19,7 +19,7 @@ use Rattle.reason_laws.specs.Names.{Rising, among-rises}
 use Rattle.reasons.specs.declared.Reason.{Reason}
 use Rattle.reasons.specs.Records.{no_places, words_of, made}
 use Rattle.reasons.specs.Telling.{first_place, Sifted, Explains, told, LowPlace}
-use Rattle.reasons.proofs.Tokens.{first-place, places_of}
+use Rattle.reasons.proofs.Tokens.{first-place, places-of}
 
 never : {A : Type 0} {b : Bool} → b ≡ true → b ≡ false → A
 never e f = absurd (true≢false (sym e ∙ f))
@@ -63,7 +63,7 @@ module _ {t : Table} {fates : Fates} where
   unfolding told made
   false-told (all_false f) flag h c =
       h f.named f.lists ∙ ap (λ (named : List ℕ). record { kind = 5; set = 0; place = 0; places = words_of named })
-      (sym (places_of t f.named))
+      (sym (places-of t f.named))
   false-told (each_told f) flag h c = never flag f.flag
 
   -- ---- It is not.

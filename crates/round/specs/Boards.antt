@@ -1,7 +1,7 @@
 -- Laws about the sets of a board: one read, one changed, and what a variable's turn makes of them.
 -- The turns of all variables are walked one at a time.
 use Rattle.std.specs.Prelude.{◌≡◌, refl, List, ◌∷◌, length, get_or, set}
-use Rattle.std.proofs.Common.{sym, ◌∙◌, ap, add-zero, zero-add, get_or-set_same, get_or-set_other}
+use Rattle.std.proofs.Common.{sym, ◌∙◌, ap, subst, add-zero, zero-add, get_or-set_same, get_or-set_other}
 use Prim.Native.Nat.{ℕ, zero, suc, ◌+◌, ◌-◌, ◌<◌, ◌≤◌}
 use Rattle.std.proofs.Math.Numerals.{add-one}
 use native.Mathlib.Omega.{arith}
@@ -17,16 +17,20 @@ set_before xs a v i zero h = refl
 set_before xs a v i (suc k) h =
     rw (get_or-set_other xs a i v 0 (λ (e : i ≡ a). omega arith)) (ap (λ (l : List ℕ). get_or xs i 0 ∷ l) (set_before xs a v (suc i) k (omega arith)))
 
+set_first : (xs : List ℕ) (v i k : ℕ) → i < length xs → numbers_from (set xs i v) i (suc k) ≡ set (numbers_from xs i (suc k)) 0 v
+unfolding numbers_from
+set_first xs v i k h = rw (get_or-set_same xs i v 0 h) (ap (λ (t : List ℕ). v ∷ t) (set_before xs i v (suc i) k (omega arith)))
+
 set-within : (xs : List ℕ) (v i j k : ℕ) → j < k → i + j < length xs → numbers_from (set xs (i + j) v) i k ≡ set (numbers_from xs i k) j v
 unfolding numbers_from
 set-within xs v i j zero h l = absurd (omega arith)
 set-within xs v i zero (suc k) h l =
-    let e : i + 0 ≡ i = omega arith in
-    rw (e, get_or-set_same xs i v 0 (omega arith)) (ap (λ (t : List ℕ). v ∷ t) (set_before xs i v (suc i) k (omega arith)))
+    subst (λ (m : ℕ). numbers_from (set xs m v) i (suc k) ≡ set (numbers_from xs i (suc k)) 0 v) (sym (add-zero i)) (set_first xs v i k (omega arith))
 set-within xs v i (suc j) (suc k) h l =
     let e : i + suc j ≡ suc i + j = omega arith in
-    rw (e, get_or-set_other xs (suc i + j) i v 0 (λ (q : i ≡ suc i + j). omega arith))
-    (ap (λ (t : List ℕ). get_or xs i 0 ∷ t) (set-within xs v (suc i) j k (omega arith) (omega arith)))
+    subst (λ (m : ℕ). numbers_from (set xs m v) i (suc k) ≡ set (numbers_from xs i (suc k)) (suc j) v) (sym e)
+    (rw (get_or-set_other xs (suc i + j) i v 0 (λ (q : i ≡ suc i + j). omega arith))
+    (ap (λ (t : List ℕ). get_or xs i 0 ∷ t) (set-within xs v (suc i) j k (omega arith) (omega arith))))
 
 at-within : (xs : List ℕ) (i j k d : ℕ) → j < k → get_or (numbers_from xs i k) j d ≡ get_or xs (i + j) 0
 unfolding numbers_from

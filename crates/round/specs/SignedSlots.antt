@@ -68,18 +68,18 @@ module _ (board : Board) (ms ts : List ℕ) where
         → Signed board ms ss from to → Signed board ms (signed_slots board ms ts slot ss i k) from to
     unfolding signed_slots
     slots-keep i zero slots low s = s
-    slots-keep i (suc k) slots low s =
-        slots-keep (suc i) k (slot-slots slots (slot i)) (λ j h. low j (omega arith)) (slot-keeps slots (slot i) (low i (omega arith)) s)
+    slots-keep {ss} {from} {to} i (suc k) slots low s =
+        slots-keep {ss = signed_slot board ms ts ss (slot i)} {from = from} {to = to} (suc i) k (slot-slots slots (slot i)) (λ j h. low j (omega arith)) (slot-keeps slots (slot i) (low i (omega arith)) s)
 
     -- and their own are there
     slots-there : {ss : List SignSet} (i k : ℕ) → Slots ms ts ss → ((j : ℕ) → j < i + k → slot j < 80) → (j : ℕ) → i ≤ j → j < i + k
         → Signed board ms (signed_slots board ms ts slot ss i k) (16 * slot j) (16 * slot j + get_or ts (slot j) 0)
     unfolding signed_slots
     slots-there i zero slots low j l m = absurd (omega arith)
-    slots-there i (suc k) slots low j l m = ⊎_elim
+    slots-there {ss} i (suc k) slots low j l m = ⊎_elim
         (λ (e : i ≡ j).
         rw (← e) (slots-keep (suc i) k (slot-slots slots (slot i)) (λ p h. low p (omega arith)) (slot-there slots (slot i) (low i (omega arith)))))
-        (λ (n : i < j). slots-there (suc i) k (slot-slots slots (slot i)) (λ p h. low p (omega arith)) j n (omega arith))
+        (λ (n : i < j). slots-there {ss = signed_slot board ms ts ss (slot i)} (suc i) k (slot-slots slots (slot i)) (λ p h. low p (omega arith)) j n (omega arith))
         (eq-or-lt_of_le l)
 
 -- The signs of the variables and of the atoms, worked out for a board of the table's variables, are what a round asks.

@@ -70,8 +70,7 @@ fn said(table: WorkingTable, variables: usize, state: State, polynomials: usize)
         &mut columns,
     );
     let mut sets = [0u8; 64];
-    let mut i = 0;
-    while i < count {
+    for i in 0..count {
         let set = settled::says(
             &coefficient,
             &monomial,
@@ -85,7 +84,6 @@ fn said(table: WorkingTable, variables: usize, state: State, polynomials: usize)
             i,
         );
         sets[i] = set.0;
-        i += 1;
     }
     sets
 }

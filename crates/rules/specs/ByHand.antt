@@ -7,7 +7,7 @@ use Rattle.rules.specs.Deduce.{Fraction, Row, rows, deduce, open_deduce}
 use Rattle.rules.specs.Plain.{listed, values, plain_deduce, open_plain}
 
 -- c/d, with d less one
-abbrev over : ℤ → ℕ → Fraction
+abbrev pub over : ℤ → ℕ → Fraction
 over c d = record { numerator = c; less = d }
 
 abbrev term : ℤ → ℕ → Term
@@ -32,15 +32,10 @@ unfolding open_signs open_polynomial open_deduce open_plain
 case_A = (refl, refl, refl)
 
 -- "Equal fractions are one value, whatever their terms": 1/2 and 2/4, and 0 and 0/3.
-abbrev one : ℤ → ℤ → Row
+abbrev pub one : ℤ → ℤ → Row
 one a b = record { a = a; b = b; monomial = 0; s = >0 }
 
 pub equal-fractions :
     listed (one (negsuc 0) (pos 2) ∷ one (pos 2) (negsuc 3) ∷ one (pos 0) (pos 3) ∷ []) ≡ over (pos 0) 0 ∷ over (pos 1) 1 ∷ []
 unfolding open_signs open_deduce open_plain
 equal-fractions = refl
-
--- "With 0 alone: -1, 0, 1."
-pub zero-alone : values (one (pos 5) (pos 0) ∷ []) ≡ over (negsuc 0) 0 ∷ over (pos 0) 0 ∷ over (pos 1) 0 ∷ []
-unfolding open_signs open_deduce open_plain
-zero-alone = refl

@@ -72,18 +72,10 @@ runs =
     record { readings = pos 0 ∷ []; tree = any_of end; gives = deny } ∷
     []
 
-pub at-the-edges : map (λ (r : Run). permit_if (evaluate_by fits64 r.readings r.tree)) runs ≡ map (λ (r : Run). r.gives) runs
-unfolding open_signs open_polynomial open_formula open_evaluate monomial_at value_by sign_at atom_holds all_hold some_hold holds holds_at pow one runs
-at-the-edges = refl
-
 -- "the base's 2 to 15 keep their order, then 16 if the number of readings is not n": bytes that the reader refuses, and a block of one variable (an AND with
 -- no children), with two readings and with one.
-abbrev too_short : List ℕ
+abbrev pub too_short : List ℕ
 too_short = 0x10 ∷ []
 
-abbrev always : List ℕ
+abbrev pub always : List ℕ
 always = 0x10 ∷ 0x80 ∷ 0x01 ∷ 0x00 ∷ 0x07 ∷ 0x40 ∷ 0x00 ∷ []
-
-pub in-this-order : evaluate too_short [] ∷ evaluate always (pos 0 ∷ pos 0 ∷ []) ∷ evaluate always (pos 0 ∷ []) ∷ [] ≡ refused_by 2 ∷ refused_by 16 ∷ permit ∷ []
-unfolding open_signs open_polynomial open_formula open_bits open_block open_answer open_evaluate monomial_at value_by sign_at atom_holds all_hold some_hold holds holds_at
-in-this-order = refl

@@ -49,10 +49,6 @@ examples =
     record { bytes = 0x00 ∷ 0x80 ∷ 0x01 ∷ 0x00 ∷ 0x07 ∷ 0x40 ∷ 0x00 ∷ []; gives = some 3 } ∷
     []
 
-pub in-this-order : map (λ (e : Example). refusal_of (read_block e.bytes)) examples ≡ map (λ (e : Example). e.gives) examples
-unfolding open_signs open_polynomial open_formula open_bits open_pairs open_block refusal_of examples
-in-this-order = refl
-
 -- Case A in edition 2,
 unfoldable pub case_a2 : List ℕ
 case_a2 =
@@ -63,14 +59,3 @@ case_a2 =
 -- and its answer, in edition 2.
 unfoldable pub short_a2 : List ℕ
 short_a2 = 0x21 ∷ 0x01 ∷ 0x01 ∷ 0x00 ∷ 0x12 ∷ 0x10 ∷ 0x00 ∷ 0x00 ∷ 0x00 ∷ 0x10 ∷ 0x40 ∷ 0x60 ∷ 0x00 ∷ 0x00 ∷ 0x00 ∷ 0x40 ∷ 0x01 ∷ 0x00 ∷ []
-
-pub bytes-of-A2 : answer 37 case_a2 ≡ answered formula short_a2 (record { atoms-in = 2; atoms-out = 1; polynomials-in = 2; polynomials-out = 1 })
-unfolding open_signs open_polynomial open_deduce open_two_atoms open_rounds open_formula open_level open_bits open_pairs open_block open_answer case_a2 short_a2
-bytes-of-A2 = refl
-
--- There and back; and 1 if the output is one byte too short for the finished block, an output shorter than the input being fine.
-pub conversions-of-A : convert edition2 37 case_a ∷ convert edition1 36 case_a2 ∷ convert edition2 37 case_a2
-    ∷ convert edition2 36 case_a ∷ convert edition1 35 case_a2 ∷ []
-    ≡ converted case_a2 ∷ converted case_a ∷ converted case_a2 ∷ not_converted 1 ∷ not_converted 1 ∷ []
-unfolding open_signs open_polynomial open_formula open_bits open_pairs open_block open_convert case_a case_a2
-conversions-of-A = refl

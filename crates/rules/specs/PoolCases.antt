@@ -20,30 +20,25 @@ abbrev block : ℕ → List Polynomial → Block
 block n table = record { variables = n; table = table; tree = leaf (record { number = 0; set = 1 }) }
 
 -- x is the monomial 16 and y is 1: x - y, x + 1, y + 1.
-abbrev x-y : Polynomial
+abbrev pub x-y : Polynomial
 x-y = term (pos 1) 16 ∷ term (negsuc 0) 1 ∷ []
 
-abbrev x+1 : Polynomial
+abbrev pub x+1 : Polynomial
 x+1 = term (pos 1) 16 ∷ term (pos 1) 0 ∷ []
 
-abbrev y+1 : Polynomial
+abbrev pub y+1 : Polynomial
 y+1 = term (pos 1) 1 ∷ term (pos 1) 0 ∷ []
 
 -- 2x - 2y, y - x, the constant 3, x + 1 and x - y: a multiple, a negation and a repeat of one form, and another.
-abbrev first : Block
+abbrev pub first : Block
 first = block 2 ((term (pos 2) 16 ∷ term (negsuc 1) 1 ∷ []) ∷ (term (negsuc 0) 16 ∷ term (pos 1) 1 ∷ []) ∷ (term (pos 3) 0 ∷ []) ∷ x+1 ∷ x-y ∷ [])
 
-abbrev second : Block
+abbrev pub second : Block
 second = block 2 (y+1 ∷ x-y ∷ [])
 
 -- It lists nothing.
-abbrev constant_alone : Block
+abbrev pub constant_alone : Block
 constant_alone = block 3 ((term (pos 5) 0 ∷ []) ∷ [])
-
--- "repeats, multiples and negations count once"
-pub forms-listed : (forms_listed first ≡ x-y ∷ x+1 ∷ []) × (forms_listed second ≡ y+1 ∷ x-y ∷ []) × (forms_listed constant_alone ≡ [])
-unfolding open_signs open_polynomial open_answer open_pool
-forms-listed = (refl, refl, refl)
 
 -- The row of 32 marks that begins so.
 abbrev row : Bool → Bool → Bool → List Bool

@@ -17,46 +17,13 @@ abbrev term : ℤ → ℕ → Term
 term c m = record { coefficient = c; monomial = m }
 
 -- 2 radius - 25, which is 0
-abbrev twice_radius : Polynomial
+abbrev pub twice_radius : Polynomial
 twice_radius = term (pos 2) 0x10 ∷ term (negsuc 24) 0x00 ∷ []
 
 -- radius · load - 45, which is 0
-abbrev moment : Polynomial
+abbrev pub moment : Polynomial
 moment = term (pos 1) 0x11 ∷ term (negsuc 44) 0x00 ∷ []
 
 -- 2 radius + load² - 38, which is -0.04
-abbrev three_degrees : Polynomial
+abbrev pub three_degrees : Polynomial
 three_degrees = term (pos 2) 0x10 ∷ term (pos 1) 0x02 ∷ term (negsuc 37) 0x00 ∷ []
-
-pub in-tenths : map (sign_over (pos 125 ∷ pos 36 ∷ []) 10) (twice_radius ∷ moment ∷ three_degrees ∷ []) ≡ nought ∷ nought ∷ negative ∷ []
-unfolding sign_over sign_of value_by monomial_over monomial_at total_degree degree exponent pow one
-in-tenths = refl
-
--- ---- The power of the denominator.
-
--- It is above 0, so that a value multiplied by it keeps its sign.
-pub power-above-zero : {n : ℕ} (choice : Choice n) (k : ℕ) → sign_of (pow (pos choice.denominator) k) ≡ positive
-unfolding sign_of pow one
-power-above-zero choice k = ap sign_of (natural choice.denominator choice.above_zero k).1
-  where
-    product : (m d : ℕ) → 0 < d → (j : ℕ) × (suc m * d ≡ suc j)
-    product m zero h = absurd (omega arith)
-    product m (suc d) h = (d + m * suc d, omega arith)
-
-    natural : (d : ℕ) → 0 < d → (k : ℕ) → (m : ℕ) × (pow (pos d) k ≡ pos (suc m))
-    natural d h zero = (0, refl)
-    natural d h (suc k) = let (m, e) = natural d h k in let (j, f) = product m d h in (j, ap (λ (z : ℤ). z *ℤ pos d) e ∙ ap pos f)
-
--- ---- The verdicts.
-
--- ALWAYS: the original holds at every choice of fractions.
-pub always-everywhere : (given : Block) (stream : Stream) (bytes : List ℕ) (counts : Counts) → SameLifts (read given stream) (answered always bytes counts)
-    → (choice : Choice given.variables) → holds_over choice (formula_of given) ≡ true
-unfolding SameLifts
-always-everywhere given stream bytes counts same choice = (same choice).1 refl
-
--- UNSATISFIABLE: at none.
-pub unsatisfiable-everywhere : (given : Block) (stream : Stream) (bytes : List ℕ) (counts : Counts)
-    → SameLifts (read given stream) (answered unsatisfiable bytes counts) → (choice : Choice given.variables) → holds_over choice (formula_of given) ≡ false
-unfolding SameLifts
-unsatisfiable-everywhere given stream bytes counts same choice = (same choice).2 refl

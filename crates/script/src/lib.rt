@@ -140,9 +140,8 @@ fn number_in(outcome: Outcome) -> u32
     }
 }
 
-// The entry for C, declared in `include/placardpan.h`.
-#[unsafe(no_mangle)]
-pub extern "C" fn placardpan_script(input: &[u8], text: &mut [u8]) -> u32
+// The entry for C, declared in `include/placardpan.h` and exported by crate script_c.
+pub fn placardpan_script(input: &[u8], text: &mut [u8]) -> u32
     ensures { Exports (script_answer (length text.old) input.now) text.old text.new result }
 {
     let outcome = script(input, text);

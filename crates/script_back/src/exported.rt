@@ -1,4 +1,5 @@
-// The entry for C, declared in `include/placardpan.h`: to C a slice is a pointer and a length, and each outcome is one number.
+// The entry for C, declared in `include/placardpan.h` and exported by crate script_back_c.
+// To C a slice is a pointer and a length, and each outcome is one number.
 // Below 256 it is the refusal's number, else 65,536 more than the length of the finished block.
 ghost use Rattle.std.specs.Prelude.{◌≡◌, ◌+◌, ◌<◌};
 ghost use Rattle.convert.specs.Exported.{Short, number_of};
@@ -47,12 +48,7 @@ fn position_in(outcome: Outcome) -> usize
 }
 
 // `block_of`, with the position through a number of the caller's.
-#[unsafe(no_mangle)]
-pub extern "C" fn placardpan_read_script(
-    text: &[u8],
-    output: &mut [u8],
-    position: &mut usize,
-) -> u32
+pub fn placardpan_read_script(text: &[u8], output: &mut [u8], position: &mut usize) -> u32
     ensures { ExportsBack text.now output.old output.new result position.new }
 {
     let outcome = block_of(text, output);

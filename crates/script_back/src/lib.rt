@@ -17,7 +17,7 @@ use whole_script::{Script, read_into};
 use writer::write;
 
 mod declarations; // from the logic to the assertion
-mod exported; // the entry for C
+pub mod exported; // the entry for C
 mod opening; // what a node begins with
 mod runs; // bytes that must stand at a position
 mod tree; // nodes and their children

@@ -1,5 +1,5 @@
 -- The terms of a sum, one after the other.
-use mathlib.Core.Bool.{Bool, true, false, not, ◌&&◌}
+use mathlib.Core.Bool.{Bool, true, false, ◌&&◌}
 use mathlib.Core.List.{List, [], ◌∷◌, map}
 use mathlib.Core.Path.{◌≡◌, refl, sym, ap, ap₂, ◌∙◌}
 use Prim.Native.Nat.{ℕ, zero, suc, ◌+◌, ◌-◌, ◌≤◌, ◌<◌}
@@ -9,7 +9,7 @@ use lib.Dec.{eqb, ltb}
 use lib.IntN.{ℤ, pos}
 use lib.ListN.{length, drop, get_or, set, length-set}
 use lib.Seq.{sets}
-use borrow.Author.Tests.{ltb-true, not-true, not-false}
+use borrow.Author.Tests.{ltb-true}
 use Rattle.sign_laws.specs.Booleans.{and_first, and_second, never_both}
 use Rattle.rules.specs.Polynomial.{Term, Polynomial}
 use Rattle.rules.specs.Reader.{Reader, give}
@@ -113,29 +113,29 @@ read_as same h = record {
   monomial = h.monomial;
 }
 
-module _ (text : List ℕ) (at above : ℕ) {may : Bool} (e : may ≡ (ltb 1 above && opens_with text at 42)) (so : not may ≡ false) where
+module _ (text : List ℕ) (at above : ℕ) {may : Bool} (e : may ≡ (ltb 1 above && opens_with text at 42)) (so : may ≡ true) where
   taken : (ltb 1 above && opens_with text at 42) ≡ true
-  taken = sym e ∙ not-false may so
+  taken = sym e ∙ so
 
   pub above-one : 1 < above
   above-one = ltb-true 1 above (and_first (ltb 1 above) (opens_with text at 42) taken)
 
 module _ (text : List ℕ) (at n most above : ℕ) {place : ℕ} {cs cs' : List ℤ} {ms ms' : List ℕ} where
   -- No product comes.
-  pub step-constant : {may : Bool} → may ≡ (ltb 1 above && opens_with text at 42) → not may ≡ true → (step : Step)
+  pub step-constant : {may : Bool} → may ≡ (ltb 1 above && opens_with text at 42) → may ≡ false → (step : Step)
       → ConstantFound text at 41 place cs cs' ms ms' step → StepFound text at n most above place cs cs' ms ms' step
   unfolding ConstantOf StepOf
   step-constant {may} e none (NoStep position) h = record {
     is_found = stops_as
-        (next-constant text at n above (other_terms n most) (sym e ∙ not-true may none)) h.is_found;
+        (next-constant text at n above (other_terms n most) (sym e ∙ none)) h.is_found;
   }
   step-constant {may} e none (Last behind) h = record {
     is_found = read_as
-        (next-constant text at n above (other_terms n most) (sym e ∙ not-true may none)) h.is_found;
+        (next-constant text at n above (other_terms n most) (sym e ∙ none)) h.is_found;
   }
   step-constant e none (More below behind) h = absurd h.is_found
 
-  module _ {may : Bool} (e : may ≡ (ltb 1 above && opens_with text at 42)) (so : not may ≡ false) where
+  module _ {may : Bool} (e : may ≡ (ltb 1 above && opens_with text at 42)) (so : may ≡ true) where
     module _ {number : Number} (h : TermFound text at (product_term n (above - 1)) place cs cs' ms ms' number) where
       pub step-stopped : {position : ℕ} → number ≡ NoNumber position → StepFound text at n most above place cs cs' ms ms' (NoStep position)
       unfolding TermOf StepOf

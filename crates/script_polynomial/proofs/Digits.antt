@@ -1,12 +1,12 @@
 -- The digits of a number, byte by byte: each byte ends it, goes on with it, or stops it.
-use mathlib.Core.Bool.{Bool, true, false, not, ◌&&◌}
+use mathlib.Core.Bool.{Bool, true, false, ◌&&◌}
 use mathlib.Core.List.{List, [], ◌∷◌}
 use mathlib.Core.Path.{◌≡◌, refl, sym, ap, ◌∙◌}
 use Prim.Native.Nat.{ℕ, zero, suc, ◌+◌, ◌-◌, ◌*◌, ◌≤◌, ◌<◌}
 use native.Mathlib.Omega.{arith}
 use lib.Dec.{eqb, leb}
 use lib.ListN.{length, drop, get_or}
-use borrow.Author.Tests.{eq-eqb, ne_eqb, le-leb, lt-leb, leb-true, not-true, not-false}
+use borrow.Author.Tests.{eq-eqb, ne_eqb, le-leb, lt-leb, leb-true}
 use Rattle.sign_laws.specs.Booleans.{and_first, and_second, and-false}
 use Rattle.rules.specs.Reader.{Reader, give, stuck, ask}
 use Rattle.rules.specs.Combine.{given, say}
@@ -71,20 +71,20 @@ module _ (text : List ℕ) (at last x : ℕ) where
     unfolding digits_after say given
     digits-spent most none = rw none (number-stops (byte-stops text at (λ b. given (eqb b last) (give x)) (rw unlike)))
 
-    pub digits-stop : (most : ℕ) → (most ≡ 0 → ⊥) → {may : Bool} → may ≡ digit_may x b → not may ≡ true → NumberFound text at
+    pub digits-stop : (most : ℕ) → (most ≡ 0 → ⊥) → {may : Bool} → may ≡ digit_may x b → may ≡ false → NumberFound text at
         (digits_after most last x) Sized (Stopped at)
     unfolding digits_after end_or given
     digits-stop zero some m not_so = absurd (some refl)
     digits-stop (suc k) some {may} m not_so =
-        let never : digit_may x (get_or text at 0) ≡ false = rw (← e) (sym m ∙ not-true may not_so) in
+        let never : digit_may x (get_or text at 0) ≡ false = rw (← e) (sym m ∙ not_so) in
         number-stops (byte-stops text at (behind k) (rw (unlike, never)))
 
-    pub digits-on : (most : ℕ) → (most ≡ 0 → ⊥) → {may : Bool} → may ≡ digit_may x b → not may ≡ false → {r : Number}
+    pub digits-on : (most : ℕ) → (most ≡ 0 → ⊥) → {may : Bool} → may ≡ digit_may x b → may ≡ true → {r : Number}
         → NumberFound text (at + 1) (digits_after (most - 1) last (10 * x + (b - 48))) Sized r → NumberFound text at (digits_after most last x) Sized r
     unfolding digits_after end_or given
     digits-on zero some m so h = absurd (some refl)
     digits-on (suc k) some {may} m so {r} h =
-        let may-be : digit_may x (get_or text at 0) ≡ true = rw (← e) (sym m ∙ not-false may so) in
+        let may-be : digit_may x (get_or text at 0) ≡ true = rw (← e) (sym m ∙ so) in
         let here : at < length text = byte_inside text at (omega (arith, (may-digit x (get_or text at 0) may-be).0)) in
         let k-is : suc k - 1 ≡ k = omega arith in
         number-as r (byte-on text at (behind k) here ∙ rw (unlike, may-be, ← e)) (rw k-is at h)

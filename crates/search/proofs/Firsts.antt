@@ -122,7 +122,9 @@ module _ (t : Table) (numbers : List ℕ) (sets : List SignSet) (board : Board) 
       let rest = rw (before-next t numbers sets i) at
       (atoms-first (suc i) k d (omega arith) (omega arith) (omega arith) (λ j h l. idle j (omega arith) (omega arith)) (rw next at f)) in
       let other : i ≡ suc i + d → ⊥ = λ q. omega arith in
-      rw (next, later-at i k e (idle i (omega arith) (omega arith)), get_or-set_other sets (suc i + d) i cut 0 other, rest)
+      subst (λ (p : ℕ). search_atoms board (atoms_from t numbers sets 0 i) (atoms_from t numbers sets i (suc k))
+      ≡ some (atoms_from t numbers (set sets p cut) i (suc k))) (sym next)
+      (rw (later-at i k e (idle i (omega arith) (omega arith)), get_or-set_other sets (suc i + d) i cut 0 other, rest))
 
   pub first-of-atoms : (j : ℕ) {cut : SignSet} → j < n → j < length sets → ((m : ℕ) → m < j → first_at t numbers sets board n m ≡ none)
       → first_at t numbers sets board n j ≡ some cut

@@ -41,8 +41,10 @@ module _ (t : Table) (numbers : List ℕ) (sets : List SignSet) where
       let next : b + suc d ≡ suc b + d = omega arith in
       let left : suc k - (suc d + 1) ≡ k - (d + 1) = omega arith in
       let other : b ≡ suc b + d → ⊥ = λ q. omega arith in
-      rw (next, left, get_or-set_other sets (suc b + d) b full 0 other)
-      (kept (atom_at t numbers sets b) (quieted-from (suc b) k d (omega arith) (omega arith)))
+      subst (λ (p : ℕ). Quieted (atoms_from t numbers (set sets p full) b (suc k))
+      (atoms_from t numbers sets b (suc d) ++ atoms_from t numbers sets (p + 1) (suc k - (suc d + 1)))) (sym next)
+      (rw (left, get_or-set_other sets (suc b + d) b full 0 other)
+      (kept (atom_at t numbers sets b) (quieted-from (suc b) k d (omega arith) (omega arith))))
 
 -- the atom at i silenced
 pub silenced-at : (a : Atoms) (i : ℕ) → i < many a.count → i < length a.set

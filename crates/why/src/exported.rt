@@ -1,5 +1,5 @@
-// The entry for C, declared in `include/placardpan.h`: to C the records are a pointer to structs and how many there are, and each outcome is one
-// number.
+// The entry for C, declared in `include/placardpan.h` and exported by crate why_c.
+// To C the records are a pointer to structs and how many there are, and each outcome is one number.
 ghost use Rattle.std.specs.Prelude.{◌≡◌, length};
 ghost use Rattle.rules.specs.Reasons.{why as why_book};
 ghost use Rattle.why.specs.Exported.{number_in as number_in_of, Few, Exports};
@@ -19,8 +19,7 @@ fn number_in(outcome: Outcome) -> u32
 }
 
 // `why`.
-#[unsafe(no_mangle)]
-pub extern "C" fn placardpan_why(input: &[u8], records: &mut [Reason]) -> u32
+pub fn placardpan_why(input: &[u8], records: &mut [Reason]) -> u32
     ensures { Exports (why_book (length records.old) input.now) records.old records.new result }
 {
     number_in(why(input, records))

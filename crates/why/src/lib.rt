@@ -11,7 +11,7 @@ ghost use Rattle.why.specs.Entry.{Tells, Fits, Answers};
 use crate::reading::explained;
 use reasons::{Found, Reason, record};
 
-mod exported; // the entry for C
+pub mod exported; // the entry for C
 pub mod reading; // from the bytes to the records by value
 
 // A refusal's number, or how many records are told: as many as the block has atoms.

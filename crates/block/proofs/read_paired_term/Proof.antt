@@ -1,7 +1,8 @@
 -- `block::read_paired_term` meets its contract: each test of the code is the book's, on the same field.
-use mathlib.Core.Path.{◌∙◌}
+use mathlib.Core.Path.{ap, ◌∙◌}
 use Prim.Native.Nat.{◌+◌}
 use lib.ListN.{drop}
+use mathlib.Core.Bool.{not}
 use mir.Syntax.{w32}
 use mir.ValLaws.{to_z-of_z}
 use borrow.Author.Rules.{rules}
@@ -15,36 +16,36 @@ pub read_paired_term_spec : {M : Type 1} → statement M
 read_paired_term_spec =
     tie.close
     (tie.spec (λ c κs. search rules)
-    (λ c. paired-short _ _ _ c.before.left.ensures c.if-left-lt37.true)
+    (λ c. paired-short _ _ _ c.left.ensures c.if-left-lt37.true)
     (λ c. search rules) (λ c κs. search rules)
-    (λ c. let magnitude = c.before in paired-nought _ _ _ magnitude.before.before.left.ensures magnitude.before.if-left-lt37.false magnitude.get-magnitude.ensures
+    (λ c. let magnitude = c in paired-nought _ _ _ magnitude.left.ensures magnitude.if-left-lt37.false magnitude.get-magnitude.ensures
     c.if-magnitude-eq0.true)
     (λ c. search rules) (λ c κs. search rules) (λ c. search rules) (λ c. search rules) (λ c κs. search rules)
     (λ c.
-    let chosen = c.before.before.before in
-    let pairs = chosen.before.before in
-    let magnitude = pairs.before.before in
-    paired-rising _ _ _ magnitude.before.before.left.ensures magnitude.before.if-left-lt37.false magnitude.get-magnitude.ensures pairs.before.if-magnitude-eq0.false
-    pairs.read_pairs-found.ensures chosen.in-Number.is c.before.falls.ensures c.if-not-falls.true)
+    let chosen = c in
+    let pairs = chosen in
+    let magnitude = pairs in
+    paired-rising _ _ _ magnitude.left.ensures magnitude.if-left-lt37.false magnitude.get-magnitude.ensures pairs.if-magnitude-eq0.false
+    pairs.read_pairs-found.ensures chosen.in-Number.is c.falls.ensures (ap not c.if-not-falls.true))
     (λ c κs. search rules)
     (λ c κs.
-    let magnitude = c.before.before.before.before.before.before.before.before in
-    let a = magnitude.before.before.before.before.before.args in
+    let magnitude = c in
+    let a = magnitude.args in
     rw magnitude.get-magnitude.ensures (value-take-lt 31 (drop (a.place.at + 1) (unpack a.src.now))))
     (λ c. search rules) (λ c. search rules) (λ c. search rules) (λ c. search rules)
     (λ c.
-    let chosen = c.before in
-    let pairs = chosen.before.before in
-    let magnitude = pairs.before.before in
-    paired-refused _ _ _ magnitude.before.before.left.ensures magnitude.before.if-left-lt37.false magnitude.get-magnitude.ensures pairs.before.if-magnitude-eq0.false
+    let chosen = c in
+    let pairs = chosen in
+    let magnitude = pairs in
+    paired-refused _ _ _ magnitude.left.ensures magnitude.if-left-lt37.false magnitude.get-magnitude.ensures pairs.if-magnitude-eq0.false
     pairs.read_pairs-found.ensures chosen.in-Refused.is)
     (λ c. search rules) (λ c. search rules)
     (λ c.
-    let minus = c.before in
-    let fall = minus.before.before in
-    let chosen = fall.before.before in
-    let pairs = chosen.before.before in
-    let magnitude = pairs.before.before in
-    paired-read _ _ _ magnitude.before.before.left.ensures magnitude.before.if-left-lt37.false magnitude.get-magnitude.ensures pairs.before.if-magnitude-eq0.false
-    pairs.read_pairs-found.ensures chosen.in-Number.is fall.falls.ensures minus.before.if-not-falls.false minus.get.ensures
+    let minus = c in
+    let fall = minus in
+    let chosen = fall in
+    let pairs = chosen in
+    let magnitude = pairs in
+    paired-read _ _ _ magnitude.left.ensures magnitude.if-left-lt37.false magnitude.get-magnitude.ensures pairs.if-magnitude-eq0.false
+    pairs.read_pairs-found.ensures chosen.in-Number.is fall.falls.ensures (ap not minus.if-not-falls.false) minus.get.ensures
     (to_z-of_z w32 c.coefficient_of.result (record { sfits = c.coefficient_of.type_inv }) ∙ c.coefficient_of.ensures)))

@@ -42,11 +42,11 @@ pub read_table_spec : {M : Type 1} → statement M
 read_table_spec =
     tie.close
     (tie.spec invariant-loop decreases-loop (λ c. (table-begin _ _ _ c.requires.0, omega arith)) read-polynomial-requires (λ c. search rules)
-    (λ c. let one = c.before.before.before.before.before.before.before.before in
+    (λ c. let one = c in
     one.read_polynomial-step.auto.coefficient ∙ one.loop-i.invariant.0.coefficients)
-    (λ c. let one = c.before.before.before.before.before.before.before.before in
+    (λ c. let one = c in
     one.read_polynomial-step.auto.monomial ∙ one.loop-i.invariant.0.monomials)
-    (λ c. let one = c.before.before.before.before.before.before.before.before in
+    (λ c. let one = c in
     one.read_polynomial-step.auto.counts ∙ one.loop-i.invariant.0.numbers)
     (λ c.
     let one = c in

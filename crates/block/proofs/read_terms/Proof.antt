@@ -33,8 +33,8 @@ pub read_terms_spec : {M : Type 1} → statement M
 read_terms_spec =
     tie.close
     (tie.spec invariant-loop decreases-loop (λ c. terms-begin _ _ _ _ c.requires.0) (λ c. omega arith) read-term-in-requires (λ c. search rules)
-    (λ c. let one = c.before.before.before.before.before.before in one.read_term_in-step.auto.coefficient ∙ one.loop-i.invariant.coefficients)
-    (λ c. let one = c.before.before.before.before.before.before in one.read_term_in-step.auto.monomial ∙ one.loop-i.invariant.monomials)
+    (λ c. let one = c in one.read_term_in-step.auto.coefficient ∙ one.loop-i.invariant.coefficients)
+    (λ c. let one = c in one.read_term_in-step.auto.monomial ∙ one.loop-i.invariant.monomials)
     (λ c.
     let one = c in
     let turn = one in

@@ -13,26 +13,26 @@ pub read_tree_spec : {M : Type 1} → statement M
 read_tree_spec =
     tie.close
     (tie.spec (λ c κs. search rules) (λ c. search rules) (λ c. search rules)
-    (λ c κs. inside-after c.before.before.before.before.before.read_node-step.ensures c.before.in-Read.is)
+    (λ c κs. inside-after c.read_node-step.ensures c.in-Read.is)
     (λ c. search rules) (λ c. search rules)
-    (λ c κs. let chosen = c.before.before.before.before in omega (
+    (λ c κs. let chosen = c in omega (
       arith,
-      root-inside _ chosen.before.before.before.before.read_node-step.ensures
+      root-inside _ chosen.read_node-step.ensures
           chosen.in-Read.is,
     ))
-    (λ c. let a = c.before.before.before.before.before.before.before.before.before.before.before.before.before.args in omega (
+    (λ c. let a = c.args in omega (
       arith,
       value-take-lt 2
           (drop a.place.at (unpack a.src.now)),
       c.get.ensures,
     ))
     (λ c. search rules)
-    (λ c. tree-refused _ c.before.before.before.before.before.read_node-step.ensures c.before.in-Refused.is)
+    (λ c. tree-refused _ c.read_node-step.ensures c.in-Refused.is)
     (λ c. search rules)
-    (λ c. let chosen = c.before.before.before.before.before in end_refused _ chosen.before.before.before.before.read_node-step.ensures
-    chosen.in-Read.is c.before.before.before.read_end-last.ensures c.before.in-Refused-last.is)
+    (λ c. let chosen = c in end_refused _ chosen.read_node-step.ensures
+    chosen.in-Read.is c.read_end-last.ensures c.in-Refused-last.is)
     (λ c. search rules)
     (λ c.
-    let chosen = c.before.before.before.before.before in
-    tree-read _ chosen.before.before.before.before.read_node-step.ensures chosen.in-Read.is c.before.before.before.read_end-last.ensures
-    c.before.in-Read-last.is c.get.ensures))
+    let chosen = c in
+    tree-read _ chosen.read_node-step.ensures chosen.in-Read.is c.read_end-last.ensures
+    c.in-Read-last.is c.get.ensures))

@@ -11,7 +11,7 @@ asks c κs = refl
 
 returns : tie.Need-returns
 unfolding edition_of
-returns c = c.before.before.converted_to.ensures
+returns c = c.converted_to.ensures
 
 pub to_edition1_spec : {M : Type 1} → statement M
 to_edition1_spec = tie.close (tie.spec asks (λ c. search rules) returns)

@@ -1,8 +1,6 @@
 -- `fate_of_all` meets its contract: the merged list, the rounds over what stands behind its last empty atom, and step 5.
 use borrow.Author.Rules.{rules}
-use mathlib.Core.Path.{◌≡◌, refl, sym, ◌∙◌}
-use mathlib.Core.List.{List}
-use Prim.Native.Nat.{ℕ}
+use mathlib.Core.Path.{refl}
 use native.Mathlib.Omega.{arith}
 use Rattle.table.specs.Table.{Table}
 use Rattle.round.specs.Views.{lent_table}

@@ -1,11 +1,8 @@
 -- `enough` meets its contract: the kept tokens and the later ones, in one row.
-use mathlib.Core.Path.{◌≡◌, sym, ◌∙◌}
 use Prim.Native.Nat.{ℕ, ◌+◌, ◌-◌, ◌≤◌}
 use mathlib.Core.List.{List, ◌++◌}
 use native.Mathlib.Omega.{arith}
 use lib.ListN.{length, drop, length-drop, length-append}
-use Rattle.tape.specs.declared.rows.Row.{Row}
-use Rattle.tape.specs.Row.{Lists}
 use Rattle.leaving.specs.Enough.{enough_if, enough_for}
 use Rattle.leaving.proofs.Leaving.{appended}
 use Rattle.leaving.proofs.enough.Statement.{statement}

@@ -1,9 +1,7 @@
 -- `leave_out` meets its contract: what is left goes on from the tokens kept so far.
-use mathlib.Core.Path.{◌≡◌}
-use Prim.Native.Nat.{ℕ, ◌-◌}
+use Prim.Native.Nat.{◌-◌}
 use native.Mathlib.Omega.{arith}
-use Rattle.table.specs.Table.{Table}
-use Rattle.round.specs.Views.{table_of, lent_table}
+use Rattle.round.specs.Views.{table_of}
 use Rattle.leaving.proofs.Leaving.{Leaving, leaving-start, leaving-asks, leaving-next, leaving-end}
 use Rattle.leaving.proofs.leave_out.Statement.{statement}
 use Rattle.leaving.proofs.leave_out.Tie as tie

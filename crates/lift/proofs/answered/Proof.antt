@@ -8,47 +8,35 @@ use Rattle.lift.specs.Rounds.{refused-counts}
 use Rattle.lift.proofs.answered.Statement.{statement}
 use Rattle.lift.proofs.answered.Tie as tie
 
-abbrev start : tie.After-read_into-contents → tie.Start
-start c = c.before.before.before.before.before.before.before.before
-
 read-into-requires : tie.Need-read_into-contents-requires
 read-into-requires c κs = record { coefficients = omega arith; monomials = omega arith; counts = omega arith; tokens = omega arith }
 
 answer-to-requires : tie.Need-answer_to-requires
 answer-to-requires c κs =
-    let edition = c.before.before.before.before.before.before in
-    let chosen = edition.before.before in
-    let reading = chosen.before.before.before.before.before.before in
-    let a = (start reading).args in (
+    let a = c.args in (
       record {
         bytes = a.input.now;
-        accepted = found-accepted reading.read_into-contents.ensures (length a.output.now) chosen.in-Numbers.is (start reading).requires.0
-            edition.edition-number.ensures;
+        accepted = found-accepted c.read_into-contents.ensures (length a.output.now) c.in-Numbers.is c.requires.0
+            c.edition-number.ensures;
       },
-      (start reading).requires.1,
+      c.requires.1,
     )
 
 returns : tie.Need-returns-in-Refused
 returns c =
-    let chosen = c.before in
-    let reading = chosen.before.before.before.before.before.before in
-    let a = (start reading).args in
-    let is = found-refused reading.read_into-contents.ensures chosen.in-Refused.is in (
-      answers-refused a.input.now a.output.now (start reading).requires.0 is,
-      (places-refused a.input.now (length a.output.now) (start reading).requires.0 a.places.now is, refused-counts a.largest is),
+    let a = c.args in
+    let is = found-refused c.read_into-contents.ensures c.in-Refused.is in (
+      answers-refused a.input.now a.output.now c.requires.0 is,
+      (places-refused a.input.now (length a.output.now) c.requires.0 a.places.now is, refused-counts a.largest is),
     )
 
 returns-2 : tie.Need-returns-in-Numbers
 returns-2 c =
-    let answering = c.before.before.before.before.before.before.before.before in
-    let edition = answering.before.before.before.before.before.before.before in
-    let chosen = edition.before.before in
-    let reading = chosen.before.before.before.before.before.before in
-    let a = (start reading).args in
-    let accepted = found-accepted reading.read_into-contents.ensures (length a.output.now) chosen.in-Numbers.is (start reading).requires.0
-    edition.edition-number.ensures in
-    let told = answering.answer_to.ensures a.input.now accepted in
-    (told.0, (places-accepted a.input.now (length a.output.now) (start reading).requires.0 a.places.now accepted.accepted told.1.0, told.1.1))
+    let a = c.args in
+    let accepted = found-accepted c.read_into-contents.ensures (length a.output.now) c.in-Numbers.is c.requires.0
+    c.edition-number.ensures in
+    let told = c.answer_to.ensures a.input.now accepted in
+    (told.0, (places-accepted a.input.now (length a.output.now) c.requires.0 a.places.now accepted.accepted told.1.0, told.1.1))
 
 pub answered_spec : {M : Type 1} → statement M
 answered_spec =

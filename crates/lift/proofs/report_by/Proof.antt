@@ -10,31 +10,26 @@ use Rattle.lift.proofs.report_by.Tie as tie
 
 returns : tie.Need-returns-in-Refused
 returns c =
-    let told = c.before.before.before.before.before in
-    reports-refusal told.before.before.before.before.simplify_by-answer.ensures.0 told.in-Refused.is c.before.before.tell_refusal.ensures
+    reports-refusal c.simplify_by-answer.ensures.0 c.in-Refused.is c.tell_refusal.ensures
 
 -- ---- an answer
 
 inside : tie.Need-slice_bounds-tell_answer-end
 inside c =
-    let told = c.before in
-    answer-inside told.before.before.before.before.simplify_by-answer.ensures.0 told.in-Answered.is
+    answer-inside c.simplify_by-answer.ensures.0 c.in-Answered.is
 
 lends-block : tie.Need-slice_bounds-tell_answer-end-in-Answered
 lends-block c =
-    let told = c.before.before in
-    let simplifying = told.before.before.before.before.simplify_by-answer in
-    sym (length-take-le _ simplifying.new.output (answer-inside simplifying.ensures.0 told.in-Answered.is))
+    let simplifying = c.simplify_by-answer in
+    sym (length-take-le _ simplifying.new.output (answer-inside simplifying.ensures.0 c.in-Answered.is))
 
 small : tie.Need-tell_answer-requires
 small c κs =
-    let told = c.before.before.before in
-    answer-small told.before.before.before.before.simplify_by-answer.ensures.0 told.in-Answered.is
+    answer-small c.simplify_by-answer.ensures.0 c.in-Answered.is
 
 returns-2 : tie.Need-returns-in-Answered
 returns-2 c =
-    let told = c.before.before.before.before.before.before in
-    reports-answer told.before.before.before.before.simplify_by-answer.ensures.0 told.in-Answered.is c.before.before.tell_answer.ensures
+    reports-answer c.simplify_by-answer.ensures.0 c.in-Answered.is c.tell_answer.ensures
 
 pub report_by_spec : {M : Type 1} → statement M
 report_by_spec =

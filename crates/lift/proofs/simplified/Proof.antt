@@ -11,16 +11,15 @@ use Rattle.lift.proofs.simplified.Tie as tie
 
 slice-aggregate-result : tie.Need-slice_bounds-result-end
 slice-aggregate-result c =
-    let filled = c.before.length_in-filled in
-    let answers = c.before.before.before.before.simplify.ensures.0 in
+    let filled = c.length_in-filled in
+    let answers = c.simplify.ensures.0 in
     filled.ensures ∙ part_length answers ∙ sym (ap length (part-first answers filled.result filled.ensures))
 
 returns : tie.Need-returns
 returns c =
-    let filled = c.before.length_in-filled in
-    let simplifying = c.before.before.before.before in
-    let a = simplifying.before.before.before.before.args in
-    let first = part-first simplifying.simplify.ensures.0 filled.result filled.ensures in
+    let filled = c.length_in-filled in
+    let a = c.args in
+    let first = part-first c.simplify.ensures.0 filled.result filled.ensures in
     (first, refl, ap (λ (l : List ℕ). eqb (length l) 0) first ∙ empty-exactly-on-refusal (length a.output.now) a.input.now)
 
 pub simplified_spec : {M : Type 1} → statement M

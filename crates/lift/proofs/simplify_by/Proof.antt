@@ -9,7 +9,7 @@ use Rattle.lift.proofs.simplify_by.Tie as tie
 
 returns : tie.Need-returns-then-output-input
 returns c =
-    let a = c.before.before.before.args in (
+    let a = c.args in (
       answers-short a.input.now a.output.now (omega (arith, c.if-output-input.true)),
       same-lifts (length a.output.now) a.input.now,
       never-longer-answer (length a.output.now) a.input.now,
@@ -17,9 +17,8 @@ returns c =
 
 returns-2 : tie.Need-returns
 returns-2 c =
-    let answering = c.before.before.before in
-    let a = answering.before.before.before.before.before.before.args in (
-      answering.answered-known.ensures.0,
+    let a = c.args in (
+      c.answered-known.ensures.0,
       same-lifts (length a.output.now) a.input.now,
       never-longer-answer (length a.output.now) a.input.now,
     )

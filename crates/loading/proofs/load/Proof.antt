@@ -4,7 +4,7 @@ use mathlib.Core.Path.{sym, ap, ◌∙◌}
 use Prim.Native.Nat.{◌+◌}
 use native.Mathlib.Omega.{arith}
 use lib.ListN.{length}
-use Rattle.loading_laws.specs.Writes.{length-image}
+use Rattle.loading_laws.proofs.Writes.{length-image}
 use Rattle.loading.specs.Writing.{refused-load, short-load, head-found, whole-load}
 use Rattle.loading.proofs.load.Statement.{statement}
 use Rattle.loading.proofs.load.Tie as tie

@@ -5,7 +5,7 @@ use Prim.Native.Nat.{◌-◌, ◌≤◌}
 use native.Mathlib.Omega.{arith}
 use lib.ListN.{length}
 use Rattle.loading_laws.specs.Loading.{image_after}
-use Rattle.loading_laws.specs.Writes.{length-image, before-first}
+use Rattle.loading_laws.proofs.Writes.{length-image, before-first}
 use Rattle.loading.specs.Writing.{image-all, image-next, length-step, first-within}
 use Rattle.loading.proofs.write_all.Statement.{statement}
 use Rattle.loading.proofs.write_all.Tie as tie

@@ -1,5 +1,4 @@
 -- `join_all` meets its contract: the list so far, and what is left of the atoms.
-use mathlib.Core.Path.{◌≡◌}
 use mathlib.Core.List.{List}
 use Prim.Native.Nat.{ℕ, ◌-◌, ◌≤◌}
 use native.Mathlib.Omega.{arith}

@@ -1,5 +1,5 @@
 -- `merge_into` meets its contract: the atoms looked through are of other polynomials; the one that is met gets the intersected set.
-use mathlib.Core.Path.{◌≡◌, refl, sym, ◌∙◌}
+use mathlib.Core.Path.{refl, sym, ◌∙◌}
 use mathlib.Core.List.{List}
 use Prim.Native.Nat.{ℕ, ◌-◌, ◌≤◌}
 use native.Mathlib.Omega.{arith}

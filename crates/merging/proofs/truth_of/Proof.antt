@@ -1,4 +1,4 @@
-use mathlib.Core.Path.{◌≡◌, sym, ◌∙◌, ap}
+use mathlib.Core.Path.{sym}
 use borrow.Author.Rules.{rules}
 use Rattle.merging.specs.Merged.{truth_if}
 use Rattle.merging.proofs.truth_of.Statement.{statement}

@@ -8,26 +8,26 @@ use Rattle.pool.proofs.add.Statement.{statement}
 use Rattle.pool.proofs.add.Tie as tie
 
 returns : tie.Need-returns-then-pool-lt-POOL_WORDS
-returns c = gives-short c.before.before.before.args.pool.now _ _ c.if-pool-lt-POOL_WORDS.true
+returns c = gives-short c.args.pool.now _ _ c.if-pool-lt-POOL_WORDS.true
 
 read-into-requires : tie.Need-read_into-contents-requires
 read-into-requires c κs = record { coefficients = omega arith; monomials = omega arith; counts = omega arith; tokens = omega arith }
 
 add-read-requires : tie.Need-add_read-requires
-add-read-requires c κs = (c.before.before.before.before.before.before.before.before.before.before.before.before.before.before.before.before.if-pool-lt-POOL_WORDS.false, (found-taken c.before.before.before.before.before.before.before.before.before.before.before.read_into-contents.ensures c.before.before.before.before.before.in-Numbers.is).read_table)
+add-read-requires c κs = (c.if-pool-lt-POOL_WORDS.false, (found-taken c.read_into-contents.ensures c.in-Numbers.is).read_table)
 
 returns-2 : tie.Need-returns-in-Refused
 returns-2 c =
-    let a = c.before.before.before.before.before.before.before.before.before.before.before.before.before.before.before.args in
-    gives-unread a.number a.pool.now a.block.now _ (found-refused c.before.before.before.before.before.before.before.read_into-contents.ensures c.before.in-Refused.is) c.before.before.before.before.before.before.before.before.before.before.before.before.if-pool-lt-POOL_WORDS.false
+    let a = c.args in
+    gives-unread a.number a.pool.now a.block.now _ (found-refused c.read_into-contents.ensures c.in-Refused.is) c.if-pool-lt-POOL_WORDS.false
 
 returns-3 : tie.Need-returns-in-Numbers
 unfolding block_from
 returns-3 c =
-    let a = c.before.before.before.before.before.before.before.before.before.before.before.before.before.before.before.before.before.before.before.before.before.before.args in
-    let taken = found-taken c.before.before.before.before.before.before.before.before.before.before.before.before.before.before.read_into-contents.ensures c.before.before.before.before.before.before.before.before.in-Numbers.is in
+    let a = c.args in
+    let taken = found-taken c.read_into-contents.ensures c.in-Numbers.is in
     gives-read a.number _ a.pool.now _ a.block.now _ taken.given taken.rest taken.reading taken.variables taken.table
-    c.before.before.before.before.before.before.before.before.before.before.before.before.before.before.before.before.before.before.before.if-pool-lt-POOL_WORDS.false c.before.before.add_read.ensures
+    c.if-pool-lt-POOL_WORDS.false c.add_read.ensures
 
 pub add_spec : {M : Type 1} → statement M
 add_spec =

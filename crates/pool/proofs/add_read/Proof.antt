@@ -10,34 +10,32 @@ use Rattle.pool.proofs.add_read.Tie as tie
 returns : tie.Need-returns-then-not-is_open
 unfolding block_from
 returns c =
-    let a = c.before.before.before.before.before.before.args in
+    let a = c.args in
     add-closed a.number (block_from a.variables a.coefficient.now a.monomial.now a.terms.now a.polynomials) a.pool.now
-    (sym c.before.is_open.ensures ∙ c.if-not-is_open.true)
+    (sym c.is_open.ensures ∙ c.if-not-is_open.true)
 
 returns-2 : tie.Need-returns-then-not-allows
 unfolding block_from
 returns-2 c =
-    let a = c.before.before.before.before.before.before.before.before.before.args in
+    let a = c.args in
     add-other a.number (block_from a.variables a.coefficient.now a.monomial.now a.terms.now a.polynomials) a.pool.now
-    (sym c.before.before.before.before.is_open.ensures ∙ c.before.before.before.if-not-is_open.false) (sym c.before.allows.ensures ∙ c.if-not-allows.true)
+    (sym c.is_open.ensures ∙ c.if-not-is_open.false) (sym c.allows.ensures ∙ c.if-not-allows.true)
 
 forms-of-requires : tie.Need-forms_of-count-requires
 forms-of-requires c κs = search rules
 
 fill-requires : tie.Need-fill-requires
 fill-requires c κs =
-    let s = c.before.before.before.before.before.before.before.before.before.before.before.before.before.before.before.before.before.before.before.before.before.before.before in
-    let h = c.before.before.before.before.before.before.before.before.before.forms_of-count.ensures in
-    (s.requires.0, below-32 s.args.number _ (sym c.before.before.before.before.before.before.before.before.before.before.before.before.before.before.before.before.before.before.is_open.ensures ∙ c.before.before.before.before.before.before.before.before.before.before.before.before.before.before.before.before.before.if-not-is_open.false), h.room, h.slots, h.most)
+    let h = c.forms_of-count.ensures in
+    (c.requires.0, below-32 c.args.number _ (sym c.is_open.ensures ∙ c.if-not-is_open.false), h.room, h.slots, h.most)
 
 returns-3 : tie.Need-returns
 unfolding block_from
 returns-3 c =
-    let s = c.before.before.before.before.before.before.before.before.before.before.before.before.before.before.before.before.before.before.before.before.before.before.before.before.before.before in
-    let a = s.args in
+    let a = c.args in
     gives-forms a.number _ (block_from a.variables a.coefficient.now a.monomial.now a.terms.now a.polynomials) a.pool.now _ _ _ _ _ _
-    s.requires.0 (sym c.before.before.before.before.before.before.before.before.before.before.before.before.before.before.before.before.before.before.before.before.before.is_open.ensures ∙ c.before.before.before.before.before.before.before.before.before.before.before.before.before.before.before.before.before.before.before.before.if-not-is_open.false) (sym c.before.before.before.before.before.before.before.before.before.before.before.before.before.before.before.before.before.before.allows.ensures ∙ c.before.before.before.before.before.before.before.before.before.before.before.before.before.before.before.before.before.if-not-allows.false)
-    c.before.before.before.before.before.before.before.before.before.before.before.before.forms_of-count.ensures c.before.before.fill.ensures
+    c.requires.0 (sym c.is_open.ensures ∙ c.if-not-is_open.false) (sym c.allows.ensures ∙ c.if-not-allows.false)
+    c.forms_of-count.ensures c.fill.ensures
 
 pub add_read_spec : {M : Type 1} → statement M
 add_read_spec =

@@ -10,12 +10,12 @@ use Rattle.pool.proofs.allows.Tie as tie
 
 returns : tie.Need-returns-then-present-eq0
 returns c =
-    let a = c.before.args in
+    let a = c.args in
     sym (ap (λ (b : Bool). b || eqb a.n a.variables) (sym (no-mark a.present) ∙ eq-eqb (a.present % 4294967296) 0 c.if-present-eq0.true))
 
 returns-2 : tie.Need-returns
 returns-2 c =
-    let a = c.before.args in
+    let a = c.args in
     sym (ap (λ (b : Bool). b || eqb a.n a.variables) (sym (no-mark a.present) ∙ ne_eqb (a.present % 4294967296) 0 c.if-present-eq0.false))
 
 pub allows_spec : {M : Type 1} → statement M

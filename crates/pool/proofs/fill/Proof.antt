@@ -10,17 +10,17 @@ use Rattle.pool.proofs.fill.Tie as tie
 
 returns : tie.Need-returns-then-used-fresh-gt128
 returns c =
-    let a = c.before.before.before.before.before.before.before.before.before.args in
+    let a = c.args in
     filled-full a.pool.now a.number a.variables (forms_in a.coefficient.now a.monomial.now a.terms.now (numbers_from a.order.now 0 a.count))
-    (omega (arith, c.if-used-fresh-gt128.true, c.before.used.ensures.0, c.before.before.before.new_forms-fresh.ensures.0))
+    (omega (arith, c.if-used-fresh-gt128.true, c.used.ensures.0, c.new_forms-fresh.ensures.0))
 
 returns-2 : tie.Need-returns
 returns-2 c =
-    let a = c.before.before.before.before.before.before.before.before.before.before.before.before.before.before.before.args in
+    let a = c.args in
     let forms = forms_in a.coefficient.now a.monomial.now a.terms.now (numbers_from a.order.now 0 a.count) in
     filled-as a.pool.now _ a.number a.variables forms
-    (added_is a.number a.variables forms a.pool.now _ _ c.before.before.list_forms.ensures c.before.before.before.before.with_mark-row.ensures)
-    (omega (arith, c.before.before.before.before.before.before.if-used-fresh-gt128.false, c.before.before.before.before.before.before.before.used.ensures.0, c.before.before.before.before.before.before.before.before.before.new_forms-fresh.ensures.0))
+    (added_is a.number a.variables forms a.pool.now _ _ c.list_forms.ensures c.with_mark-row.ensures)
+    (omega (arith, c.if-used-fresh-gt128.false, c.used.ensures.0, c.new_forms-fresh.ensures.0))
 
 pub fill_spec : {M : Type 1} → statement M
 fill_spec =

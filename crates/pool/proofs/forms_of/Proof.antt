@@ -10,24 +10,22 @@ use Rattle.pool.proofs.forms_of.Statement.{statement}
 use Rattle.pool.proofs.forms_of.Tie as tie
 
 work-requires : tie.Need-work-requires
-work-requires c κs = let s = c.before.before.before.before.before.before.before.before.before.before in (s.requires.0, blank-is s.requires.1)
+work-requires c κs = (c.requires.0, blank-is c.requires.1)
 
 listed-requires : tie.Need-listed-requires
 listed-requires c κs =
-    let s = c.before.before.before.before.before.before.before.before.before.before.before.before.before.before.before.before.before.before.before.before.before.before in
-    let a = s.args in
-    let worked = c.before.before.before.before.before.before.before.before.before.before.before.work.ensures in (
-      worked-room a.coefficient.now a.monomial.now a.terms.now a.polynomials a.variables s.requires.0.polynomials _ worked,
-      worked-numbers a.coefficient.now a.monomial.now a.terms.now a.polynomials a.variables s.requires.0.polynomials _ worked (search rules),
-      omega (arith, s.requires.1.slots),
+    let a = c.args in
+    let worked = c.work.ensures in (
+      worked-room a.coefficient.now a.monomial.now a.terms.now a.polynomials a.variables c.requires.0.polynomials _ worked,
+      worked-numbers a.coefficient.now a.monomial.now a.terms.now a.polynomials a.variables c.requires.0.polynomials _ worked (search rules),
+      omega (arith, c.requires.1.slots),
     )
 
 returns : tie.Need-returns
 returns c =
-    let s = c.before.before.before.before.before.before.before.before.before.before.before.before.before.before.before.before.before.before.before.before.before.before.before.before.before in
-    let a = s.args in
-    holds-forms a.coefficient.now a.monomial.now a.terms.now a.polynomials a.variables s.requires.0.polynomials _
-    c.before.before.before.before.before.before.before.before.before.before.before.before.before.before.work.ensures _ _ (c.before.before.listed.auto.order ∙ s.requires.1.slots) c.before.before.listed.ensures
+    let a = c.args in
+    holds-forms a.coefficient.now a.monomial.now a.terms.now a.polynomials a.variables c.requires.0.polynomials _
+    c.work.ensures _ _ (c.listed.auto.order ∙ c.requires.1.slots) c.listed.ensures
 
 pub forms_of_spec : {M : Type 1} → statement M
 forms_of_spec =

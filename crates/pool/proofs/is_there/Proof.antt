@@ -10,12 +10,12 @@ use Rattle.pool.proofs.is_there.Tie as tie
 
 returns : tie.Need-returns-then-number-lt32
 returns c =
-    let a = c.before.before.args in
-    c.mark.ensures ∙ sym (ap (λ (b : Bool). b && get_or (marks 32 a.present) a.number false) (lt-ltb a.number 32 c.before.if-number-lt32.true))
+    let a = c.args in
+    c.mark.ensures ∙ sym (ap (λ (b : Bool). b && get_or (marks 32 a.present) a.number false) (lt-ltb a.number 32 c.if-number-lt32.true))
 
 returns-2 : tie.Need-returns
 returns-2 c =
-    let a = c.before.args in
+    let a = c.args in
     sym (ap (λ (b : Bool). b && get_or (marks 32 a.present) a.number false) (le-ltb a.number 32 c.if-number-lt32.false))
 
 pub is_there_spec : {M : Type 1} → statement M

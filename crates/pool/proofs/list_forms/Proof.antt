@@ -29,38 +29,34 @@ loop-holds c = (omega arith, refl, simp sub-zero)
 
 shared-slice-read-wide-2 : tie.Need-bounds-terms-slot invariant-loop decreases-loop
 shared-slice-read-wide-2 c =
-    let s = c.before.before.before.before.before.before.before.before.before in
-    omega (arith, c.before.wide-slot.ensures, s.requires.3.below c.before.before.before.before.loop-i.i (omega arith), s.requires.2.counts)
+    omega (arith, c.wide-slot.ensures, c.requires.3.below c.loop-i.i (omega arith), c.requires.2.counts)
 
 mul-list-form : tie.Need-overflow_mul-slot invariant-loop decreases-loop
 mul-list-form c =
-    let s = c.before.before.before.before.before.before.before.before.before.before.before in
-    omega (arith, c.before.before.before.wide-slot.ensures, s.requires.3.below c.before.before.before.before.before.before.loop-i.i (omega arith))
+    omega (arith, c.wide-slot.ensures, c.requires.3.below c.loop-i.i (omega arith))
 
 list-form-requires : tie.Need-list_form-requires invariant-loop decreases-loop
 list-form-requires c κs =
-    let s = c.before.before.before.before.before.before.before.before.before.before.before in
-    let a = s.args in
-    let l = c.before.before.before.before.before.before.loop-i in (
-      omega (arith, l.invariant.1, s.requires.0),
-      s.requires.1,
-      run_room a.coefficient.now a.monomial.now a.terms.now (get_or a.order.now l.i 0) c.before.before.before.wide-slot.result c.before.wide-size.result
-          s.requires.2 (s.requires.3.below l.i (omega arith)) c.before.before.before.wide-slot.ensures c.before.wide-size.ensures,
+    let a = c.args in
+    let l = c.loop-i in (
+      omega (arith, l.invariant.1, c.requires.0),
+      c.requires.1,
+      run_room a.coefficient.now a.monomial.now a.terms.now (get_or a.order.now l.i 0) c.wide-slot.result c.wide-size.result
+          c.requires.2 (c.requires.3.below l.i (omega arith)) c.wide-slot.ensures c.wide-size.ensures,
     )
 
 loop-again : tie.Need-loop-i-preserved invariant-loop decreases-loop
 unfolding all_listed
 loop-again c =
-    let s = c.before.before.before.before.before.before.before.before.before.before.before.before.before.before in
-    let a = s.args in
-    let l = c.before.before.before.before.before.before.before.before.before.loop-i in
+    let a = c.args in
+    let l = c.loop-i in
     let k : ℕ = get_or a.order.now l.i 0 in
     let p : Polynomial = slot_of a.coefficient.now a.monomial.now a.terms.now k in
     let rest : List Polynomial = forms_left a.coefficient.now a.monomial.now a.terms.now a.order.now a.count (l.i + 1) in
-    let is : c.before.before.list_form.new.pool ≡ listed_words a.number l.pool p =
-    c.before.before.list_form.ensures
-    ∙ ap (listed_words a.number l.pool) (run_is a.coefficient.now a.monomial.now a.terms.now k c.before.before.before.before.before.before.wide-slot.result c.before.before.before.before.wide-size.result
-    c.before.before.before.before.before.before.wide-slot.ensures c.before.before.before.before.wide-size.ensures) in (
+    let is : c.list_form.new.pool ≡ listed_words a.number l.pool p =
+    c.list_form.ensures
+    ∙ ap (listed_words a.number l.pool) (run_is a.coefficient.now a.monomial.now a.terms.now k c.wide-slot.result c.wide-size.result
+    c.wide-slot.ensures c.wide-size.ensures) in (
       omega arith,
       ap length is ∙ listed-length a.number l.pool p ∙ l.invariant.1,
       ap (λ (w : List ℕ). all_listed a.number w rest) is
@@ -71,13 +67,13 @@ loop-again c =
 returns : tie.Need-returns invariant-loop decreases-loop
 unfolding all_listed
 returns c =
-    let l = c.before.loop-i in
-    let a = c.before.before.before.before.before.before.args in
+    let l = c.loop-i in
+    let a = c.args in
     sym (ap (all_listed a.number l.pool) (forms-end a.coefficient.now a.monomial.now a.terms.now a.order.now a.count l.i (omega arith)))
     ∙ l.invariant.2
 
 pub list_forms_spec : {M : Type 1} → statement M
 list_forms_spec =
     tie.close
-    (tie.spec invariant-loop decreases-loop loop-holds (λ c. omega (arith, c.before.before.before.before.before.before.before.requires.3.there)) (λ c κs. tt) (λ c. omega arith) shared-slice-read-wide-2 (λ c κs. tt)
-    mul-list-form list-form-requires (λ c. omega arith) loop-again (λ c. c.before.loop-i.invariant.1) returns)
+    (tie.spec invariant-loop decreases-loop loop-holds (λ c. omega (arith, c.requires.3.there)) (λ c κs. tt) (λ c. omega arith) shared-slice-read-wide-2 (λ c κs. tt)
+    mul-list-form list-form-requires (λ c. omega arith) loop-again (λ c. c.loop-i.invariant.1) returns)

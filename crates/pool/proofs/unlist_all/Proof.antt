@@ -19,9 +19,9 @@ decreases-loop pool₀ number slot₀ pool slot = 128 - slot
 
 loop-again : tie.Need-loop-slot-preserved invariant-loop decreases-loop
 loop-again c =
-    let l = c.before.before.before.before.before.loop-slot in
-    let a = c.before.before.before.before.before.before.before.args in
-    let is = c.before.before.unlist.ensures in (
+    let l = c.loop-slot in
+    let a = c.args in
+    let is = c.unlist.ensures in (
       omega arith,
       ap length is ∙ unlisted-length a.number l.pool (2 + 34 * l.slot) ∙ l.invariant.1,
       ap (λ (w : List ℕ). all_unlisted a.number w (l.slot + 1) (128 - (l.slot + 1))) is ∙ unlist-step a.number l.pool l.slot (omega arith) ∙ l.invariant.2,
@@ -29,12 +29,12 @@ loop-again c =
 
 returns : tie.Need-returns invariant-loop decreases-loop
 returns c =
-    let l = c.before.loop-slot in
-    sym (unlist-end c.before.before.before.args.number l.pool l.slot (omega arith)) ∙ l.invariant.2
+    let l = c.loop-slot in
+    sym (unlist-end c.args.number l.pool l.slot (omega arith)) ∙ l.invariant.2
 
 pub unlist_all_spec : {M : Type 1} → statement M
 unlist_all_spec =
     tie.close
     (tie.spec invariant-loop decreases-loop (λ c. (omega arith, refl, refl)) (λ c. omega arith) (λ c. omega arith) (λ c. omega arith)
-    (λ c κs. let s = c.before.before.before.before in (omega (arith, c.before.before.loop-slot.invariant.1, s.requires.0), s.requires.1))
-    (λ c. omega arith) loop-again (λ c. c.before.loop-slot.invariant.1) returns)
+    (λ c κs. (omega (arith, c.loop-slot.invariant.1, c.requires.0), c.requires.1))
+    (λ c. omega arith) loop-again (λ c. c.loop-slot.invariant.1) returns)

@@ -8,25 +8,25 @@ use Rattle.pool.proofs.withdraw.Statement.{statement}
 use Rattle.pool.proofs.withdraw.Tie as tie
 
 returns : tie.Need-returns-then-pool-lt-POOL_WORDS
-returns c = gives-short c.before.before.args.pool.now _ _ c.if-pool-lt-POOL_WORDS.true
+returns c = gives-short c.args.pool.now _ _ c.if-pool-lt-POOL_WORDS.true
 
 returns-2 : tie.Need-returns-then-not-is_there
 returns-2 c =
-    let a = c.before.before.before.before.before.args in
-    withdraw-absent a.number a.pool.now c.before.before.before.if-pool-lt-POOL_WORDS.false (sym c.before.is_there.ensures ∙ c.if-not-is_there.true)
+    let a = c.args in
+    withdraw-absent a.number a.pool.now c.if-pool-lt-POOL_WORDS.false (sym c.is_there.ensures ∙ c.if-not-is_there.true)
 
 with-mark-requires : tie.Need-with_mark-left-requires
-with-mark-requires c κs = below-32 c.before.before.before.before.before.before.args.number _ (sym c.before.before.is_there.ensures ∙ c.before.if-not-is_there.false)
+with-mark-requires c κs = below-32 c.args.number _ (sym c.is_there.ensures ∙ c.if-not-is_there.false)
 
 unlist-all-requires : tie.Need-unlist_all-requires
 unlist-all-requires c κs =
-    (c.before.before.before.before.before.before.if-pool-lt-POOL_WORDS.false, below-32 c.before.before.before.before.before.before.before.before.args.number _ (sym c.before.before.before.before.is_there.ensures ∙ c.before.before.before.if-not-is_there.false))
+    (c.if-pool-lt-POOL_WORDS.false, below-32 c.args.number _ (sym c.is_there.ensures ∙ c.if-not-is_there.false))
 
 returns-3 : tie.Need-returns
 returns-3 c =
-    let a = c.before.before.before.before.before.before.before.before.before.before.before.before.args in
-    gives_as (withdrawn-is a.number a.pool.now _ _ _ c.before.before.before.unlist_all.ensures c.before.before.before.before.before.with_mark-left.ensures c.kept.ensures)
-    (withdraw-done a.number a.pool.now c.before.before.before.before.before.before.before.before.before.before.if-pool-lt-POOL_WORDS.false (sym c.before.before.before.before.before.before.before.before.is_there.ensures ∙ c.before.before.before.before.before.before.before.if-not-is_there.false))
+    let a = c.args in
+    gives_as (withdrawn-is a.number a.pool.now _ _ _ c.unlist_all.ensures c.with_mark-left.ensures c.kept.ensures)
+    (withdraw-done a.number a.pool.now c.if-pool-lt-POOL_WORDS.false (sym c.is_there.ensures ∙ c.if-not-is_there.false))
 
 pub withdraw_spec : {M : Type 1} → statement M
 withdraw_spec =

@@ -68,7 +68,7 @@ returns-2 c l h =
     let w = loop.loop-i.invariant.1 in
     let same = sym loop.place_of-own.ensures ∙ c.if-own-place_of.true
     ∙ c.place_of.ensures in
-    c.going.ensures _ (c.others_of-others.ensures w.left-1 w.carrying w.rest_lists w.lists)
+    c.going.ensures _ (c.others_of-others.ensures w.left w.carrying w.rest_lists w.lists)
     ∙ ap made (tells-going _ _ _ _ _ w c.loop-i-test.true
     c.is_next-stays.ensures c.if-stays.false same h)
 

@@ -10,29 +10,20 @@ use Rattle.script.proofs.answered.Tie as tie
 
 inside : tie.Need-slice_bounds-output-end
 inside c =
-    let chosen = c.before in
-    let simplifying = chosen.before.before.before in
-    answer-inside (length-replicate {A = ℕ} 32768 0) simplifying.before.before.before.before.requires simplifying.simplify-answer.ensures.0 chosen.in-Answered.is
+    answer-inside (length-replicate {A = ℕ} 32768 0) c.requires c.simplify-answer.ensures.0 c.in-Answered.is
 
 lends-answer : tie.Need-slice_bounds-script_of-end
 lends-answer c =
-    let chosen = c.before.before in
-    let simplifying = chosen.before.before.before in
-    sym (length-take-le _ simplifying.simplify-answer.new.output
-    (answer-inside (length-replicate {A = ℕ} 32768 0) simplifying.before.before.before.before.requires simplifying.simplify-answer.ensures.0 chosen.in-Answered.is))
+    sym (length-take-le _ c.simplify-answer.new.output
+    (answer-inside (length-replicate {A = ℕ} 32768 0) c.requires c.simplify-answer.ensures.0 c.in-Answered.is))
 
 returns : tie.Need-returns-in-Refused
 returns c =
-    let chosen = c.before in
-    let simplifying = chosen.before.before.before in
-    absurd (never-refused (length-replicate {A = ℕ} 32768 0) simplifying.before.before.before.before.requires simplifying.simplify-answer.ensures.0 chosen.in-Refused.is)
+    absurd (never-refused (length-replicate {A = ℕ} 32768 0) c.requires c.simplify-answer.ensures.0 c.in-Refused.is)
 
 returns-2 : tie.Need-returns-in-Answered
 returns-2 c =
-    let telling = c.before.before in
-    let chosen = telling.before.before.before.before in
-    let simplifying = chosen.before.before.before in
-    tells-answer (length-replicate {A = ℕ} 32768 0) simplifying.before.before.before.before.requires simplifying.simplify-answer.ensures.0 chosen.in-Answered.is _ telling.script_of.ensures
+    tells-answer (length-replicate {A = ℕ} 32768 0) c.requires c.simplify-answer.ensures.0 c.in-Answered.is _ c.script_of.ensures
 
 pub answered_spec : {M : Type 1} → statement M
 answered_spec =

@@ -8,14 +8,13 @@ use Rattle.script.proofs.placardpan_script.Statement.{statement}
 use Rattle.script.proofs.placardpan_script.Tie as tie
 
 small : tie.Need-number_in-requires
-small c κs = let telling = c.before.before in subst (λ (o : Outcome). size_in o ≤ 2024782) (sym telling.script-outcome.ensures.returns) (outcome-small _ _)
+small c κs = subst (λ (o : Outcome). size_in o ≤ 2024782) (sym c.script-outcome.ensures.returns) (outcome-small _ _)
 
 returns : tie.Need-returns
 returns c =
-    let telling = c.before.before.before in
     record {
-      returns = c.number_in.ensures ∙ ap number_in telling.script-outcome.ensures.returns ∙ number-told _;
-      text = telling.script-outcome.ensures.text;
+      returns = c.number_in.ensures ∙ ap number_in c.script-outcome.ensures.returns ∙ number-told _;
+      text = c.script-outcome.ensures.text;
     }
 
 pub placardpan_script_spec : {M : Type 1} → statement M

@@ -8,18 +8,16 @@ use Rattle.script.proofs.script.Tie as tie
 
 answered-requires : tie.Need-answered-requires
 answered-requires c κs =
-    let chosen = c.before in
-    found-read chosen.before.before.before.before.before.before.read_into-contents.ensures chosen.in-Numbers.is
+    found-read c.read_into-contents.ensures c.in-Numbers.is
 
 returns : tie.Need-returns-in-Refused
 unfolding script_answer
 returns c =
-    let chosen = c.before in
-    tells-refused _ (simplified-refused _ (found-refused chosen.before.before.before.before.before.before.read_into-contents.ensures chosen.in-Refused.is))
+    tells-refused _ (simplified-refused _ (found-refused c.read_into-contents.ensures c.in-Refused.is))
 
 returns-2 : tie.Need-returns-in-Numbers
 unfolding script_answer
-returns-2 c = c.before.before.answered.ensures
+returns-2 c = c.answered.ensures
 
 pub script_spec : {M : Type 1} → statement M
 script_spec =

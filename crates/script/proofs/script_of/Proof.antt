@@ -7,21 +7,17 @@ use Rattle.script.proofs.script_of.Tie as tie
 
 told-requires : tie.Need-told-requires
 told-requires c κs =
-    let chosen = c.before.before.before.before.before.before in
-    let standing = found-standing chosen.before.before.before.before.before.before.read_into-contents.ensures chosen.in-Numbers.is in
+    let standing = found-standing c.read_into-contents.ensures c.in-Numbers.is in
     record { block = standing.block; stands = standing.stands }
 
 returns : tie.Need-returns-in-Refused
 returns c =
-    let chosen = c.before in
-    tells-refused _ (found-refused chosen.before.before.before.before.before.before.read_into-contents.ensures chosen.in-Refused.is)
+    tells-refused _ (found-refused c.read_into-contents.ensures c.in-Refused.is)
 
 returns-2 : tie.Need-returns-in-Numbers
 returns-2 c =
-    let telling = c.before.before in
-    let chosen = telling.before.before.before.before.before.before.before in
-    let standing = found-standing chosen.before.before.before.before.before.before.read_into-contents.ensures chosen.in-Numbers.is in
-    tells-read _ standing.accepted (telling.told.ensures standing.block standing.stands)
+    let standing = found-standing c.read_into-contents.ensures c.in-Numbers.is in
+    tells-read _ standing.accepted (c.told.ensures standing.block standing.stands)
 
 pub script_of_spec : {M : Type 1} → statement M
 script_of_spec =

@@ -7,15 +7,12 @@ use Rattle.script.proofs.told.Tie as tie
 
 too_long : tie.Need-returns-then-text-length
 too_long c block stands =
-    let measuring = c.before.before in
-    tells-long block _ (omega (arith, measured block (measuring.put_script-length.ensures block stands), c.if-text-length.true))
+    tells-long block _ (omega (arith, measured block (c.put_script-length.ensures block stands), c.if-text-length.true))
 
 fits : tie.Need-returns
 fits c block stands =
-    let writing = c.before.before in
-    let tested = writing.before.before in
-    let size = measured block (tested.before.before.put_script-length.ensures block stands) in
-    tells-script block _ size (omega (arith, size, tested.if-text-length.false)) (writing.put_script.ensures block stands)
+    let size = measured block (c.put_script-length.ensures block stands) in
+    tells-script block _ size (omega (arith, size, c.if-text-length.false)) (c.put_script.ensures block stands)
 
 pub told_spec : {M : Type 1} → statement M
 told_spec =

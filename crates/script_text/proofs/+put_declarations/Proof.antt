@@ -29,50 +29,28 @@ pub +put_declarations_spec : {M : Type 1} → statement M
     declarations-lts.spec (bytes-reads.Asked, bytes-reads.Learnt, byte-Reads.Asked, byte-Reads.Learnt, declarations-below t, declarations.Post)
     (declarations-at t) declarations.Post
     (λ c. declarations-none _ _ c.if-count-eq0.true)
-    (λ c. refl)
-    (λ c κs. fits-first (declarations-more _ _ c.before.before.if-count-eq0.false) c.before.before.before.before.requires.1.1)
-    (λ c. let s = c.before.before.before.before.before.before.before.before in record { fits = omega (arith, s.requires.1.0) })
+    (λ c κs. fits-first (declarations-more _ _ c.if-count-eq0.false) c.requires.1.1)
+    (λ c. record { fits = omega (arith, c.requires.1.0) })
     (λ c κs.
-    let first = c.before.before.before in
-    let s = first.before.before.before.before.before in
-    fits-first two_runs (fits-second (declarations-more _ _ first.before.before.before.if-count-eq0.false) s.requires.1.1 first.put_bytes-letter.ensures))
-    (λ c. refl)
+    fits-first two_runs (fits-second (declarations-more _ _ c.if-count-eq0.false) c.requires.1.1 c.put_bytes-letter.ensures))
     (λ c κs.
-    let letter = c.before.before.before.before in
-    let first = letter.before.before.before.before in
-    let s = first.before.before.before.before.before in
     fits-first two_runs (fits-second two_runs
-    (fits-second (declarations-more _ _ first.before.before.before.if-count-eq0.false) s.requires.1.1 first.put_bytes-letter.ensures) letter.put_byte-rest.ensures))
+    (fits-second (declarations-more _ _ c.if-count-eq0.false) c.requires.1.1 c.put_bytes-letter.ensures) c.put_byte-rest.ensures))
     (λ c.
-    let first = c.before.before.before.before.before.before.before.before.before.before.before.before in
-    let s = first.before.before.before.before.before in
-    record { fits = omega (arith, s.requires.1.0) })
+    record { fits = omega (arith, c.requires.1.0) })
     (λ c.
-    let first = c.before.before.before.before.before.before.before.before.before.before.before.before in
-    omega (arith, first.before.before.before.if-count-eq0.false))
-    (λ c κs.
-    let last = c.before.before.before in
-    let letter = last.before.before.before.before.before in
-    let first = letter.before.before.before.before in
-    let s = first.before.before.before.before.before in (
-      omega (arith, first.before.before.before.if-count-eq0.false),
+    omega (arith, c.if-count-eq0.false))
+    (λ c κs. (
+      omega (arith, c.if-count-eq0.false),
       (
-        omega (arith, s.requires.1.0, first.before.before.before.if-count-eq0.false),
+        omega (arith, c.requires.1.0, c.if-count-eq0.false),
         fits-second two_runs (fits-second two_runs
-            (fits-second (declarations-more _ _ first.before.before.before.if-count-eq0.false) s.requires.1.1 first.put_bytes-letter.ensures) letter.put_byte-rest.ensures)
-            last.put_bytes-next.ensures,
+            (fits-second (declarations-more _ _ c.if-count-eq0.false) c.requires.1.1 c.put_bytes-letter.ensures) c.put_byte-rest.ensures)
+            c.put_bytes-next.ensures,
       ),
     ))
     (λ c.
-    let others = c.before.before in
-    let last = others.before.before.before.before in
-    let letter = last.before.before.before.before.before in
-    let first = letter.before.before.before.before in
-    others.put_declarations.auto.text ∙ last.put_bytes-next.auto.text ∙ letter.put_byte-rest.auto.text ∙ first.put_bytes-letter.auto.text)
+    c.put_declarations.auto.text ∙ c.put_bytes-next.auto.text ∙ c.put_byte-rest.auto.text ∙ c.put_bytes-letter.auto.text)
     (λ c.
-    let others = c.before.before in
-    let last = others.before.before.before.before in
-    let letter = last.before.before.before.before.before in
-    let first = letter.before.before.before.before in
-    wrote-split (declarations-more _ _ first.before.before.before.if-count-eq0.false) first.put_bytes-letter.ensures
-    (wrote-split two_runs letter.put_byte-rest.ensures (wrote-split two_runs last.put_bytes-next.ensures others.put_declarations.ensures)))
+    wrote-split (declarations-more _ _ c.if-count-eq0.false) c.put_bytes-letter.ensures
+    (wrote-split two_runs c.put_byte-rest.ensures (wrote-split two_runs c.put_bytes-next.ensures c.put_declarations.ensures)))

@@ -31,88 +31,50 @@ pub +put_parts_spec : {M : Type 1} → statement M
     parts-lts.spec (byte-Reads.Asked, byte-Reads.Learnt, atom-reads.Asked, atom-reads.Learnt, parts_below t, parts.Post, join-reads.Asked, join-reads.Learnt)
     (parts_at t) parts.Post
     (λ c. parts_none _ _ _ _ _ _ _ _ c.if-count-eq0.true)
-    (λ c. omega (arith, first-there c.before.before.before.before.before.requires.1 c.if-count-eq0.false))
-    (λ c. first-there c.before.before.before.before.before.before.requires.1 c.before.if-count-eq0.false)
-    (λ c κs. any-space c.before.before.before.before.before.before.before.requires.1 c.before.before.if-count-eq0.false)
+    (λ c. omega (arith, first-there c.requires.1 c.if-count-eq0.false))
+    (λ c. first-there c.requires.1 c.if-count-eq0.false)
+    (λ c κs. any-space c.requires.1 c.if-count-eq0.false)
     (λ c κs.
-    let space = c.before.before.before.before in
-    let s = space.before.before.before.before.before.before.before.before in
-    atom-asks s.requires.1 space.before.before.before.if-count-eq0.false c.before.if-first-lt-JOIN.true space.put_byte-start.ensures)
+    atom-asks c.requires.1 c.if-count-eq0.false c.if-first-lt-JOIN.true c.put_byte-start.ensures)
     (λ c.
-    let space = c.before.before.before.before.before.before.before.before in
-    omega (arith, first-there space.before.before.before.before.before.before.before.before.requires.1 space.before.before.before.if-count-eq0.false))
-    (λ c. let space = c.before.before.before.before.before.before.before.before in omega (arith, space.before.before.before.if-count-eq0.false))
-    (λ c κs.
-    let first = c.before.before.before in
-    let space = first.before.before.before.before.before in
-    let s = space.before.before.before.before.before.before.before.before in (
-      omega (arith, first-there s.requires.1 space.before.before.before.if-count-eq0.false),
-      after-atom s.requires.1 space.before.before.before.if-count-eq0.false first.before.before.if-first-lt-JOIN.true space.put_byte-start.ensures first.put_atom-next.ensures,
+    omega (arith, first-there c.requires.1 c.if-count-eq0.false))
+    (λ c. omega (arith, c.if-count-eq0.false))
+    (λ c κs. (
+      omega (arith, first-there c.requires.1 c.if-count-eq0.false),
+      after-atom c.requires.1 c.if-count-eq0.false c.if-first-lt-JOIN.true c.put_byte-start.ensures c.put_atom-next.ensures,
     ))
     (λ c.
-    let others = c.before.before in
-    let first = others.before.before.before.before in
-    let space = first.before.before.before.before.before in
-    others.put_parts.auto.text ∙ first.put_atom-next.auto.text ∙ space.put_byte-start.auto.text)
+    c.put_parts.auto.text ∙ c.put_atom-next.auto.text ∙ c.put_byte-start.auto.text)
     (λ c.
-    let others = c.before.before in
-    let first = others.before.before.before.before in
-    let space = first.before.before.before.before.before in
-    parts-atom _ _ _ _ _ _ _ _ space.before.before.before.if-count-eq0.false space.put_byte-start.ensures first.before.before.if-first-lt-JOIN.true first.put_atom-next.ensures
-    others.put_parts.ensures)
+    parts-atom _ _ _ _ _ _ _ _ c.if-count-eq0.false c.put_byte-start.ensures c.if-first-lt-JOIN.true c.put_atom-next.ensures
+    c.put_parts.ensures)
     (λ c κs.
-    let space = c.before.before.before.before in
-    fits-join space.before.before.before.before.before.before.before.before.requires.1 space.before.before.before.if-count-eq0.false c.before.if-first-lt-JOIN.false space.put_byte-start.ensures)
+    fits-join c.requires.1 c.if-count-eq0.false c.if-first-lt-JOIN.false c.put_byte-start.ensures)
     (λ c.
-    let space = c.before.before.before.before.before.before.before.before in
-    omega (arith, first-there space.before.before.before.before.before.before.before.before.requires.1 space.before.before.before.if-count-eq0.false))
+    omega (arith, first-there c.requires.1 c.if-count-eq0.false))
     (λ c.
-    let space = c.before.before.before.before.before.before.before.before in
-    omega (arith, space.before.before.shared_slice_known-4-1.given space.before.before.before.before.before.before.before.before.args.k))
+    omega (arith, c.shared_slice_known-4-1.given c.args.k))
     (λ c.
-    let space = c.before.before.before.before.before.before.before.before in
-    kind_fits space.before.before.before.before.before.before.before.before.requires.1 space.before.before.before.if-count-eq0.false c.before.before.before.before.before.if-first-lt-JOIN.false)
-    (λ c κs.
-    let join = c.before.before.before in
-    let space = join.before.before.before.before.before in
-    let s = space.before.before.before.before.before.before.before.before in (
-      omega (arith, first-there s.requires.1 space.before.before.before.if-count-eq0.false),
-      inside-join s.requires.1 space.before.before.before.if-count-eq0.false join.before.before.if-first-lt-JOIN.false space.put_byte-start.ensures join.put_join-kids.ensures,
+    kind_fits c.requires.1 c.if-count-eq0.false c.if-first-lt-JOIN.false)
+    (λ c κs. (
+      omega (arith, first-there c.requires.1 c.if-count-eq0.false),
+      inside-join c.requires.1 c.if-count-eq0.false c.if-first-lt-JOIN.false c.put_byte-start.ensures c.put_join-kids.ensures,
     ))
     (λ c κs.
-    let inner = c.before.before.before in
-    let join = inner.before.before.before.before in
-    let space = join.before.before.before.before.before in
-    fits-end space.before.before.before.before.before.before.before.before.requires.1 space.before.before.before.if-count-eq0.false join.before.before.if-first-lt-JOIN.false space.put_byte-start.ensures join.put_join-kids.ensures inner.put_parts-inner.ensures)
+    fits-end c.requires.1 c.if-count-eq0.false c.if-first-lt-JOIN.false c.put_byte-start.ensures c.put_join-kids.ensures c.put_parts-inner.ensures)
     (λ c.
-    let space = c.before.before.before.before.before.before.before.before.before.before.before.before.before.before.before.before in
-    omega (arith, space.before.before.before.if-count-eq0.false))
-    (λ c κs.
-    let end = c.before.before.before in
-    let inner = end.before.before.before.before in
-    let join = inner.before.before.before.before in
-    let space = join.before.before.before.before.before in
-    let s = space.before.before.before.before.before.before.before.before in (
+    omega (arith, c.if-count-eq0.false))
+    (λ c κs. (
       omega (
         arith,
-        first-there s.requires.1 space.before.before.before.if-count-eq0.false,
-        further s.requires.1 space.before.before.before.if-count-eq0.false join.before.before.if-first-lt-JOIN.false space.put_byte-start.ensures join.put_join-kids.ensures inner.put_parts-inner.ensures,
+        first-there c.requires.1 c.if-count-eq0.false,
+        further c.requires.1 c.if-count-eq0.false c.if-first-lt-JOIN.false c.put_byte-start.ensures c.put_join-kids.ensures c.put_parts-inner.ensures,
       ),
-      after-join s.requires.1 space.before.before.before.if-count-eq0.false join.before.before.if-first-lt-JOIN.false space.put_byte-start.ensures join.put_join-kids.ensures inner.put_parts-inner.ensures
-          end.put_byte-next.ensures,
+      after-join c.requires.1 c.if-count-eq0.false c.if-first-lt-JOIN.false c.put_byte-start.ensures c.put_join-kids.ensures c.put_parts-inner.ensures
+          c.put_byte-next.ensures,
     ))
     (λ c.
-    let others = c.before.before in
-    let end = others.before.before.before.before in
-    let inner = end.before.before.before.before in
-    let join = inner.before.before.before.before in
-    let space = join.before.before.before.before.before in
-    others.put_parts-2.auto.text ∙ end.put_byte-next.auto.text ∙ inner.put_parts-inner.auto.text ∙ join.put_join-kids.auto.text ∙ space.put_byte-start.auto.text)
+    c.put_parts-2.auto.text ∙ c.put_byte-next.auto.text ∙ c.put_parts-inner.auto.text ∙ c.put_join-kids.auto.text ∙ c.put_byte-start.auto.text)
     (λ c.
-    let others = c.before.before in
-    let end = others.before.before.before.before in
-    let inner = end.before.before.before.before in
-    let join = inner.before.before.before.before in
-    let space = join.before.before.before.before.before in
-    parts_join _ _ _ _ _ _ _ _ space.before.before.before.if-count-eq0.false space.put_byte-start.ensures join.before.before.if-first-lt-JOIN.false join.put_join-kids.ensures inner.put_parts-inner.ensures
-    end.put_byte-next.ensures others.put_parts-2.ensures)
+    parts_join _ _ _ _ _ _ _ _ c.if-count-eq0.false c.put_byte-start.ensures c.if-first-lt-JOIN.false c.put_join-kids.ensures c.put_parts-inner.ensures
+    c.put_byte-next.ensures c.put_parts-2.ensures)

@@ -9,32 +9,19 @@ pub put_atom_spec : {M : Type 1} → statement M
 put_atom_spec =
     tie.close
     (tie.spec (λ c. search rules) (λ c. search rules) (λ c. search rules)
-    (λ c κs. fits-first (atom-split _ _) c.before.before.before.before.before.requires.3)
+    (λ c κs. fits-first (atom-split _ _) c.requires.3)
     (λ c. search rules)
-    (λ c κs.
-    let first = c.before.before.before in
-    let s = first.before.before.before.before.before.before in (
-      s.requires.0,
-      s.requires.2,
-      fits-first two_runs (fits-second (atom-split _ _) s.requires.3 first.put_opening-polynomial.ensures),
+    (λ c κs. (
+      c.requires.0,
+      c.requires.2,
+      fits-first two_runs (fits-second (atom-split _ _) c.requires.3 c.put_opening-polynomial.ensures),
     ))
     (λ c κs.
-    let polynomial = c.before.before.before in
-    let first = polynomial.before.before.before.before in
-    let s = first.before.before.before.before.before.before in
-    fits-first two_runs (fits-second two_runs (fits-second (atom-split _ _) s.requires.3 first.put_opening-polynomial.ensures) polynomial.put_polynomial-space.ensures))
+    fits-first two_runs (fits-second two_runs (fits-second (atom-split _ _) c.requires.3 c.put_opening-polynomial.ensures) c.put_polynomial-space.ensures))
     (λ c κs.
-    let space = c.before.before.before in
-    let polynomial = space.before.before.before.before in
-    let first = polynomial.before.before.before.before in
-    let s = first.before.before.before.before.before.before in
-    fits-second two_runs (fits-second two_runs (fits-second (atom-split _ _) s.requires.3 first.put_opening-polynomial.ensures) polynomial.put_polynomial-space.ensures)
-    space.put_byte-end.ensures)
+    fits-second two_runs (fits-second two_runs (fits-second (atom-split _ _) c.requires.3 c.put_opening-polynomial.ensures) c.put_polynomial-space.ensures)
+    c.put_byte-end.ensures)
     (λ c. search rules)
     (λ c.
-    let end = c.before.before in
-    let space = end.before.before.before.before in
-    let polynomial = space.before.before.before.before in
-    let first = polynomial.before.before.before.before in
-    wrote-split (atom-split _ _) first.put_opening-polynomial.ensures
-    (wrote-split two_runs polynomial.put_polynomial-space.ensures (wrote-split two_runs space.put_byte-end.ensures end.put_closing.ensures))))
+    wrote-split (atom-split _ _) c.put_opening-polynomial.ensures
+    (wrote-split two_runs c.put_polynomial-space.ensures (wrote-split two_runs c.put_byte-end.ensures c.put_closing.ensures))))

@@ -9,11 +9,10 @@ use Rattle.script_text.proofs.put_closing.Tie as tie
 pub put_closing_spec : {M : Type 1} → statement M
 put_closing_spec =
     tie.close
-    (tie.spec (λ c. search rules) (λ c κs. fits-as (closing-other _ c.before.before.in-0.keys2) c.before.before.before.before.requires) (λ c. search rules)
-    (λ c κs. let m = c.before.before.in-0.rest in fits-as (closing-one _ m.0.1 m.1) c.before.before.before.before.requires)
+    (tie.spec (λ c κs. fits-as (closing-other _ c.in-5.is) c.requires)
+    (λ c κs. let m = c.in_default.in_default-own.rest in fits-as (closing-one _ m.0.1 m.1) c.requires)
     (λ c. wrote_as wrote_nothing (closing-empty _ c.in-0.is)) (λ c. search rules)
-    (λ c. let put = c.before.before in wrote_as put.put_bytes.ensures (closing-other _ put.before.before.before.in-0.keys2)) (λ c. search rules)
+    (λ c. wrote_as c.put_bytes.ensures (closing-other _ c.in-5.is)) (λ c. search rules)
     (λ c.
-    let put = c.before.before in
-    let m = put.before.before.before.in-0.rest in
-    wrote_as put.put_bytes-in_default.ensures (closing-one _ m.0.1 m.1)))
+    let m = c.in_default.in_default-own.rest in
+    wrote_as c.put_bytes-in_default.ensures (closing-one _ m.0.1 m.1)))

@@ -9,7 +9,7 @@ use Rattle.script_text.proofs.put_none.Tie as tie
 pub put_none_spec : {M : Type 1} → statement M
 put_none_spec =
     tie.close
-    (tie.spec (λ c. search rules) (λ c κs. fits-as (none-and _ c.before.before.if-kind-eq1.true) c.before.before.before.before.requires) (λ c. search rules)
-    (λ c. let put = c.before.before in wrote_as put.put_bytes.ensures (none-and _ put.before.before.before.if-kind-eq1.true)) (λ c. search rules)
-    (λ c κs. fits-as (none_or _ c.before.before.if-kind-eq1.false) c.before.before.before.before.requires) (λ c. search rules)
-    (λ c. let put = c.before.before in wrote_as put.put_bytes-2.ensures (none_or _ put.before.before.before.if-kind-eq1.false)))
+    (tie.spec (λ c κs. fits-as (none-and _ c.if-kind-eq1.true) c.requires) (λ c. search rules)
+    (λ c. wrote_as c.put_bytes.ensures (none-and _ c.if-kind-eq1.true))
+    (λ c κs. fits-as (none_or _ c.if-kind-eq1.false) c.requires) (λ c. search rules)
+    (λ c. wrote_as c.put_bytes-2.ensures (none_or _ c.if-kind-eq1.false)))

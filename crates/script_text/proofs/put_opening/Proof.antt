@@ -10,22 +10,20 @@ pub put_opening_spec : {M : Type 1} → statement M
 put_opening_spec =
     tie.close
     (tie.spec
-    (λ c. search rules) (λ c κs. fits-as (opening-above _ c.before.before.in-0.keys2) c.before.before.before.before.requires)
-    (λ c. search rules) (λ c κs. fits-as (opening-equal _ c.before.before.in-0.keys3) c.before.before.before.before.requires)
-    (λ c. search rules) (λ c κs. fits-as (opening-least _ c.before.before.in-0.keys4) c.before.before.before.before.requires)
-    (λ c. search rules) (λ c κs. fits-as (opening-below _ c.before.before.in-0.keys5) c.before.before.before.before.requires)
-    (λ c. search rules) (λ c κs. fits-as (opening-other _ c.before.before.in-0.keys6) c.before.before.before.before.requires)
-    (λ c. search rules)
-    (λ c κs. let m = c.before.before.in-0.rest in fits-as (opening-most _ m.0.0.0.0.0.1 m.0.0.0.0.1 m.0.0.0.1 m.0.0.1 m.0.1 m.1)
-    c.before.before.before.before.requires)
+    (λ c κs. fits-as (opening-above _ c.in-1.is) c.requires)
+    (λ c κs. fits-as (opening-equal _ c.in-2.is) c.requires)
+    (λ c κs. fits-as (opening-least _ c.in-3.is) c.requires)
+    (λ c κs. fits-as (opening-below _ c.in-4.is) c.requires)
+    (λ c κs. fits-as (opening-other _ c.in-5.is) c.requires)
+    (λ c κs. let m = c.in_default.in_default-own.rest in fits-as (opening-most _ m.0.0.0.0.0.1 m.0.0.0.0.1 m.0.0.0.1 m.0.0.1 m.0.1 m.1)
+    c.requires)
     (λ c. wrote_as wrote_nothing (opening-empty _ c.in-0.is))
-    (λ c. search rules) (λ c. let put = c.before.before in wrote_as put.put_bytes.ensures (opening-above _ put.before.before.before.in-0.keys2))
-    (λ c. search rules) (λ c. let put = c.before.before in wrote_as put.put_bytes-in-2.ensures (opening-equal _ put.before.before.before.in-0.keys3))
-    (λ c. search rules) (λ c. let put = c.before.before in wrote_as put.put_bytes-in-3.ensures (opening-least _ put.before.before.before.in-0.keys4))
-    (λ c. search rules) (λ c. let put = c.before.before in wrote_as put.put_bytes-in-4.ensures (opening-below _ put.before.before.before.in-0.keys5))
-    (λ c. search rules) (λ c. let put = c.before.before in wrote_as put.put_bytes-in-5.ensures (opening-other _ put.before.before.before.in-0.keys6))
+    (λ c. search rules) (λ c. wrote_as c.put_bytes.ensures (opening-above _ c.in-1.is))
+    (λ c. search rules) (λ c. wrote_as c.put_bytes-in-2.ensures (opening-equal _ c.in-2.is))
+    (λ c. search rules) (λ c. wrote_as c.put_bytes-in-3.ensures (opening-least _ c.in-3.is))
+    (λ c. search rules) (λ c. wrote_as c.put_bytes-in-4.ensures (opening-below _ c.in-4.is))
+    (λ c. search rules) (λ c. wrote_as c.put_bytes-in-5.ensures (opening-other _ c.in-5.is))
     (λ c. search rules)
     (λ c.
-    let put = c.before.before in
-    let m = put.before.before.before.in-0.rest in
-    wrote_as put.put_bytes-in_default.ensures (opening-most _ m.0.0.0.0.0.1 m.0.0.0.0.1 m.0.0.0.1 m.0.0.1 m.0.1 m.1)))
+    let m = c.in_default.in_default-own.rest in
+    wrote_as c.put_bytes-in_default.ensures (opening-most _ m.0.0.0.0.0.1 m.0.0.0.0.1 m.0.0.0.1 m.0.0.1 m.0.1 m.1)))

@@ -8,22 +8,18 @@ use Rattle.telling.proofs.make_answer.Statement.{statement}
 use Rattle.telling.proofs.make_answer.Tie as tie
 
 room-counts : tie.Need-put_counts-end-requires
-room-counts c κs = omega (arith, word-long (verdict_in c.before.before.before.before.before.before.args.verdict))
+room-counts c κs = omega (arith, word-long (verdict_in c.args.verdict))
 
 room-newline : tie.Need-put_byte-requires
 room-newline c κs =
-    let given = c.before.before.before.before.before.before.before.before.before.before.args in
+    let given = c.args in
     omega (arith, word-long (verdict_in given.verdict), counts-long (counts_in given.counts))
 
 returns : tie.Need-returns
 unfolding answer_line
 returns c =
-    let newline = c.before.before in
-    let counts = newline.before.before.before.before in
-    let word = counts.before.before.before.before in
-    let start = word.before.before.before in
-    made (line-long (verdict_in start.args.verdict) (counts_in start.args.counts)) start.requires
-    (wrote-both word.put_word-numbers.ensures (wrote-both counts.put_counts-end.ensures newline.put_byte.ensures))
+    made (line-long (verdict_in c.args.verdict) (counts_in c.args.counts)) c.requires
+    (wrote-both c.put_word-numbers.ensures (wrote-both c.put_counts-end.ensures c.put_byte.ensures))
 
 pub make_answer_spec : {M : Type 1} → statement M
 make_answer_spec = tie.close (tie.spec (λ c κs. search rules) room-counts room-newline (λ c. search rules) returns)

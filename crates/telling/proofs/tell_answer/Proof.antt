@@ -12,37 +12,32 @@ use Rattle.telling.proofs.tell_answer.Tie as tie
 
 returns : tie.Need-returns-then-text-n
 returns c =
-    let given = c.before.before.before.before.before.before.before.args in
+    let given = c.args in
     told_none (omega (arith, lines_long (verdict_in given.verdict) given.block.now (counts_in given.counts)))
 
 lends-line : tie.Need-slice_bounds-put_bytes-end
 lends-line c =
-    let line = c.before.before.before.before.before.make_answer-n in
+    let line = c.make_answer-n in
     sym (length-take-le line.result line.new.line line.ensures.inside)
 
 room-line : tie.Need-put_bytes-second-requires
-room-line c κs = omega (arith, ap length c.before.before.before.before.before.make_answer-n.ensures.is)
+room-line c κs = omega (arith, ap length c.make_answer-n.ensures.is)
 
 room-hex : tie.Need-put_hex-end-requires
 room-hex c κs =
-    let line = c.before.before.before.before.before.before.before.before.before in
-    omega (arith, ap length line.make_answer-n.ensures.is, hex-long line.before.before.before.before.args.block.now)
+    omega (arith, ap length c.make_answer-n.ensures.is, hex-long c.args.block.now)
 
 room-newline : tie.Need-put_byte-requires
 room-newline c κs =
-    let line = c.before.before.before.before.before.before.before.before.before.before.before.before.before in
-    omega (arith, ap length line.make_answer-n.ensures.is, hex-long line.before.before.before.before.args.block.now)
+    omega (arith, ap length c.make_answer-n.ensures.is, hex-long c.args.block.now)
 
 returns-2 : tie.Need-returns
 returns-2 c =
-    let hex = c.before.before.before.before.before.before in
-    let copy = hex.before.before.before.before in
-    let line = copy.before.before.before.before.before.before in
-    let given = line.before.before.before.before.args in
+    let given = c.args in
     let verdict = verdict_in given.verdict in
     let counts = counts_in given.counts in
-    let first = wrote_as copy.put_bytes-second.ensures line.make_answer-n.ensures.is in
-    let second = wrote-both hex.put_hex-end.ensures c.before.before.put_byte.ensures in
+    let first = wrote_as c.put_bytes-second.ensures c.make_answer-n.ensures.is in
+    let second = wrote-both c.put_hex-end.ensures c.put_byte.ensures in
     told-all (omega (arith, lines_long verdict given.block.now counts))
     (wrote_as (wrote-both first second) (answer-lines verdict given.block.now counts))
 

@@ -11,16 +11,16 @@ use Rattle.telling.proofs.tell_refusal.Tie as tie
 
 lends-line : tie.Need-slice_bounds-put_bytes-end
 lends-line c =
-    let line = c.before.before.before.before.make_refusal-n in
+    let line = c.make_refusal-n in
     sym (length-take-le line.result line.new.line line.ensures.inside)
 
 room : tie.Need-put_bytes-requires
-room c κs = omega (arith, ap length c.before.before.before.before.make_refusal-n.ensures.is)
+room c κs = omega (arith, ap length c.make_refusal-n.ensures.is)
 
 returns : tie.Need-returns
 returns c =
-    let line = c.before.before.before.before.before.before.before.make_refusal-n in
-    told-all (omega arith) (wrote_as c.before.before.put_bytes.ensures line.ensures.is)
+    let line = c.make_refusal-n in
+    told-all (omega arith) (wrote_as c.put_bytes.ensures line.ensures.is)
 
 pub tell_refusal_spec : {M : Type 1} → statement M
 tell_refusal_spec =

@@ -7,11 +7,11 @@ use Rattle.convert.proofs.exported.placardpan_to_edition1.Statement.{statement}
 use Rattle.convert.proofs.exported.placardpan_to_edition1.Tie as tie
 
 number-in-requires : tie.Need-number_in-requires
-number-in-requires c κs = short-returned edition1 c.before.before.to_edition1.ensures
+number-in-requires c κs = short-returned edition1 c.to_edition1.ensures
 
 returns : tie.Need-returns
 returns c =
-    let told = c.before.before.before.to_edition1.ensures in
+    let told = c.to_edition1.ensures in
     (c.number_in.ensures ∙ number-returned edition1 told, told.output)
 
 pub placardpan_to_edition1_spec : {M : Type 1} → statement M

@@ -7,11 +7,11 @@ use Rattle.convert.proofs.exported.placardpan_to_edition2.Statement.{statement}
 use Rattle.convert.proofs.exported.placardpan_to_edition2.Tie as tie
 
 number-in-requires : tie.Need-number_in-requires
-number-in-requires c κs = short-returned edition2 c.before.before.to_edition2.ensures
+number-in-requires c κs = short-returned edition2 c.to_edition2.ensures
 
 returns : tie.Need-returns
 returns c =
-    let told = c.before.before.before.to_edition2.ensures in
+    let told = c.to_edition2.ensures in
     (c.number_in.ensures ∙ number-returned edition2 told, told.output)
 
 pub placardpan_to_edition2_spec : {M : Type 1} → statement M

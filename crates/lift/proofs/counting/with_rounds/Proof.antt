@@ -11,7 +11,7 @@ use Rattle.lift.proofs.counting.with_rounds.Tie as tie
 
 returns : tie.Need-returns-then-output-input
 returns c =
-    let a = c.before.before.before.args in (
+    let a = c.args in (
       rounds-answer-short a.input.now a.output.now (omega (arith, c.if-output-input.true)),
       same-lifts (length a.output.now) a.input.now,
       never-longer-answer (length a.output.now) a.input.now,
@@ -20,9 +20,8 @@ returns c =
 
 returns-2 : tie.Need-returns
 returns-2 c =
-    let answering = c.before.before.before in
-    let a = answering.before.before.before.before.before.before.args in
-    let counted = rounds-answer (omega (arith, answering.before.before.before.if-output-input.false)) answering.answered.ensures.0 answering.answered.ensures.1.1 in (
+    let a = c.args in
+    let counted = rounds-answer (omega (arith, c.if-output-input.false)) c.answered.ensures.0 c.answered.ensures.1.1 in (
       counted,
       same-lifts (length a.output.now) a.input.now,
       never-longer-answer (length a.output.now) a.input.now,

@@ -7,13 +7,13 @@ use Rattle.lift.proofs.exported.packed.Statement.{statement}
 use Rattle.lift.proofs.exported.packed.Tie as tie
 
 returns : tie.Need-returns-in-Formula
-returns c = sym (ap (λ (v : Verdict). packed_of v c.before.before.args.size) c.in-Formula.is)
+returns c = sym (ap (λ (v : Verdict). packed_of v c.args.size) c.in-Formula.is)
 
 returns-2 : tie.Need-returns-in-Always
-returns-2 c = sym (ap (λ (v : Verdict). packed_of v c.before.before.args.size) c.in-Always.is)
+returns-2 c = sym (ap (λ (v : Verdict). packed_of v c.args.size) c.in-Always.is)
 
 returns-3 : tie.Need-returns-in-Unsatisfiable
-returns-3 c = sym (ap (λ (v : Verdict). packed_of v c.before.before.args.size) c.in-Unsatisfiable.is)
+returns-3 c = sym (ap (λ (v : Verdict). packed_of v c.args.size) c.in-Unsatisfiable.is)
 
 pub packed_spec : {M : Type 1} → statement M
 packed_spec =

@@ -8,13 +8,13 @@ use Rattle.lift.proofs.exported.placardpan_counted.Statement.{statement}
 use Rattle.lift.proofs.exported.placardpan_counted.Tie as tie
 
 number-in-requires : tie.Need-number_in-requires
-number-in-requires c κs = length-short c.before.before.before.simplify-given.ensures.0
+number-in-requires c κs = length-short c.simplify-given.ensures.0
 
 returns : tie.Need-returns
 unfolding counts_of
 returns c =
-    let answers = c.before.before.before.before.simplify-given.ensures.0 in
-    let counts = c.before.counts_or_zero-counts.ensures ∙ counts-counted answers in (
+    let answers = c.simplify-given.ensures.0 in
+    let counts = c.counts_or_zero-counts.ensures ∙ counts-counted answers in (
       c.number_in.ensures ∙ number-exported answers,
       answers.output,
       ap (λ (k : Counts). k.atoms_in) counts,

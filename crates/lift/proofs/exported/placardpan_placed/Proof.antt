@@ -6,11 +6,11 @@ use Rattle.lift.proofs.exported.placardpan_placed.Statement.{statement}
 use Rattle.lift.proofs.exported.placardpan_placed.Tie as tie
 
 number-in-requires : tie.Need-number_in-requires
-number-in-requires c κs = placed-length-short c.before.before.before.before.placed-given.ensures.0
+number-in-requires c κs = placed-length-short c.placed-given.ensures.0
 
 returns : tie.Need-returns
 returns c =
-    let answers = c.before.before.before.before.before.placed-given.ensures.0 in
+    let answers = c.placed-given.ensures.0 in
     (c.number_in.ensures ∙ placed-number answers, answers.output, answers.places)
 
 pub placardpan_placed_spec : {M : Type 1} → statement M

@@ -6,11 +6,11 @@ use Rattle.lift.proofs.exported.placardpan_rounds.Statement.{statement}
 use Rattle.lift.proofs.exported.placardpan_rounds.Tie as tie
 
 number-in-requires : tie.Need-number_in-requires
-number-in-requires c κs = length-short c.before.before.with_rounds-given.ensures.0.answers
+number-in-requires c κs = length-short c.with_rounds-given.ensures.0.answers
 
 returns : tie.Need-returns
 returns c =
-    let known = c.before.before.before.with_rounds-given.ensures.0 in
+    let known = c.with_rounds-given.ensures.0 in
     (c.number_in.ensures ∙ number-exported known.answers, known.answers.output, known.rounds)
 
 pub placardpan_rounds_spec : {M : Type 1} → statement M

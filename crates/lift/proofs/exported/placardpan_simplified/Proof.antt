@@ -7,7 +7,7 @@ use Rattle.lift.proofs.exported.placardpan_simplified.Tie as tie
 
 returns : tie.Need-returns
 returns c =
-    let answers = c.before.before.before.simplify.ensures.0 in
+    let answers = c.simplify.ensures.0 in
     (c.length_in.ensures ∙ part_length answers, answers.output)
 
 pub placardpan_simplified_spec : {M : Type 1} → statement M

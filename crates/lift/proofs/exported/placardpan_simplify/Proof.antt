@@ -6,11 +6,11 @@ use Rattle.lift.proofs.exported.placardpan_simplify.Statement.{statement}
 use Rattle.lift.proofs.exported.placardpan_simplify.Tie as tie
 
 number-in-requires : tie.Need-number_in-requires
-number-in-requires c κs = length-short c.before.before.simplify-given.ensures.0
+number-in-requires c κs = length-short c.simplify-given.ensures.0
 
 returns : tie.Need-returns
 returns c =
-    let answers = c.before.before.before.simplify-given.ensures.0 in
+    let answers = c.simplify-given.ensures.0 in
     (c.number_in.ensures ∙ number-exported answers, answers.output)
 
 pub placardpan_simplify_spec : {M : Type 1} → statement M

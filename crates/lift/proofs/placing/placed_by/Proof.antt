@@ -9,7 +9,7 @@ use Rattle.lift.proofs.placing.placed_by.Tie as tie
 
 returns : tie.Need-returns-then-output-input
 returns c =
-    let a = c.before.before.before.before.args in (
+    let a = c.args in (
       placed-refused-1 a.input.now a.output.now a.places.now (omega (arith, c.if-output-input.true)),
       placed-same-lifts (length a.output.now) (length a.places.now) a.input.now,
       placed-never-longer (length a.output.now) (length a.places.now) a.input.now,
@@ -18,8 +18,8 @@ returns c =
 
 returns-2 : tie.Need-returns-then-places-lt255
 returns-2 c =
-    let a = c.before.before.before.before.before.args in (
-      placed-refused-18 a.input.now a.output.now a.places.now (omega (arith, c.before.if-output-input.false)) (omega (arith, c.if-places-lt255.true)),
+    let a = c.args in (
+      placed-refused-18 a.input.now a.output.now a.places.now (omega (arith, c.if-output-input.false)) (omega (arith, c.if-places-lt255.true)),
       placed-same-lifts (length a.output.now) (length a.places.now) a.input.now,
       placed-never-longer (length a.output.now) (length a.places.now) a.input.now,
       places-tell a.input.now,
@@ -27,10 +27,8 @@ returns-2 c =
 
 returns-3 : tie.Need-returns
 returns-3 c =
-    let answering = c.before.before.before.before in
-    let tested = answering.before.before.before in
-    let a = tested.before.before.before.before.before.args in (
-      placed-answers a.input.now a.output.now a.places.now (omega (arith, tested.if-places-lt255.false)) answering.answered-known.ensures.0 answering.answered-known.ensures.1.0,
+    let a = c.args in (
+      placed-answers a.input.now a.output.now a.places.now (omega (arith, c.if-places-lt255.false)) c.answered-known.ensures.0 c.answered-known.ensures.1.0,
       placed-same-lifts (length a.output.now) (length a.places.now) a.input.now,
       placed-never-longer (length a.output.now) (length a.places.now) a.input.now,
       places-tell a.input.now,

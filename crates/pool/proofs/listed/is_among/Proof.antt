@@ -17,20 +17,20 @@ decreases-loop order count slot i₀ i = count - i
 
 returns : tie.Need-returns-then-slot-order invariant-loop decreases-loop
 returns c =
-    let l = c.before.before.before.loop-i in
-    let a = c.before.before.before.before.args in
+    let l = c.loop-i in
+    let a = c.args in
     among-found a.order.now a.count a.slot l.i (omega arith) c.if-slot-order.true ∙ l.invariant
 
 loop-again : tie.Need-loop-i-preserved invariant-loop decreases-loop
 loop-again c =
-    let l = c.before.before.before.loop-i in
-    let a = c.before.before.before.before.args in
+    let l = c.loop-i in
+    let a = c.args in
     among_later a.order.now a.count a.slot l.i (omega arith) c.if-slot-order.false ∙ l.invariant
 
 returns-2 : tie.Need-returns invariant-loop decreases-loop
 returns-2 c =
-    let l = c.before.loop-i in
-    let a = c.before.before.args in
+    let l = c.loop-i in
+    let a = c.args in
     among_none a.order.now a.count a.slot l.i (omega arith) ∙ l.invariant
 
 pub is_among_spec : {M : Type 1} → statement M

@@ -16,7 +16,7 @@ returns-2 c = no_terms _ _ c.if-count-eq0.true
 
 returns-3 : tie.Need-returns
 unfolding constant_in
-returns-3 c = one-term _ _ (omega (arith, c.before.before.if-count-gt1.false)) c.before.if-count-eq0.false
+returns-3 c = one-term _ _ (omega (arith, c.if-count-gt1.false)) c.if-count-eq0.false
 
 pub is_constant_spec : {M : Type 1} → statement M
 is_constant_spec =

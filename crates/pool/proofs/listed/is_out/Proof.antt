@@ -9,14 +9,14 @@ use Rattle.pool.proofs.listed.is_out.Tie as tie
 
 returns : tie.Need-returns-then-is_constant
 returns c =
-    let a = c.before.before.before.before.before.args in
-    sym (ap (λ (b : Bool). b || among (numbers_from a.order.now 0 a.count) a.slot) (sym c.before.is_constant.ensures ∙ c.if-is_constant.true))
+    let a = c.args in
+    sym (ap (λ (b : Bool). b || among (numbers_from a.order.now 0 a.count) a.slot) (sym c.is_constant.ensures ∙ c.if-is_constant.true))
 
 returns-2 : tie.Need-returns
 returns-2 c =
-    let a = c.before.before.before.before.before.before.args in
+    let a = c.args in
     c.is_among.ensures
-    ∙ sym (ap (λ (b : Bool). b || among (numbers_from a.order.now 0 a.count) a.slot) (sym c.before.before.is_constant.ensures ∙ c.before.if-is_constant.false))
+    ∙ sym (ap (λ (b : Bool). b || among (numbers_from a.order.now 0 a.count) a.slot) (sym c.is_constant.ensures ∙ c.if-is_constant.false))
 
 pub is_out_spec : {M : Type 1} → statement M
 is_out_spec = tie.close (tie.spec (λ c κs. search rules) returns (λ c κs. search rules) returns-2)

@@ -29,44 +29,42 @@ loop-holds c = (omega arith, omega arith, refl, simp sub-zero, λ j h. absurd (o
 
 is-out-requires : tie.Need-is_out-requires invariant-loop decreases-loop
 is-out-requires c κs =
-    let l = c.before.before.before.loop-i in
-    let s = c.before.before.before.before.before.before.before.before in
-    (s.requires.0, omega (arith, l.invariant.0, l.invariant.1, l.invariant.2, s.requires.1.most, s.requires.2), s.requires.1.below l.i (omega arith))
+    let l = c.loop-i in
+    (c.requires.0, omega (arith, l.invariant.0, l.invariant.1, l.invariant.2, c.requires.1.most, c.requires.2), c.requires.1.below l.i (omega arith))
 
 loop-again : tie.Need-loop-i-preserved-then-not-is_out invariant-loop decreases-loop
 loop-again c =
-    let l = c.before.before.before.before.before.loop-i in
-    let s = c.before.before.before.before.before.before.before.before.before.before in
-    let a = s.args in
+    let l = c.loop-i in
+    let a = c.args in
     let v = get_or a.number.now l.i 0 in
-    let room : l.count < length l.order = omega (arith, l.invariant.0, l.invariant.1, l.invariant.2, s.requires.1.most, s.requires.2) in (
+    let room : l.count < length l.order = omega (arith, l.invariant.0, l.invariant.1, l.invariant.2, c.requires.1.most, c.requires.2) in (
       omega arith,
       omega arith,
       length-set l.order l.count v ∙ l.invariant.2,
       ap (λ (x : List ℕ). listing_from (constant_in a.monomial.now a.terms.now) a.number.now a.polynomials x (l.i + 1))
           (one-behind l.order l.count v room)
           ∙ listing-in (constant_in a.monomial.now a.terms.now) a.number.now a.polynomials (numbers_from l.order 0 l.count) l.i
-          (omega arith) (sym c.before.is_out.ensures ∙ c.if-not-is_out.true)
+          (omega arith) (sym c.is_out.ensures ∙ c.if-not-is_out.true)
           ∙ l.invariant.3,
-      stored-below l.order l.count v room (s.requires.1.below l.i (omega arith)) l.invariant.4,
+      stored-below l.order l.count v room (c.requires.1.below l.i (omega arith)) l.invariant.4,
     )
 
 loop-again-2 : tie.Need-loop-i-preserved invariant-loop decreases-loop
 loop-again-2 c =
-    let l = c.before.before.before.before.before.loop-i in
-    let a = c.before.before.before.before.before.before.before.before.before.before.args in (
+    let l = c.loop-i in
+    let a = c.args in (
       omega arith,
       omega arith,
       l.invariant.2,
       listing-out (constant_in a.monomial.now a.terms.now) a.number.now a.polynomials (numbers_from l.order 0 l.count) l.i
-          (omega arith) (sym c.before.is_out.ensures ∙ c.if-not-is_out.false) ∙ l.invariant.3,
+          (omega arith) (sym c.is_out.ensures ∙ c.if-not-is_out.false) ∙ l.invariant.3,
       l.invariant.4,
     )
 
 returns : tie.Need-returns invariant-loop decreases-loop
 returns c =
-    let l = c.before.loop-i in
-    let a = c.before.before.before.before.before.before.args in
+    let l = c.loop-i in
+    let a = c.args in
     record {
       is = sym (listing-end (constant_in a.monomial.now a.terms.now) a.number.now a.polynomials (numbers_from l.order 0 l.count) l.i
           (omega arith)) ∙ l.invariant.3;
@@ -78,7 +76,6 @@ pub listed_spec : {M : Type 1} → statement M
 listed_spec =
     tie.close
     (tie.spec invariant-loop decreases-loop loop-holds
-    (λ c. omega (arith, c.before.before.before.before.before.before.before.requires.1.there)) (λ c. omega arith) is-out-requires
-    (λ c. let s = c.before.before.before.before.before.before.before.before.before.before in
-    omega (arith, c.before.before.before.before.before.loop-i.invariant.2, s.requires.1.most, s.requires.2))
-    (λ c. omega arith) (λ c. omega arith) loop-again (λ c. omega arith) loop-again-2 (λ c. c.before.loop-i.invariant.2) returns)
+    (λ c. omega (arith, c.requires.1.there)) (λ c. omega arith) is-out-requires
+    (λ c. omega (arith, c.loop-i.invariant.2, c.requires.1.most, c.requires.2))
+    (λ c. omega arith) (λ c. omega arith) loop-again (λ c. omega arith) loop-again-2 (λ c. c.loop-i.invariant.2) returns)

@@ -20,18 +20,18 @@ loop-holds c = (omega arith, refl, rw (add-zero c.args.at))
 
 loop-again : tie.Need-loop-i-preserved invariant-loop decreases-loop
 loop-again c =
-    let l = c.before.loop-i in
-    let a = c.before.before.args in
+    let l = c.loop-i in
+    let a = c.args in
     (omega arith, length-set l.pool (a.at + l.i) 0 ∙ l.invariant.1, clear_step l.pool a.at l.i (omega arith) ∙ l.invariant.2)
 
 returns : tie.Need-returns invariant-loop decreases-loop
 returns c =
-    let l = c.before.loop-i in
-    let a = c.before.before.args in
+    let l = c.loop-i in
+    let a = c.args in
     sym (clear-end l.pool a.at l.i (omega arith)) ∙ l.invariant.2
 
 pub clear_spec : {M : Type 1} → statement M
 clear_spec =
     tie.close
     (tie.spec invariant-loop decreases-loop loop-holds (λ c. omega arith) (λ c. omega arith) (λ c. omega arith) (λ c. omega arith) (λ c. omega arith) loop-again
-    (λ c. c.before.loop-i.invariant.1) returns)
+    (λ c. c.loop-i.invariant.1) returns)

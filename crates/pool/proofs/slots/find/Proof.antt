@@ -25,24 +25,24 @@ loop-holds c = (omega arith, zero-add _)
 
 returns : tie.Need-returns-then-stores invariant-loop decreases-loop
 returns c =
-    let l = c.before.before.before.loop-slot in
-    let a = c.before.before.before.before.before.before.args in
+    let l = c.loop-slot in
+    let a = c.args in
     first_found (stores (terms_from a.coefficient.now a.monomial.now a.from a.count)) a.pool.now l.slot (omega arith)
-    (sym c.before.stores.ensures ∙ c.if-stores.true) ∙ l.invariant.1
+    (sym c.stores.ensures ∙ c.if-stores.true) ∙ l.invariant.1
 
 loop-again : tie.Need-loop-slot-preserved invariant-loop decreases-loop
 loop-again c =
-    let l = c.before.before.before.loop-slot in
-    let a = c.before.before.before.before.before.before.args in (
+    let l = c.loop-slot in
+    let a = c.args in (
       omega arith,
       first_step (stores (terms_from a.coefficient.now a.monomial.now a.from a.count)) a.pool.now l.slot (omega arith)
-          (sym c.before.stores.ensures ∙ c.if-stores.false) ∙ l.invariant.1,
+          (sym c.stores.ensures ∙ c.if-stores.false) ∙ l.invariant.1,
     )
 
 returns-2 : tie.Need-returns invariant-loop decreases-loop
 returns-2 c =
-    let l = c.before.loop-slot in
-    let a = c.before.before.before.before.args in
+    let l = c.loop-slot in
+    let a = c.args in
     let test = stores (terms_from a.coefficient.now a.monomial.now a.from a.count) in
     let e : l.slot ≡ 128 = omega arith in
     first-none test a.pool.now ∙ ap (first_from test a.pool.now) (sym e) ∙ l.invariant.1

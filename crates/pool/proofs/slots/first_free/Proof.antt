@@ -17,24 +17,24 @@ abbrev decreases-loop : tie.decreases-loop-slot
 decreases-loop pool slot₀ slot = 128 - slot
 
 loop-holds : tie.Need-loop-slot-init invariant-loop decreases-loop
-loop-holds c = (omega arith, zero-add (first_place is_free (slots_of c.before.args.pool.now)))
+loop-holds c = (omega arith, zero-add (first_place is_free (slots_of c.args.pool.now)))
 
 returns : tie.Need-returns-then-is_free invariant-loop decreases-loop
 returns c =
-    let l = c.before.before.before.loop-slot in
-    let a = c.before.before.before.before.before.args in
-    first_found is_free a.pool.now l.slot (omega arith) (sym c.before.is_free.ensures ∙ c.if-is_free.true) ∙ l.invariant.1
+    let l = c.loop-slot in
+    let a = c.args in
+    first_found is_free a.pool.now l.slot (omega arith) (sym c.is_free.ensures ∙ c.if-is_free.true) ∙ l.invariant.1
 
 loop-again : tie.Need-loop-slot-preserved invariant-loop decreases-loop
 loop-again c =
-    let l = c.before.before.before.loop-slot in
-    let a = c.before.before.before.before.before.args in
-    (omega arith, first_step is_free a.pool.now l.slot (omega arith) (sym c.before.is_free.ensures ∙ c.if-is_free.false) ∙ l.invariant.1)
+    let l = c.loop-slot in
+    let a = c.args in
+    (omega arith, first_step is_free a.pool.now l.slot (omega arith) (sym c.is_free.ensures ∙ c.if-is_free.false) ∙ l.invariant.1)
 
 returns-2 : tie.Need-returns invariant-loop decreases-loop
 returns-2 c =
-    let l = c.before.loop-slot in
-    let a = c.before.before.before.args in
+    let l = c.loop-slot in
+    let a = c.args in
     let e : l.slot ≡ 128 = omega arith in
     first-none is_free a.pool.now ∙ ap (first_from is_free a.pool.now) (sym e) ∙ l.invariant.1
 

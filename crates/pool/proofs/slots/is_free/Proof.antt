@@ -13,7 +13,7 @@ use Rattle.pool.proofs.slots.is_free.Tie as tie
 returns : tie.Need-returns
 unfolding is_free slot_at slot_of
 returns c =
-    let a = c.before.before.args in
+    let a = c.args in
     ap (λ (w : ℕ). eqb (w % 4294967296) 0) c.word.ensures ∙ no-mark (get_or a.pool.now (slot_place a.slot) 0)
 
 pub is_free_spec : {M : Type 1} → statement M

@@ -16,28 +16,24 @@ slice-write-pool-2 c = simp length-set (omega arith)
 
 put-terms-requires : tie.Need-put_terms-requires
 put-terms-requires c κs =
-    let s = c.before.before.before.before.before.before.before.before in
-    (simp length-set (omega (arith, s.requires.0, c.before.before.before.if-slot-lt128.true)), s.requires.2)
+    (simp length-set (omega (arith, c.requires.0, c.if-slot-lt128.true)), c.requires.2)
 
 same_length : tie.Need-shape_of-pool-then-slot-lt128
-same_length c = ap length c.before.before.put_terms.ensures ∙ simp (put-length, length-set)
+same_length c = ap length c.put_terms.ensures ∙ simp (put-length, length-set)
 
 returns : tie.Need-returns-then-slot-lt128
 returns c =
-    let marking = c.before.before.before.before in
-    let placing = marking.before.before.before in
-    let a = placing.before.before.before.before.args in
-    c.before.before.put_terms.ensures
-    ∙ listed-stored a.number a.pool.now (terms_from a.coefficient.now a.monomial.now a.from a.count) placing.place_for-slot.result
-    marking.with_mark.result a.count placing.place_for-slot.ensures (omega (arith, marking.before.before.if-slot-lt128.true)) marking.with_mark.ensures
+    let a = c.args in
+    c.put_terms.ensures
+    ∙ listed-stored a.number a.pool.now (terms_from a.coefficient.now a.monomial.now a.from a.count) c.place_for-slot.result
+    c.with_mark.result a.count c.place_for-slot.ensures (omega (arith, c.if-slot-lt128.true)) c.with_mark.ensures
     (sym (terms-length a.coefficient.now a.monomial.now a.from a.count))
 
 returns-2 : tie.Need-returns-else-slot-lt128
 returns-2 c =
-    let placing = c.before in
-    let a = placing.before.before.before.before.args in
-    listed-none a.number a.pool.now (terms_from a.coefficient.now a.monomial.now a.from a.count) placing.place_for-slot.result
-    placing.place_for-slot.ensures (omega (arith, c.if-slot-lt128.false))
+    let a = c.args in
+    listed-none a.number a.pool.now (terms_from a.coefficient.now a.monomial.now a.from a.count) c.place_for-slot.result
+    c.place_for-slot.ensures (omega (arith, c.if-slot-lt128.false))
 
 pub list_form_spec : {M : Type 1} → statement M
 list_form_spec =

@@ -10,16 +10,16 @@ use Rattle.pool.proofs.slots.place_for.Tie as tie
 
 returns : tie.Need-returns-then-slot-lt128
 returns c =
-    let a = c.before.before.before.before.args in
-    let found = c.before.find-slot.ensures in
+    let a = c.args in
+    let found = c.find-slot.ensures in
     found ∙ placed-stored (terms_from a.coefficient.now a.monomial.now a.from a.count) a.pool.now (omega (arith, found, c.if-slot-lt128.true))
 
 returns-2 : tie.Need-returns
 returns-2 c =
-    let a = c.before.before.before.before.before.args in
-    let found = c.before.before.find-slot.ensures in
+    let a = c.args in
+    let found = c.find-slot.ensures in
     c.first_free.ensures
-    ∙ placed-free (terms_from a.coefficient.now a.monomial.now a.from a.count) a.pool.now (omega (arith, found, c.before.if-slot-lt128.false))
+    ∙ placed-free (terms_from a.coefficient.now a.monomial.now a.from a.count) a.pool.now (omega (arith, found, c.if-slot-lt128.false))
 
 pub place_for_spec : {M : Type 1} → statement M
 place_for_spec = tie.close (tie.spec (λ c κs. search rules) returns (λ c κs. search rules) returns-2)

@@ -38,32 +38,26 @@ loop-holds c = (omega arith, refl, simp (add-zero, sub-zero))
 
 loop-again : tie.Need-loop-i-preserved invariant-loop decreases-loop invariant-loop2 decreases-loop2
 loop-again c =
-    let put = c.before.before in
-    let word = put.before.before in
-    let element = word.before.before in
-    let l = element.before.before.loop-i in
-    let s = element.before.before.before.before.before in
-    let a = s.args in
+    let l = c.loop-i in
+    let a = c.args in
     let m = get_or a.monomial.now (a.from + l.i) 0 in
     let z = get_or a.coefficient.now (a.from + l.i) (pos 0) in
-    let is : put.put_term.new.pool ≡ put_term l.pool (a.k + l.i) (coefficient_word z) m =
-    put.put_term.ensures
+    let is : c.put_term.new.pool ≡ put_term l.pool (a.k + l.i) (coefficient_word z) m =
+    c.put_term.ensures
     ∙ ap (λ (v : ℕ). put_term l.pool (a.k + l.i) v m)
-    (word.coefficient_word.ensures ∙ ap coefficient_word (read_back z (record { sfits = element.c-1.given }))) in (
+    (c.coefficient_word.ensures ∙ ap coefficient_word (read_back z (record { sfits = c.c-1.given }))) in (
       omega arith,
       ap length is ∙ put-long l.pool (a.k + l.i) (coefficient_word z) m ∙ l.invariant.1,
       ap (λ (w : List ℕ). put_from w a.k a.coefficient.now a.monomial.now a.from a.count (l.i + 1)) is
-          ∙ put_step l.pool a.k a.coefficient.now a.monomial.now a.from a.count l.i (omega arith) (omega (arith, s.requires.1.few))
+          ∙ put_step l.pool a.k a.coefficient.now a.monomial.now a.from a.count l.i (omega arith) (omega (arith, c.requires.1.few))
           ∙ l.invariant.2,
     )
 
 loop2-again : tie.Need-loop-i-2-preserved invariant-loop decreases-loop invariant-loop2 decreases-loop2
 loop2-again c =
-    let put = c.before.before in
-    let l = put.before.before.before.loop-i-2 in
-    let s = put.before.before.before.before.before.before.before.before in
-    let a = s.args in
-    let is = put.put_term-in-loop-i-2.ensures in (
+    let l = c.loop-i-2 in
+    let a = c.args in
+    let is = c.put_term-in-loop-i-2.ensures in (
       omega arith,
       omega arith,
       ap length is ∙ put-long l.pool (a.k + l.i) 0 0 ∙ l.invariant.2,
@@ -72,14 +66,14 @@ loop2-again c =
     )
 
 same_length : tie.Need-shape_of-pool invariant-loop decreases-loop invariant-loop2 decreases-loop2
-same_length c = c.before.loop-i-2.invariant.2 ∙ c.before.before.before.loop-i.invariant.1
+same_length c = c.loop-i-2.invariant.2 ∙ c.loop-i.invariant.1
 
 returns : tie.Need-returns invariant-loop decreases-loop invariant-loop2 decreases-loop2
 returns c =
-    let l = c.before.loop-i-2 in
-    let a = c.before.before.before.before.before.before.args in
+    let l = c.loop-i-2 in
+    let a = c.args in
     sym (put-end l.pool a.k a.coefficient.now a.monomial.now a.from a.count l.i (omega arith)) ∙ l.invariant.3
-    ∙ c.before.before.before.loop-i.invariant.2
+    ∙ c.loop-i.invariant.2
 
 pub put_terms_spec : {M : Type 1} → statement M
 put_terms_spec =

@@ -14,18 +14,17 @@ use Rattle.pool.proofs.slots.same_term.Tie as tie
 
 returns : tie.Need-returns-then-monomial-word
 returns c =
-    let a = c.before.before.before.args in
+    let a = c.args in
     sym (ap (λ (b : Bool). b && same_number a.coefficient (coefficient_of (get_or a.pool.now a.k 0)))
-    (ne_eqb a.monomial (get_or a.pool.now (a.k + 16) 0) (λ e. c.if-monomial-word.true (e ∙ sym c.before.word.ensures))))
+    (ne_eqb a.monomial (get_or a.pool.now (a.k + 16) 0) (λ e. c.if-monomial-word.true (e ∙ sym c.word.ensures))))
 
 returns-2 : tie.Need-returns
 returns-2 c =
-    let s = c.before.before.before.before.before in
-    let a = s.args in
-    ap₂ eqb c.before.word-2.ensures (c.coefficient_word.ensures ∙ ap coefficient_word (read_back a.coefficient s.ranges.coefficient))
+    let a = c.args in
+    ap₂ eqb c.word-2.ensures (c.coefficient_word.ensures ∙ ap coefficient_word (read_back a.coefficient c.ranges.coefficient))
     ∙ same-words a.coefficient (get_or a.pool.now a.k 0)
     ∙ sym (ap (λ (b : Bool). b && same_number a.coefficient (coefficient_of (get_or a.pool.now a.k 0)))
-    (eq-eqb a.monomial (get_or a.pool.now (a.k + 16) 0) (c.before.before.if-monomial-word.false ∙ c.before.before.before.word.ensures)))
+    (eq-eqb a.monomial (get_or a.pool.now (a.k + 16) 0) (c.if-monomial-word.false ∙ c.word.ensures)))
 
 pub same_term_spec : {M : Type 1} → statement M
 same_term_spec =

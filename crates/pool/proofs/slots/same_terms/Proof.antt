@@ -24,26 +24,26 @@ decreases-loop pool k coefficient monomial from count i₀ i = count - i
 
 returns : tie.Need-returns-then-not-same_term invariant-loop decreases-loop
 returns c =
-    let l = c.before.before.before.before.before.loop-i in
-    let a = c.before.before.before.before.before.before.before.before.args in
+    let l = c.loop-i in
+    let a = c.args in
     same-stops a.pool.now a.k a.coefficient.now a.monomial.now a.from l.i a.count (omega arith)
     (ap (λ (z : ℤ). same_term a.pool.now (a.k + l.i) z (get_or a.monomial.now (a.from + l.i) 0))
-    (sym (read_back (get_or a.coefficient.now (a.from + l.i) (pos 0)) (record { sfits = c.before.before.before.c-1.given })))
-    ∙ sym c.before.same_term.ensures ∙ c.if-not-same_term.true) ∙ l.invariant
+    (sym (read_back (get_or a.coefficient.now (a.from + l.i) (pos 0)) (record { sfits = c.c-1.given })))
+    ∙ sym c.same_term.ensures ∙ c.if-not-same_term.true) ∙ l.invariant
 
 loop-again : tie.Need-loop-i-preserved invariant-loop decreases-loop
 loop-again c =
-    let l = c.before.before.before.before.before.loop-i in
-    let a = c.before.before.before.before.before.before.before.before.args in
+    let l = c.loop-i in
+    let a = c.args in
     same-goes-on a.pool.now a.k a.coefficient.now a.monomial.now a.from l.i a.count (omega arith)
     (ap (λ (z : ℤ). same_term a.pool.now (a.k + l.i) z (get_or a.monomial.now (a.from + l.i) 0))
-    (sym (read_back (get_or a.coefficient.now (a.from + l.i) (pos 0)) (record { sfits = c.before.before.before.c-1.given })))
-    ∙ sym c.before.same_term.ensures ∙ c.if-not-same_term.false) ∙ l.invariant
+    (sym (read_back (get_or a.coefficient.now (a.from + l.i) (pos 0)) (record { sfits = c.c-1.given })))
+    ∙ sym c.same_term.ensures ∙ c.if-not-same_term.false) ∙ l.invariant
 
 returns-2 : tie.Need-returns invariant-loop decreases-loop
 returns-2 c =
-    let l = c.before.loop-i in
-    let a = c.before.before.before.before.args in
+    let l = c.loop-i in
+    let a = c.args in
     same_end a.pool.now a.k a.coefficient.now a.monomial.now a.from l.i a.count (omega arith) ∙ l.invariant
 
 pub same_terms_spec : {M : Type 1} → statement M

@@ -7,9 +7,9 @@ use lib.ListN.{get_or}
 use Rattle.pool.proofs.slots.terms_of.Statement.{statement}
 use Rattle.pool.proofs.slots.terms_of.Tie as tie
 
-abbrev place : (c : tie.After-word-count) → c.word-count.result ≡ get_or c.before.before.args.pool.now (2 + 34 * c.before.before.args.slot + 1) 0
+abbrev place : (c : tie.After-word-count) → c.word-count.result ≡ get_or c.args.pool.now (2 + 34 * c.args.slot + 1) 0
 place c =
-    let a = c.before.before.args in
+    let a = c.args in
     let e : 3 + 34 * a.slot ≡ 2 + 34 * a.slot + 1 = omega arith in
     rw e at c.word-count.ensures
 

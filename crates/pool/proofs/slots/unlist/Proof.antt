@@ -17,21 +17,20 @@ use Rattle.pool.proofs.slots.unlist.Tie as tie
 returns : tie.Need-returns-then-row-eq0
 unfolding unlisted either
 returns c =
-    let marking = c.before.before.before.before.before in
-    let a = marking.before.before.before.args in
+    let a = c.args in
     let row : List Bool = set (marks 32 (get_or a.pool.now a.at 0)) a.number false in
-    c.before.before.clear.ensures
+    c.clear.ensures
     ∙ sym (ap (λ (b : Bool). either b (zeros a.pool.now a.at 34) (set a.pool.now a.at (row_word row)))
-    (count_word row ∙ eq-eqb (row_word row) 0 (sym marking.with_mark-row.ensures ∙ c.before.before.before.before.if-row-eq0.true)))
+    (count_word row ∙ eq-eqb (row_word row) 0 (sym c.with_mark-row.ensures ∙ c.if-row-eq0.true)))
 
 returns-2 : tie.Need-returns
 unfolding unlisted either
 returns-2 c =
-    let a = c.before.before.before.before.args in
+    let a = c.args in
     let row : List Bool = set (marks 32 (get_or a.pool.now a.at 0)) a.number false in
-    ap (set a.pool.now a.at) c.before.with_mark-row.ensures
+    ap (set a.pool.now a.at) c.with_mark-row.ensures
     ∙ sym (ap (λ (b : Bool). either b (zeros a.pool.now a.at 34) (set a.pool.now a.at (row_word row)))
-    (count_word row ∙ ne_eqb (row_word row) 0 (λ e. c.if-row-eq0.false (c.before.with_mark-row.ensures ∙ e))))
+    (count_word row ∙ ne_eqb (row_word row) 0 (λ e. c.if-row-eq0.false (c.with_mark-row.ensures ∙ e))))
 
 pub unlist_spec : {M : Type 1} → statement M
 unlist_spec =

@@ -18,22 +18,22 @@ decreases-loop pool total₀ slot₀ total slot = 128 - slot
 
 loop-again : tie.Need-loop-slot-preserved-then-not-is_free invariant-loop decreases-loop
 loop-again c =
-    let l = c.before.before.before.loop-slot in
-    let a = c.before.before.before.before.before.args in
-    let e = used_step a.pool.now l.slot (omega arith) (sym c.before.is_free.ensures ∙ c.if-not-is_free.true) in
+    let l = c.loop-slot in
+    let a = c.args in
+    let e = used_step a.pool.now l.slot (omega arith) (sym c.is_free.ensures ∙ c.if-not-is_free.true) in
     (omega arith, omega arith, omega (arith, l.invariant.2, e))
 
 loop-again-2 : tie.Need-loop-slot-preserved invariant-loop decreases-loop
 loop-again-2 c =
-    let l = c.before.before.before.loop-slot in
-    let a = c.before.before.before.before.before.args in
-    let e = free_step a.pool.now l.slot (omega arith) (sym c.before.is_free.ensures ∙ c.if-not-is_free.false) in
+    let l = c.loop-slot in
+    let a = c.args in
+    let e = free_step a.pool.now l.slot (omega arith) (sym c.is_free.ensures ∙ c.if-not-is_free.false) in
     (omega arith, omega arith, omega (arith, l.invariant.2, e))
 
 returns : tie.Need-returns invariant-loop decreases-loop
 returns c =
-    let l = c.before.loop-slot in
-    let a = c.before.before.before.args in
+    let l = c.loop-slot in
+    let a = c.args in
     let e : l.slot ≡ 128 = omega arith in
     (omega (arith, l.invariant.2, ap (used_from a.pool.now) e ∙ used-none a.pool.now), omega arith)
 

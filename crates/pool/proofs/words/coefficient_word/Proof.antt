@@ -10,50 +10,50 @@ use Rattle.pool.proofs.Numbers.{whole-magnitude, whole_word}
 use Rattle.pool.proofs.words.coefficient_word.Statement.{statement}
 use Rattle.pool.proofs.words.coefficient_word.Tie as tie
 
-abbrev below : (c : tie.Then-wide-lt0) → lt_z c.before.args.c (pos 0) ≡ true
-below c = rw (wide_back c.before.args.c c.before.ranges.c) at c.if-wide-lt0.true
+abbrev below : (c : tie.Then-wide-lt0) → lt_z c.args.c (pos 0) ≡ true
+below c = rw (wide_back c.args.c c.ranges.c) at c.if-wide-lt0.true
 
-abbrev not-below : (c : tie.Else-wide-lt0) → lt_z c.before.args.c (pos 0) ≡ false
-not-below c = rw (wide_back c.before.args.c c.before.ranges.c) at c.if-wide-lt0.false
+abbrev not-below : (c : tie.Else-wide-lt0) → lt_z c.args.c (pos 0) ≡ false
+not-below c = rw (wide_back c.args.c c.ranges.c) at c.if-wide-lt0.false
 
 cast-result : tie.Need-overflow_cast-result
 cast-result c =
-    let z = c.before.args.c in
-    let m = negative-magnitude z (below c) c.before.ranges.c.sfits in
-    rw (minus-back z c.before.ranges.c) (negative-turns z (below c), record { fits = omega (arith, m.1) })
+    let z = c.args.c in
+    let m = negative-magnitude z (below c) c.ranges.c.sfits in
+    rw (minus-back z c.ranges.c) (negative-turns z (below c), record { fits = omega (arith, m.1) })
 
 mul-result : tie.Need-overflow_mul-result
 mul-result c =
-    let z = c.before.args.c in
-    let m = negative-magnitude z (below c) c.before.ranges.c.sfits in
-    rw (minus-back z c.before.ranges.c) (record { fits = omega (arith, m.1) })
+    let z = c.args.c in
+    let m = negative-magnitude z (below c) c.ranges.c.sfits in
+    rw (minus-back z c.ranges.c) (record { fits = omega (arith, m.1) })
 
 sub-result-2 : tie.Need-overflow_sub-result-then-wide-lt0
 sub-result-2 c =
-    let z = c.before.args.c in
-    let m = negative-magnitude z (below c) c.before.ranges.c.sfits in
-    rw (minus-back z c.before.ranges.c) (omega (arith, m.0))
+    let z = c.args.c in
+    let m = negative-magnitude z (below c) c.ranges.c.sfits in
+    rw (minus-back z c.ranges.c) (omega (arith, m.0))
 
 returns : tie.Need-returns-then-wide-lt0
-returns c = let z = c.before.args.c in rw (minus-back z c.before.ranges.c) (negative-word z (below c))
+returns c = let z = c.args.c in rw (minus-back z c.ranges.c) (negative-word z (below c))
 
 cast-result-2 : tie.Need-overflow_cast-result-2
 cast-result-2 c =
-    let z = c.before.args.c in
-    let m = whole-magnitude z (not-below c) c.before.ranges.c.sfits in
-    rw (wide_back z c.before.ranges.c) (whole z (not-below c), record { fits = omega (arith, m) })
+    let z = c.args.c in
+    let m = whole-magnitude z (not-below c) c.ranges.c.sfits in
+    rw (wide_back z c.ranges.c) (whole z (not-below c), record { fits = omega (arith, m) })
 
 mul-result-2 : tie.Need-overflow_mul-result-2
 mul-result-2 c =
-    let z = c.before.args.c in
-    let m = whole-magnitude z (not-below c) c.before.ranges.c.sfits in
-    rw (wide_back z c.before.ranges.c) (record { fits = omega (arith, m) })
+    let z = c.args.c in
+    let m = whole-magnitude z (not-below c) c.ranges.c.sfits in
+    rw (wide_back z c.ranges.c) (record { fits = omega (arith, m) })
 
 returns-2 : tie.Need-returns
-returns-2 c = let z = c.before.args.c in rw (wide_back z c.before.ranges.c) (whole_word z (not-below c))
+returns-2 c = let z = c.args.c in rw (wide_back z c.ranges.c) (whole_word z (not-below c))
 
 pub coefficient_word_spec : {M : Type 1} → statement M
 coefficient_word_spec =
     tie.close
-    (tie.spec (λ c. wide_fits c.args.c c.ranges.c) (λ c. minus-fits c.before.args.c c.before.ranges.c) cast-result mul-result sub-result-2 returns
+    (tie.spec (λ c. wide_fits c.args.c c.ranges.c) (λ c. minus-fits c.args.c c.ranges.c) cast-result mul-result sub-result-2 returns
     cast-result-2 mul-result-2 returns-2)

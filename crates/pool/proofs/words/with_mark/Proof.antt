@@ -8,33 +8,27 @@ use Rattle.pool.proofs.words.with_mark.Tie as tie
 
 returns : tie.Need-returns-then-on
 returns c =
-    let s = c.before.before.before in
-    rw c.if-on.true (mark-kept s.args.word s.args.number s.requires _ (sym c.before.before.mark.ensures ∙ c.before.if-mark.true))
+    rw c.if-on.true (mark-kept c.args.word c.args.number c.requires _ (sym c.mark.ensures ∙ c.if-mark.true))
 
 sub-result : tie.Need-overflow_sub-result
 sub-result c =
-    let s = c.before.before.before in
-    mark-there s.args.word s.args.number s.requires (sym c.before.before.mark.ensures ∙ c.before.if-mark.true)
+    mark-there c.args.word c.args.number c.requires (sym c.mark.ensures ∙ c.if-mark.true)
 
 returns-2 : tie.Need-returns-then-mark
 returns-2 c =
-    let s = c.before.before.before in
-    rw c.if-on.false (mark-taken s.args.word s.args.number s.requires (sym c.before.before.mark.ensures ∙ c.before.if-mark.true))
+    rw c.if-on.false (mark-taken c.args.word c.args.number c.requires (sym c.mark.ensures ∙ c.if-mark.true))
 
 add-result : tie.Need-overflow_add-result
 add-result c =
-    let s = c.before.before.before in
-    rw (mark-shifted s.args.word s.args.number s.requires) (record { fits = omega (arith, mark-small s.args.word s.args.number s.requires) })
+    rw (mark-shifted c.args.word c.args.number c.requires) (record { fits = omega (arith, mark-small c.args.word c.args.number c.requires) })
 
 returns-3 : tie.Need-returns-then-on-2
 returns-3 c =
-    let s = c.before.before.before in
-    rw c.if-on-2.true (mark-given s.args.word s.args.number s.requires (sym c.before.before.mark.ensures ∙ c.before.if-mark.false))
+    rw c.if-on-2.true (mark-given c.args.word c.args.number c.requires (sym c.mark.ensures ∙ c.if-mark.false))
 
 returns-4 : tie.Need-returns
 returns-4 c =
-    let s = c.before.before.before in
-    rw c.if-on-2.false (mark-kept s.args.word s.args.number s.requires _ (sym c.before.before.mark.ensures ∙ c.before.if-mark.false))
+    rw c.if-on-2.false (mark-kept c.args.word c.args.number c.requires _ (sym c.mark.ensures ∙ c.if-mark.false))
 
 pub with_mark_spec : {M : Type 1} → statement M
 with_mark_spec =

@@ -9,4 +9,4 @@ pub word_spec : {M : Type 1} → statement M
 word_spec =
     tie.close
     (tie.spec (λ c. search rules) (λ c. search rules) (λ c. search rules)
-    (λ c. sym (get_or-eq_default c.before.args.pool.now 0 c.if-k-pool.false)))
+    (λ c. sym (get_or-eq_default c.args.pool.now 0 c.if-k-pool.false)))

@@ -1,7 +1,7 @@
 -- `push` meets its contract.
 use native.Mathlib.Omega.{arith}
 use borrow.Author.Rules.{rules}
-use Prim.Native.Nat.{ℕ, ◌<◌}
+use Prim.Native.Nat.{◌<◌}
 use lib.ListN.{length}
 use Rattle.round.proofs.Lists.{pushed}
 use Rattle.round.proofs.list.push.Statement.{statement}

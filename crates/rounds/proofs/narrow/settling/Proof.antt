@@ -80,5 +80,5 @@ pub settling_spec : {M : Type 1} → statement M
 settling_spec =
     tie.close
     (tie.spec invariant-loop decreases-loop (λ c. omega (arith, c.requires.0.0.variables)) (λ c. omega (arith, c.requires.0.0.variables)) loop-holds (λ c. omega arith)
-    ahead-requires (λ c. search rules) returns search-board-requires (λ c. (passed c.before.before.before.before.before.before.before.before.before.before).ready.places ∙ sym c.requires.0.1) returns-2 (λ c. omega (arith, c.loop-left-test.true)) loop-again
+    ahead-requires (λ c. search rules) returns search-board-requires (λ c. (passed c.before.before.before.before.before.before.before.before.before).ready.places ∙ sym c.requires.0.1) returns-2 (λ c. omega (arith, c.loop-left-test.true)) loop-again
     (λ c. search rules) (λ c. ends-early c.loop-left.invariant.0 refl refl))

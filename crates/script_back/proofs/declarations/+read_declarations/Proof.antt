@@ -30,30 +30,20 @@ pub +read_declarations_spec : {M : Type 1} → statement M
     declarations-lts.spec
     (all-declared-reads.Asked, all-declared-reads.Learnt, asserted-reads.Asked, asserted-reads.Learnt, declared-one-reads.Asked, declared-one-reads.Learnt, declarations-below t, declarations.Post)
     (declarations-at t) declarations.Post
-    (λ c κs. c.before.requires.1.0)
-    (λ c κs. let s = c.before.before.before in (s.requires.1.0, s.requires.1.1, sym c.before.all_declared.ensures ∙ c.if-all_declared.true))
+    (λ c κs. c.requires.1.0)
+    (λ c κs. (c.requires.1.0, c.requires.1.1, sym c.all_declared.ensures ∙ c.if-all_declared.true))
     (λ c. c.asserted.ensures)
     (λ c κs.
-    let s = c.before.before.before in
-    (s.requires.1.0, (one-more s.args.text.now s.args.at s.args.i s.requires.1.1 (sym c.before.all_declared.ensures ∙ c.if-all_declared.false)).below))
+    (c.requires.1.0, (one-more c.args.text.now c.args.at c.args.i c.requires.1.1 (sym c.all_declared.ensures ∙ c.if-all_declared.false)).below))
     (λ c. search rules)
     (λ c. search rules)
-    (λ c. let s = c.before.before.before.before.before.before.before in omega (arith, s.requires.1.1))
+    (λ c. omega (arith, c.requires.1.1))
     (λ c κs.
-    let one = c.before.before.before in
-    let test = one.before in
-    let s = test.before.before.before in
-    let more = one-more s.args.text.now s.args.at s.args.i s.requires.1.1 (sym test.before.all_declared.ensures ∙ test.if-all_declared.false) in
-    (omega (arith, s.requires.0, more.below), (said-inside one.declared_one-step.ensures c.before.in-Read.is, omega (arith, more.below))))
+    let more = one-more c.args.text.now c.args.at c.args.i c.requires.1.1 (sym c.all_declared.ensures ∙ c.if-all_declared.false) in
+    (omega (arith, c.requires.0, more.below), (said-inside c.declared_one-step.ensures c.in-Read.is, omega (arith, more.below))))
     (λ c.
-    let one = c.before.before.before in
-    let test = one.before in
-    let s = test.before.before.before in
-    let more = one-more s.args.text.now s.args.at s.args.i s.requires.1.1 (sym test.before.all_declared.ensures ∙ test.if-all_declared.false) in
-    declaration-stops one.declared_one-step.ensures more c.before.in-Stopped.is)
+    let more = one-more c.args.text.now c.args.at c.args.i c.requires.1.1 (sym c.all_declared.ensures ∙ c.if-all_declared.false) in
+    declaration-stops c.declared_one-step.ensures more c.in-Stopped.is)
     (λ c.
-    let one = c.before.before.before.before in
-    let test = one.before in
-    let s = test.before.before.before in
-    let more = one-more s.args.text.now s.args.at s.args.i s.requires.1.1 (sym test.before.all_declared.ensures ∙ test.if-all_declared.false) in
-    declaration-reads one.declared_one-step.ensures more c.before.before.in-Read.is c.read_declarations.ensures)
+    let more = one-more c.args.text.now c.args.at c.args.i c.requires.1.1 (sym c.all_declared.ensures ∙ c.if-all_declared.false) in
+    declaration-reads c.declared_one-step.ensures more c.in-Read.is c.read_declarations.ensures)

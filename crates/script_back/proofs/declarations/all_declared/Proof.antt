@@ -8,9 +8,9 @@ pub all_declared_spec : {M : Type 1} → statement M
 all_declared_spec =
     tie.close
     (tie.spec
-    (λ c. let a = c.before.before.args in all-sixteen a.text.now a.at a.i c.if-i-eq16.true)
-    (λ c. let a = c.before.before.before.args in none_yet a.text.now a.at a.i c.if-i-eq0.true)
+    (λ c. let a = c.args in all-sixteen a.text.now a.at a.i c.if-i-eq16.true)
+    (λ c. let a = c.args in none_yet a.text.now a.at a.i c.if-i-eq0.true)
     (λ c. search rules) (λ c κs. search rules)
     (λ c.
-    let a = c.before.before.before.before.args in
-    by-second a.text.now a.at a.i c.before.before.if-i-eq16.false c.before.if-i-eq0.false c.byte_at.ensures))
+    let a = c.args in
+    by-second a.text.now a.at a.i c.if-i-eq16.false c.if-i-eq0.false c.byte_at.ensures))

@@ -7,14 +7,14 @@ use Rattle.script_back.proofs.declarations.declared_one.Tie as tie
 
 returns : tie.Need-returns-in-Stopped
 unfolding declaration
-returns c = said-stops _ c.before.before.before.said-step.ensures c.before.in-Stopped.is
+returns c = said-stops _ c.said-step.ensures c.in-Stopped.is
 
 returns-2 : tie.Need-returns-in-Read
 unfolding declaration
-returns-2 c = said-both _ c.before.before.before.before.said-step.ensures c.before.before.in-Read.is c.named.ensures
+returns-2 c = said-both _ c.said-step.ensures c.in-Read.is c.named.ensures
 
 pub declared_one_spec : {M : Type 1} → statement M
 declared_one_spec =
     tie.close
-    (tie.spec (λ c. search rules) (λ c κs. search rules) (λ c. search rules) (λ c. search rules)
-    (λ c κs. (said-inside c.before.before.before.said-step.ensures c.before.in-Read.is, c.before.before.before.before.before.before.requires.1)) returns returns-2)
+    (tie.spec (λ c κs. search rules) (λ c. search rules) (λ c. search rules)
+    (λ c κs. (said-inside c.said-step.ensures c.in-Read.is, c.requires.1)) returns returns-2)

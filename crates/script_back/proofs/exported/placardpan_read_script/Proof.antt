@@ -8,6 +8,6 @@ pub placardpan_read_script_spec : {M : Type 1} → statement M
 placardpan_read_script_spec =
     tie.close
     (tie.spec (λ c κs. search rules) (λ c κs. search rules)
-    (λ c κs. short-told c.before.before.before.Block-of.ensures)
+    (λ c κs. short-told c.block_of-outcome.ensures)
     (λ c. search rules)
-    (λ c. exports-told c.before.before.before.before.Block-of.ensures c.number_in.ensures c.before.position_in.ensures))
+    (λ c. exports-told c.block_of-outcome.ensures c.number_in.ensures c.position_in.ensures))

@@ -8,5 +8,5 @@ pub beginning_spec : {M : Type 1} → statement M
 beginning_spec =
     tie.close
     (tie.spec (λ c κs. search rules) (λ c. search rules) (λ c. search rules)
-    (λ c. beginning-stops c.before.before.before.said-step.ensures _ c.before.in-Stopped.is)
-    (λ c. beginning-found c.before.before.before.said-step.ensures _ c.before.in-Read.is))
+    (λ c. beginning-stops c.said-step.ensures _ c.in-Stopped.is)
+    (λ c. beginning-found c.said-step.ensures _ c.in-Read.is))

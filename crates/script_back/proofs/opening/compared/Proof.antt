@@ -8,11 +8,8 @@ use Rattle.script_back.proofs.opening.compared.Tie as tie
 pub compared_spec : {M : Type 1} → statement M
 compared_spec =
     tie.close
-    (tie.spec (λ c κs. search rules) (λ c. search rules) (λ c. search rules) (λ c κs. search rules)
+    (tie.spec (λ c κs. search rules) (λ c. search rules) (λ c κs. search rules)
     (λ c.
-    let test = c.before.before in
-    compared-zero test.before.before.before.requires.1 test.before.before.before.requires.2 (sym test.before.byte_at.ensures ∙ test.if-byte_at-eq61.true) c.beginning.ensures)
-    (λ c. search rules) (λ c κs. search rules)
+    compared-zero c.requires.1 c.requires.2 (sym c.byte_at.ensures ∙ c.if-byte_at-eq61.true) c.beginning.ensures) (λ c κs. search rules)
     (λ c.
-    let test = c.before.before in
-    compared-strict test.before.before.before.requires.1 test.before.before.before.requires.2 (λ e. test.if-byte_at-eq61.false (test.before.byte_at.ensures ∙ e)) c.beginning-2.ensures))
+    compared-strict c.requires.1 c.requires.2 (λ e. c.if-byte_at-eq61.false (c.byte_at.ensures ∙ e)) c.beginning-2.ensures))

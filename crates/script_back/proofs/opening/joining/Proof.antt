@@ -8,6 +8,6 @@ pub joining_spec : {M : Type 1} → statement M
 joining_spec =
     tie.close
     (tie.spec (λ c κs. search rules)
-    (λ c. joining-goes-on _ c.before.if-allowed.true c.beginning.ensures)
+    (λ c. joining-goes-on _ c.if-allowed.true c.beginning.ensures)
     (λ c. search rules)
     (λ c. joining-stops _ _ _ _ c.if-allowed.false))

@@ -20,18 +20,16 @@ said_spec =
     (λ c. sofar-none _ _ _ c.requires)
     (λ c. omega arith)
     (λ c. omega arith)
-    (λ c. run_ends c.before.before.loop-i.invariant c.before.loop-i-test.true c.if-text-at.true)
+    (λ c. run_ends c.loop-i.invariant c.loop-i-test.true c.if-text-at.true)
     (λ c. omega arith)
     (λ c. omega arith)
     (λ c. omega arith)
     (λ c. omega arith)
     (λ c.
-    let turn = c.before.before.before.before in
-    run-differs turn.before.loop-i.invariant turn.loop-i-test.true c.before.before.before.if-text-at.false c.if-text-at-2.true)
+    run-differs c.loop-i.invariant c.loop-i-test.true c.if-text-at.false c.if-text-at-2.true)
     (λ c. omega arith)
     (λ c. omega arith)
     (λ c.
-    let turn = c.before.before.before.before in
-    run-goes-on turn.before.loop-i.invariant turn.loop-i-test.true c.before.before.before.if-text-at.false c.if-text-at-2.false)
+    run-goes-on c.loop-i.invariant c.loop-i-test.true c.if-text-at.false c.if-text-at-2.false)
     (λ c. omega arith)
-    (λ c. run-stands c.before.loop-i.invariant c.loop-i-test.false))
+    (λ c. run-stands c.loop-i.invariant c.loop-i-test.false))

@@ -9,6 +9,6 @@ pub close_atom_spec : {M : Type 1} → statement M
 close_atom_spec =
     tie.close
     (tie.spec (λ c κs. search rules) (λ c. search rules) (λ c. search rules) (λ c. search rules) (λ c. search rules) (λ c. search rules) (λ c. search rules) (λ c. search rules)
-    (λ c. close-stops c.before.before.before.closing-step.ensures c.before.in-Stopped.is)
+    (λ c. close-stops c.closing-step.ensures c.in-Stopped.is)
     (λ c. search rules)
-    (λ c. close-reads c.before.before.before.closing-step.ensures c.before.in-Read.is))
+    (λ c. close-reads c.closing-step.ensures c.in-Read.is))

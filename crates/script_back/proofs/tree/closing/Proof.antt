@@ -9,7 +9,6 @@ use Rattle.script_back.proofs.tree.closing.Tie as tie
 pub closing_spec : {M : Type 1} → statement M
 closing_spec =
     tie.close
-    (tie.spec (λ c. search rules) (λ c κs. search rules)
-    (λ c. said-as (closing-other _ c.before.before.if-set-eq5.true) c.said.ensures)
-    (λ c. search rules) (λ c κs. search rules)
-    (λ c. said-as (closing-one _ (λ e. omega (arith, c.before.before.before.before.requires.1, e)) c.before.before.if-set-eq5.false) c.said-2.ensures))
+    (tie.spec (λ c κs. search rules)
+    (λ c. said-as (closing-other _ c.if-set-eq5.true) c.said.ensures) (λ c κs. search rules)
+    (λ c. said-as (closing-one _ (λ e. omega (arith, c.requires.1, e)) c.if-set-eq5.false) c.said-2.ensures))

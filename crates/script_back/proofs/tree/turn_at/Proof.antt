@@ -10,20 +10,13 @@ pub turn_at_spec : {M : Type 1} → statement M
 turn_at_spec =
     tie.close
     (tie.spec (λ c κs. search rules)
-    (λ c. turn_one _ _ _ (sym c.before.before.byte_at-next.ensures ∙ c.if-next-eq32.true) _ c.before.if-children-lt2.true)
-    (λ c. turn-few _ _ _ _ c.before.if-children-lt2.true (λ e. c.if-next-eq32.false (c.before.before.byte_at-next.ensures ∙ e)))
-    (λ c. turn-ends _ _ _ _ c.before.if-children-lt2.false (sym c.before.before.byte_at-next.ensures ∙ c.if-next-eq41.true))
+    (λ c. turn_one _ _ _ (sym c.byte_at-next.ensures ∙ c.if-next-eq32.true) _ c.if-children-lt2.true)
+    (λ c. turn-few _ _ _ _ c.if-children-lt2.true (λ e. c.if-next-eq32.false (c.byte_at-next.ensures ∙ e)))
+    (λ c. turn-ends _ _ _ _ c.if-children-lt2.false (sym c.byte_at-next.ensures ∙ c.if-next-eq41.true))
     (λ c.
-    let close = c.before in
-    let few = close.before in
-    turn-stops _ _ _ _ few.if-children-lt2.false (λ e. close.if-next-eq41.false (few.before.byte_at-next.ensures ∙ e)) (λ some e. absurd (omega (arith, some, c.if-room-eq0.true))))
+    turn-stops _ _ _ _ c.if-children-lt2.false (λ e. c.if-next-eq41.false (c.byte_at-next.ensures ∙ e)) (λ some e. absurd (omega (arith, some, c.if-room-eq0.true))))
     (λ c. search rules)
     (λ c.
-    let some = c.before in
-    let few = some.before.before in
-    turn_more _ _ _ (sym few.before.byte_at-next.ensures ∙ c.if-next-eq32-2.true) _ few.if-children-lt2.false (omega (arith, some.if-room-eq0.false)) few.before.before.before.requires.1)
+    turn_more _ _ _ (sym c.byte_at-next.ensures ∙ c.if-next-eq32-2.true) _ c.if-children-lt2.false (omega (arith, c.if-room-eq0.false)) c.requires.1)
     (λ c.
-    let some = c.before in
-    let close = some.before in
-    let few = close.before in
-    turn-stops _ _ _ _ few.if-children-lt2.false (λ e. close.if-next-eq41.false (few.before.byte_at-next.ensures ∙ e)) (λ h e. c.if-next-eq32-2.false (few.before.byte_at-next.ensures ∙ e))))
+    turn-stops _ _ _ _ c.if-children-lt2.false (λ e. c.if-next-eq41.false (c.byte_at-next.ensures ∙ e)) (λ h e. c.if-next-eq32-2.false (c.byte_at-next.ensures ∙ e))))

@@ -8,8 +8,8 @@ pub read_assertion_spec : {M : Type 1} → statement M
 read_assertion_spec =
     tie.close
     (tie.spec (λ c κs. search rules) (λ c. search rules) (λ c. search rules)
-    (λ c κs. root-inside c.before.before.before.before.before.before.before.before.before.before.read_root-branch.ensures c.before.in-Read.is)
+    (λ c κs. root-inside c.read_root-branch.ensures c.in-Read.is)
     (λ c. search rules) (λ c. search rules) (λ c. search rules) (λ c. search rules)
-    (λ c. assertion-stops c.before.before.before.before.before.before.before.before.before.before.read_root-branch.ensures c.before.in-Stopped.is)
+    (λ c. assertion-stops c.read_root-branch.ensures c.in-Stopped.is)
     (λ c. search rules) (λ c. search rules) (λ c. search rules) (λ c. search rules)
-    (λ c. assertion-ends c.before.before.before.before.before.before.before.before.before.before.before.read_root-branch.ensures c.before.before.in-Read.is c.read_end.ensures))
+    (λ c. assertion-ends c.read_root-branch.ensures c.in-Read.is c.read_end.ensures))

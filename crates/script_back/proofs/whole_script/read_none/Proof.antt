@@ -8,6 +8,6 @@ pub read_none_spec : {M : Type 1} → statement M
 read_none_spec =
     tie.close
     (tie.spec (λ c κs. search rules) (λ c. search rules) (λ c. search rules) (λ c. search rules)
-    (λ c. none-stops c.before.before.before.said-step.ensures c.before.in-Stopped.is)
+    (λ c. none-stops c.said-step.ensures c.in-Stopped.is)
     (λ c. search rules)
-    (λ c. none_reads c.before.before.before.said-step.ensures c.before.in-Read.is))
+    (λ c. none_reads c.said-step.ensures c.in-Read.is))

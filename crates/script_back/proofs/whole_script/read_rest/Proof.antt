@@ -9,10 +9,8 @@ read_rest_spec =
     tie.close
     (tie.spec (λ c κs. search rules) (λ c. search rules) (λ c. search rules)
     (λ c κs.
-    let declared = c.before.before.before.before.before.before.before in
-    let s = declared.before.before.before.before.before in
-    let all = declared-all declared.read_declarations-declared.ensures c.before.before.before.before.before.in-Read.is in
-    (record { some = all.some; most = all.most; lent = s.requires.0 }, all.inside))
-    (λ c. rest-stops c.before.before.before.read_declarations-declared.ensures c.before.in-Stopped.is)
+    let all = declared-all c.read_declarations-declared.ensures c.in-Read.is in
+    (record { some = all.some; most = all.most; lent = c.requires.0 }, all.inside))
+    (λ c. rest-stops c.read_declarations-declared.ensures c.in-Stopped.is)
     (λ c. search rules) (λ c. search rules) (λ c. search rules) (λ c. search rules)
-    (λ c. rest-reads c.before.before.before.before.before.before.before.before.before.before.before.before.before.before.before.read_declarations-declared.ensures c.before.before.before.before.before.before.before.before.before.before.before.before.before.in-Read.is c.before.before.before.before.before.before.before.read_assertion.ensures))
+    (λ c. rest-reads c.read_declarations-declared.ensures c.in-Read.is c.read_assertion.ensures))

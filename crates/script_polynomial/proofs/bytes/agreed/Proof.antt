@@ -20,27 +20,27 @@ loop-holds c = (omega arith, omega arith, rw (add-zero c.args.at) (sym (zero-add
 
 returns : tie.Need-returns-then-text-at invariant-loop decreases-loop
 returns c =
-    let l = c.before.before.loop-i in
-    let a = c.before.before.before.args in
+    let l = c.loop-i in
+    let a = c.args in
     omega (arith, l.invariant.2, text-ends a.text.now a.bytes.now a.at l.i (omega arith) (omega arith))
 
 returns-2 : tie.Need-returns-then-text-at-2 invariant-loop decreases-loop
 returns-2 c =
-    let l = c.before.before.before.before.before.loop-i in
-    let a = c.before.before.before.before.before.before.args in
+    let l = c.loop-i in
+    let a = c.args in
     omega (arith, l.invariant.2, byte-differs a.text.now a.bytes.now a.at l.i (omega arith) (omega arith) c.if-text-at-2.true)
 
 loop-again : tie.Need-loop-i-preserved invariant-loop decreases-loop
 loop-again c =
-    let l = c.before.before.before.before.before.loop-i in
-    let a = c.before.before.before.before.before.before.args in
+    let l = c.loop-i in
+    let a = c.args in
     let next = byte-agrees a.text.now a.bytes.now a.at l.i (omega arith) (omega arith) c.if-text-at-2.false in
     (omega arith, omega arith, omega (arith, l.invariant.2, next))
 
 returns-3 : tie.Need-returns invariant-loop decreases-loop
 returns-3 c =
-    let l = c.before.loop-i in
-    let a = c.before.before.args in
+    let l = c.loop-i in
+    let a = c.args in
     omega (arith, l.invariant.2, bytes-end a.text.now a.bytes.now a.at l.i (omega arith))
 
 pub agreed_spec : {M : Type 1} → statement M

@@ -31,46 +31,42 @@ module _ (t : ℕ) (c : read-digits-lts.Else-not-digit_may
     (byte-at-reads.Asked, byte-at-reads.Learnt, digit-may-reads.Asked, digit-may-reads.Learnt, read-digits-below t, read-digits.Post)
     (read-digits-at t) read-digits.Post) where
   abbrev byte : ℕ
-  byte = c.before.before.before.before.byte_at-byte.result
+  byte = c.byte_at-byte.result
 
-  digit : (48 ≤ byte) × (byte ≤ 57) × (10 * c.before.before.before.before.before.before.args.x + (byte - 48) ≤ 2147483647)
-  digit = may-digit _ byte (sym c.before.digit_may.ensures ∙ c.if-not-digit_may.false)
+  digit : (48 ≤ byte) × (byte ≤ 57) × (10 * c.args.x + (byte - 48) ≤ 2147483647)
+  digit = may-digit _ byte (sym c.digit_may.ensures ∙ c.if-not-digit_may.false)
 
-  here : let s = c.before.before.before.before.before.before in s.args.at < length s.args.text.now
-  here = let s = c.before.before.before.before.before.before in
-      byte_inside s.args.text.now s.args.at (omega (arith, c.before.before.before.before.byte_at-byte.ensures, digit.0))
+  here : let s = c in s.args.at < length s.args.text.now
+  here = let s = c in
+      byte_inside s.args.text.now s.args.at (omega (arith, c.byte_at-byte.ensures, digit.0))
 
 pub +read_digits_spec : {M : Type 1} → statement M
 +read_digits_spec = close μ-read-digits λ t. read-digits-lts.spec
     (byte-at-reads.Asked, byte-at-reads.Learnt, digit-may-reads.Asked, digit-may-reads.Learnt, read-digits-below t, read-digits.Post)
     (read-digits-at t) read-digits.Post
     (λ c κs. tt)
-    (λ c. let s = c.before.before.before in
-    omega (arith, byte_inside s.args.text.now s.args.at (omega (arith, c.before.byte_at-byte.ensures, c.if-byte-last.true, s.requires.1.1))))
-    (λ c. let s = c.before.before.before in digits-end _ _ _ _ _ c.before.byte_at-byte.ensures s.requires.1.1 c.if-byte-last.true s.requires.1.2)
-    (λ c. digits-spent _ _ _ _ c.before.before.byte_at-byte.ensures c.before.if-byte-last.false _ c.if-most-eq0.true)
-    (λ c κs. c.before.before.before.before.requires.1.2.at-most)
+    (λ c. omega (arith, byte_inside c.args.text.now c.args.at (omega (arith, c.byte_at-byte.ensures, c.if-byte-last.true, c.requires.1.1))))
+    (λ c. digits-end _ _ _ _ _ c.byte_at-byte.ensures c.requires.1.1 c.if-byte-last.true c.requires.1.2)
+    (λ c. digits-spent _ _ _ _ c.byte_at-byte.ensures c.if-byte-last.false _ c.if-most-eq0.true)
+    (λ c κs. c.requires.1.2.at-most)
     (λ c.
-    let tested = c.before.before in
-    digits-stop _ _ _ _ tested.before.before.byte_at-byte.ensures tested.before.if-byte-last.false _ tested.if-most-eq0.false c.before.digit_may.ensures
+    digits-stop _ _ _ _ c.byte_at-byte.ensures c.if-byte-last.false _ c.if-most-eq0.false c.digit_may.ensures
     c.if-not-digit_may.true)
     (λ c. omega (arith, here t c))
-    (λ c. omega (arith, c.before.before.if-most-eq0.false))
-    (λ c. omega (arith, c.before.before.before.before.before.before.requires.1.2.at-most))
+    (λ c. omega (arith, c.if-most-eq0.false))
+    (λ c. omega (arith, c.requires.1.2.at-most))
     (λ c. omega (arith, (digit t c).0))
     (λ c. omega (arith, (digit t c).1))
     (λ c. omega (arith, (digit t c).2))
-    (λ c κs.
-    let s = c.before.before.before.before.before.before in (
-      omega (arith, c.before.before.if-most-eq0.false, s.requires.0),
+    (λ c κs. (
+      omega (arith, c.if-most-eq0.false, c.requires.0),
       (
         omega (arith, here t c),
-        s.requires.1.1,
-        record { not_zero = omega (arith, s.requires.1.2.not_zero); at-most = (digit t c).2 },
+        c.requires.1.1,
+        record { not_zero = omega (arith, c.requires.1.2.not_zero); at-most = (digit t c).2 },
       ),
     ))
     (λ c.
-    let tested = c.before.before.before in
-    digits-on _ _ _ _ tested.before.before.byte_at-byte.ensures tested.before.if-byte-last.false _ tested.if-most-eq0.false
-    c.before.before.digit_may.ensures
-    c.before.if-not-digit_may.false c.read_digits.ensures)
+    digits-on _ _ _ _ c.byte_at-byte.ensures c.if-byte-last.false _ c.if-most-eq0.false
+    c.digit_may.ensures
+    c.if-not-digit_may.false c.read_digits.ensures)

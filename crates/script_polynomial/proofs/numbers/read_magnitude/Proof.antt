@@ -8,18 +8,16 @@ use Rattle.script_polynomial.proofs.numbers.read_magnitude.Tie as tie
 
 read-digits-requires : tie.Need-read_digits-requires
 read-digits-requires c κs =
-    let s = c.before.before.before.before in
-    let here = byte_inside s.args.text.now s.args.at (omega (arith, c.before.before.byte_at-byte.ensures)) in
-    (omega (arith, here), s.requires.1, record { not_zero = omega arith; at-most = omega arith })
+    let here = byte_inside c.args.text.now c.args.at (omega (arith, c.byte_at-byte.ensures)) in
+    (omega (arith, here), c.requires.1, record { not_zero = omega arith; at-most = omega arith })
 
 returns-3 : tie.Need-returns
 returns-3 c =
-    let byte = c.before.before.before in
-    magnitude-on _ _ _ byte.byte_at-byte.ensures c.before.before.if-byte-lt49.false c.before.if-byte-gt57.false c.read_digits.ensures
+    magnitude-on _ _ _ c.byte_at-byte.ensures c.if-byte-lt49.false c.if-byte-gt57.false c.read_digits.ensures
 
 pub read_magnitude_spec : {M : Type 1} → statement M
 read_magnitude_spec =
     tie.close
-    (tie.spec (λ c κs. search rules) (λ c. magnitude-low _ _ _ c.before.byte_at-byte.ensures c.if-byte-lt49.true)
-    (λ c. magnitude-high _ _ _ c.before.before.byte_at-byte.ensures c.if-byte-gt57.true) (λ c. search rules) (λ c. search rules) (λ c. search rules)
+    (tie.spec (λ c κs. search rules) (λ c. magnitude-low _ _ _ c.byte_at-byte.ensures c.if-byte-lt49.true)
+    (λ c. magnitude-high _ _ _ c.byte_at-byte.ensures c.if-byte-gt57.true) (λ c. search rules) (λ c. search rules) (λ c. search rules)
     read-digits-requires returns-3)

@@ -7,17 +7,17 @@ use Rattle.script_polynomial.proofs.numbers.read_plain.Tie as tie
 
 cast-t9 : tie.Need-overflow_cast-result
 cast-t9 c =
-    let small = (number_read c.before.before.before.read_magnitude-found.ensures c.before.in-Read.is).1.at_most in
+    let small = (number_read c.read_magnitude-found.ensures c.in-Read.is).1.at-most in
     record { sfits = omega (arith, small) }
 
 returns-2 : tie.Need-returns-in-Read
 returns-2 c =
-    let h = c.before.before.before.read_magnitude-found.ensures in
-    let e = c.before.in-Read.is in
+    let h = c.read_magnitude-found.ensures in
+    let e = c.in-Read.is in
     plain-read _ h e (plain_value (number_read h e).1)
 
 pub read_plain_spec : {M : Type 1} → statement M
 read_plain_spec =
     tie.close
     (tie.spec (λ c κs. search rules) (λ c. search rules) (λ c. search rules) cast-t9
-    (λ c. plain-stopped _ c.before.before.before.read_magnitude-found.ensures c.before.in-Stopped.is) returns-2)
+    (λ c. plain-stopped _ c.read_magnitude-found.ensures c.in-Stopped.is) returns-2)

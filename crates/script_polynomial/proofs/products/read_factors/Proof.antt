@@ -16,16 +16,16 @@ pub read_factors_spec : {M : Type 1} → statement M
 read_factors_spec =
     tie.close
     (tie.spec invariant-loop decreases-loop (λ c. omega arith)
-    (λ c. let s = c.before in factors-begin _ _ _ _ s.requires.0 s.requires.1 s.requires.3)
-    (λ c κs. let l = c.loop-position.invariant in (l.inside, l.variable, c.before.before.requires.2, l.packed))
+    (λ c. factors-begin _ _ _ _ c.requires.0 c.requires.1 c.requires.3)
+    (λ c κs. let l = c.loop-position.invariant in (l.inside, l.variable, c.requires.2, l.packed))
     (λ c. search rules)
-    (λ c. let one = c.before.before.before in factors-stop _ _ _ _ one.before.loop-position.invariant one.read_factor-factor.ensures
-    c.before.in-Stopped.is)
+    (λ c. factors-stop _ _ _ _ c.loop-position.invariant c.read_factor-factor.ensures
+    c.in-Stopped.is)
     (λ c. search rules)
-    (λ c. let one = c.before.before.before in factors-end _ _ _ _ one.before.loop-position.invariant one.read_factor-factor.ensures
-    c.before.in-Last.is)
+    (λ c. factors-end _ _ _ _ c.loop-position.invariant c.read_factor-factor.ensures
+    c.in-Last.is)
     (λ c. search rules)
-    (λ c. let one = c.before.before.before in factors-less _ _ _ _ one.before.loop-position.invariant one.read_factor-factor.ensures
-    c.before.in-More.is)
-    (λ c. let one = c.before.before.before in factors-go-on _ _ _ _ one.before.loop-position.invariant one.read_factor-factor.ensures
-    c.before.in-More.is))
+    (λ c. factors-less _ _ _ _ c.loop-position.invariant c.read_factor-factor.ensures
+    c.in-More.is)
+    (λ c. factors-go-on _ _ _ _ c.loop-position.invariant c.read_factor-factor.ensures
+    c.in-More.is))

@@ -8,17 +8,15 @@ use Rattle.script_polynomial.proofs.products.read_product.Tie as tie
 
 with-factors-requires : tie.Need-with_factors-requires
 with-factors-requires c κs =
-    let s = c.before.before.before.before.before in
-    (product_inside _ _ 0 0 c.before.before.before.read_number-number.ensures c.before.in-Read.is, s.requires.1, s.requires.2, s.requires.3)
+    (product_inside _ _ 0 0 c.read_number-number.ensures c.in-Read.is, c.requires.1, c.requires.2, c.requires.3)
 
 returns-2 : tie.Need-returns-in-Read
 returns-2 c =
-    let told = c.before in
-    product-read _ _ _ _ told.before.before.before.read_number-number.ensures told.before.in-Read.is
-    (to_z-of_z w32 _ (record { sfits = told.in-Read.known_told-in-Read-1-own.given.0.1 })) c.with_factors.ensures
+    product-read _ _ _ _ c.read_number-number.ensures c.in-Read.is
+    (to_z-of_z w32 _ (record { sfits = c.in-Read.known_told-in-Read-1-own.given.0.1 })) c.with_factors.ensures
 
 pub read_product_spec : {M : Type 1} → statement M
 read_product_spec =
     tie.close
     (tie.spec (λ c κs. search rules) (λ c. search rules) (λ c. search rules) with-factors-requires
-    (λ c. product-stopped _ _ _ _ c.before.before.before.read_number-number.ensures c.before.in-Stopped.is) returns-2)
+    (λ c. product-stopped _ _ _ _ c.read_number-number.ensures c.in-Stopped.is) returns-2)

@@ -10,6 +10,6 @@ pub space_may_spec : {M : Type 1} → statement M
 unfolding any_may
 space_may_spec =
     tie.close
-    (tie.spec (λ c. rw (ne_eqb c.before.args.byte 32 c.if-byte-ne32.true))
-    (λ c. rw (eq-eqb c.before.before.args.byte 32 c.before.if-byte-ne32.false, le-ltb (c.before.before.args.monomial % 16) 15 (omega arith)))
-    (λ c. rw (eq-eqb c.before.before.args.byte 32 c.before.if-byte-ne32.false, lt-ltb (c.before.before.args.monomial % 16) 15 (omega arith))))
+    (tie.spec (λ c. rw (ne_eqb c.args.byte 32 c.if-byte-ne32.true))
+    (λ c. rw (eq-eqb c.args.byte 32 c.if-byte-ne32.false, le-ltb (c.args.monomial % 16) 15 (omega arith)))
+    (λ c. rw (eq-eqb c.args.byte 32 c.if-byte-ne32.false, lt-ltb (c.args.monomial % 16) 15 (omega arith))))

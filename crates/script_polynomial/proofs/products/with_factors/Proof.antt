@@ -8,11 +8,10 @@ use Rattle.script_polynomial.proofs.products.with_factors.Tie as tie
 
 returns-2 : tie.Need-returns-in-Read
 returns-2 c =
-    let s = c.before.before.before.before.before in
-    with_read _ _ _ _ _ c.before.before.before.read_factors-found.ensures c.before.in-Read.is (to_z-of_z w32 _ s.ranges.coefficient)
+    with_read _ _ _ _ _ c.read_factors-found.ensures c.in-Read.is (to_z-of_z w32 _ c.ranges.coefficient)
 
 pub with_factors_spec : {M : Type 1} → statement M
 with_factors_spec =
     tie.close
     (tie.spec (λ c κs. search rules) (λ c. search rules) (λ c. search rules)
-    (λ c. with-stopped _ _ _ _ _ c.before.before.before.read_factors-found.ensures c.before.in-Stopped.is) returns-2)
+    (λ c. with-stopped _ _ _ _ _ c.read_factors-found.ensures c.in-Stopped.is) returns-2)

@@ -42,50 +42,41 @@ pub +read_next_terms_spec : {M : Type 1} → statement M
   one-more-reads.Learnt,
 )
     (read-next-terms-at t) read-next-terms.Post
-    (λ c κs. let s = c.before.before.before.before in (
-      s.requires.1.0,
-      s.requires.1.1,
-      s.requires.1.2,
-      record { coefficients = omega (arith, s.requires.1.3.coefficients); monomials = omega (arith, s.requires.1.3.monomials) },
+    (λ c κs. (
+      c.requires.1.0,
+      c.requires.1.1,
+      c.requires.1.2,
+      record { coefficients = omega (arith, c.requires.1.3.coefficients); monomials = omega (arith, c.requires.1.3.monomials) },
     ))
     (λ c. search rules) (λ c. search rules) (λ c. search rules)
-    (λ c. let s = c.before.before.before.before.before.before.before.before.before.before.before.before.before in
-    omega (arith, s.requires.1.3.coefficients))
-    (λ c. let told = c.before.before in
-    omega (
+    (λ c. omega (arith, c.requires.1.3.coefficients))
+    (λ c. omega (
       arith,
-      (further-on _ _ _ _ _ _ told.before.before.before.before.before.before.read_next_term-step.ensures
-          told.before.in-More.is).some,
+      (further-on _ _ _ _ _ _ c.read_next_term-step.ensures
+          c.in-More.is).some,
     ))
     (λ c κs.
-    let told = c.before.before in
-    let one = told.before.before.before.before.before.before in
-    let s = one.before.before.before.before.before in
-    let next = further-on _ _ _ _ _ _ one.read_next_term-step.ensures told.before.in-More.is in
-    let kept = one.read_next_term-step.auto.1 in (
-      omega (arith, next .some, s.requires.0),
+    let next = further-on _ _ _ _ _ _ c.read_next_term-step.ensures c.in-More.is in
+    let kept = c.read_next_term-step.auto in (
+      omega (arith, next.some, c.requires.0),
       (
-        next .inside,
-        s.requires.1.1,
-        s.requires.1.2,
+        next.inside,
+        c.requires.1.1,
+        c.requires.1.2,
         record {
-          coefficients = omega (arith, next .some, kept.0, s.requires.1.3.coefficients);
-          monomials = omega (arith, next .some, kept.1.0, s.requires.1.3.monomials);
+          coefficients = omega (arith, next.some, kept.coefficient, c.requires.1.3.coefficients);
+          monomials = omega (arith, next.some, kept.monomial, c.requires.1.3.monomials);
         },
       ),
     ))
     (λ c κs.
-    let rest = c.before.before.before in
-    let one = rest.before.before.before.before.before.before.before.before.before in
-    terms-counted _ rest.read_next_terms-rest.ensures (omega (arith, one.read_next_term-step.auto.coefficient)) (omega arith))
+    terms-counted _ c.read_next_terms-rest.ensures (omega (arith, c.read_next_term-step.auto.coefficient)) (omega arith))
     (λ c. search rules) (λ c. search rules)
-    (λ c. terms-stopped _ _ _ _ _ _ c.before.before.before.before.before.before.read_next_term-step.ensures c.before.in-Stopped.is)
+    (λ c. terms-stopped _ _ _ _ _ _ c.read_next_term-step.ensures c.in-Stopped.is)
     (λ c. search rules) (λ c. search rules)
-    (λ c. terms-last _ _ _ _ _ _ c.before.before.before.before.before.before.read_next_term-step.ensures c.before.in-Last.is)
+    (λ c. terms-last _ _ _ _ _ _ c.read_next_term-step.ensures c.in-Last.is)
     (λ c. search rules) (λ c. search rules)
     (λ c.
-    let rest = c.before.before.before.before in
-    let told = rest.before.before.before in
-    terms-more _ _ _ _ _ _ told.before.before.before.before.before.before.read_next_term-step.ensures told.before.in-More.is _
+    terms-more _ _ _ _ _ _ c.read_next_term-step.ensures c.in-More.is _
     c.one_more.ensures
-    rest.read_next_terms-rest.ensures)
+    c.read_next_terms-rest.ensures)

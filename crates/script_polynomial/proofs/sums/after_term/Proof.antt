@@ -8,9 +8,9 @@ pub after_term_spec : {M : Type 1} → statement M
 after_term_spec =
     tie.close
     (tie.spec (λ c κs. search rules) (λ c. search rules)
-    (λ c. λ n. after-end _ _ c.before.byte_at-byte.ensures n _ _ c.if-byte-eq41.true)
-    (λ c. λ n. after-spent _ _ c.before.before.byte_at-byte.ensures n _ _ c.before.if-byte-eq41.false c.if-most-eq0.true)
-    (λ c. λ n. after-other _ _ c.before.before.before.byte_at-byte.ensures n _ _ c.before.before.if-byte-eq41.false c.before.if-most-eq0.false
+    (λ c. λ n. after-end _ _ c.byte_at-byte.ensures n _ _ c.if-byte-eq41.true)
+    (λ c. λ n. after-spent _ _ c.byte_at-byte.ensures n _ _ c.if-byte-eq41.false c.if-most-eq0.true)
+    (λ c. λ n. after-other _ _ c.byte_at-byte.ensures n _ _ c.if-byte-eq41.false c.if-most-eq0.false
     c.if-byte-ne32.true)
     (λ c. search rules)
-    (λ c. λ n. after_more _ _ c.before.before.before.byte_at-byte.ensures n _ _ c.before.if-most-eq0.false c.if-byte-ne32.false))
+    (λ c. λ n. after_more _ _ c.byte_at-byte.ensures n _ _ c.if-most-eq0.false c.if-byte-ne32.false))

@@ -8,6 +8,6 @@ pub alone_spec : {M : Type 1} → statement M
 unfolding alone_of
 alone_spec =
     tie.close
-    (tie.spec (λ c. search rules) (λ c. search rules) (λ c. search rules) (λ c. rw c.before.in-Stopped.is)
-    (λ c. rw c.before.in-Last.is)
-    (λ c. rw c.before.in-More.is))
+    (tie.spec (λ c. search rules) (λ c. search rules) (λ c. search rules) (λ c. rw c.in-Stopped.is)
+    (λ c. rw c.in-Last.is)
+    (λ c. rw c.in-More.is))

@@ -6,20 +6,16 @@ use Rattle.script_polynomial.proofs.sums.read_alone.Tie as tie
 
 spaced-requires : tie.Need-spaced-requires
 spaced-requires c κs =
-    let one = c.before.before.before.before.before.before in
-    (alone-term _ _ _ one.before.highest.ensures.0 one.read_term-found.ensures c.before.in-Read.is).reaches.inside
+    (alone-term _ _ _ c.highest.ensures.0 c.read_term-found.ensures c.in-Read.is).reaches.inside
 
 returns : tie.Need-returns-in-Stopped
 returns c =
-    let one = c.before.before.before.before.before.before in
-    alone-stopped _ _ _ one.before.highest.ensures.0 one.read_term-found.ensures c.before.in-Stopped.is
+    alone-stopped _ _ _ c.highest.ensures.0 c.read_term-found.ensures c.in-Stopped.is
 
 returns-2 : tie.Need-returns-in-Read
 returns-2 c =
-    let told = c.before in
-    let one = told.before.before.before.before.before.before in
-    alone-read _ _ _ one.before.highest.ensures.0 one.read_term-found.ensures told.before.in-Read.is
-    one.before.before.before.before.before.before.requires.3 _ c.spaced.ensures
+    alone-read _ _ _ c.highest.ensures.0 c.read_term-found.ensures c.in-Read.is
+    c.requires.3 _ c.spaced.ensures
 
 pub read_alone_spec : {M : Type 1} → statement M
 read_alone_spec =

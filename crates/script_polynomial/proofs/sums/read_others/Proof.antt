@@ -8,44 +8,33 @@ use Rattle.script_polynomial.proofs.sums.read_others.Tie as tie
 
 read-next-terms-requires : tie.Need-read_next_terms-found-requires
 read-next-terms-requires c κs =
-    let tested = c.before.before in
-    let s = tested.before.before.before.before in
-    let here = byte_inside s.args.text.now s.args.at (omega (arith, tested.before.byte_at.ensures, tested.if-byte_at-ne32.false)) in
-    (omega (arith, here), s.requires.1, s.requires.2, s.requires.3)
+    let here = byte_inside c.args.text.now c.args.at (omega (arith, c.byte_at.ensures, c.if-byte_at-ne32.false)) in
+    (omega (arith, here), c.requires.1, c.requires.2, c.requires.3)
 
 add-spaced : tie.Need-overflow_add-count
 add-spaced c =
-    let one = c.before.before.before.before.before.before in
-    let tested = one.before.before.before in
-    let room = (others-terms _ _ _ _ tested.before.byte_at.ensures tested.if-byte_at-ne32.false one.read_next_terms-found.ensures
-    c.before.in-Read.is).room in
+    let room = (others-terms _ _ _ _ c.byte_at.ensures c.if-byte_at-ne32.false c.read_next_terms-found.ensures
+    c.in-Read.is).room in
     omega (arith, room.coefficients)
 
 spaced-requires : tie.Need-spaced-requires
 spaced-requires c κs =
-    let one = c.before.before.before.before.before.before in
-    let tested = one.before.before.before in
-    (others-terms _ _ _ _ tested.before.byte_at.ensures tested.if-byte_at-ne32.false one.read_next_terms-found.ensures
-    c.before.in-Read.is).reaches.inside
+    (others-terms _ _ _ _ c.byte_at.ensures c.if-byte_at-ne32.false c.read_next_terms-found.ensures
+    c.in-Read.is).reaches.inside
 
 returns-2 : tie.Need-returns-in-Stopped
 returns-2 c =
-    let one = c.before.before.before.before.before.before in
-    let tested = one.before.before.before in
-    others-stopped _ _ _ _ tested.before.byte_at.ensures tested.if-byte_at-ne32.false one.read_next_terms-found.ensures c.before.in-Stopped.is
+    others-stopped _ _ _ _ c.byte_at.ensures c.if-byte_at-ne32.false c.read_next_terms-found.ensures c.in-Stopped.is
 
 returns-3 : tie.Need-returns-in-Read
 returns-3 c =
-    let told = c.before in
-    let one = told.before.before.before.before.before.before in
-    let tested = one.before.before.before in
-    others-read _ _ _ _ tested.before.byte_at.ensures tested.if-byte_at-ne32.false one.read_next_terms-found.ensures told.before.in-Read.is _
+    others-read _ _ _ _ c.byte_at.ensures c.if-byte_at-ne32.false c.read_next_terms-found.ensures c.in-Read.is _
     c.spaced.ensures
 
 pub read_others_spec : {M : Type 1} → statement M
 read_others_spec =
     tie.close
-    (tie.spec (λ c κs. search rules) (λ c. others-unspaced _ _ _ _ c.before.byte_at.ensures c.if-byte_at-ne32.true)
+    (tie.spec (λ c κs. search rules) (λ c. others-unspaced _ _ _ _ c.byte_at.ensures c.if-byte_at-ne32.true)
     (λ c. search rules) read-next-terms-requires
     (λ c. search rules) (λ c. search rules) add-spaced spaced-requires (λ c. search rules) (λ c. search rules) returns-2 (λ c. search rules)
     (λ c. search rules)

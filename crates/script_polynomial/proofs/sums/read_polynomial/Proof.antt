@@ -6,24 +6,18 @@ use Rattle.script_polynomial.proofs.sums.read_polynomial.Tie as tie
 
 returns : tie.Need-returns-then-opens
 returns c =
-    let one = c.before.before.before in
-    let tested = one.before.before.before in
-    by-sum _ _ _ tested.before.opens.ensures tested.if-opens.true _ one.read_sum.ensures
+    by-sum _ _ _ c.opens.ensures c.if-opens.true _ c.read_sum.ensures
 
 returns-2 : tie.Need-returns-then-opens-2
 returns-2 c =
-    let one = c.before.before.before in
-    let tested = one.before.before.before in
-    by_product _ _ _ tested.before.before.before.opens.ensures tested.before.opens-2.ensures tested.if-opens-2.true _
-    one.read_alone.ensures
+    by_product _ _ _ c.opens.ensures c.opens-2.ensures c.if-opens-2.true _
+    c.read_alone.ensures
 
 returns-3 : tie.Need-returns
 returns-3 c =
-    let one = c.before.before.before.before in
-    let tested = one.before.before.before in
-    by_number _ _ _ tested.before.before.before.opens.ensures tested.before.opens-2.ensures tested.before.before.if-opens.false
-    tested.if-opens-2.false _
-    one.read_constant-found.ensures c.alone.ensures
+    by_number _ _ _ c.opens.ensures c.opens-2.ensures c.if-opens.false
+    c.if-opens-2.false _
+    c.read_constant-found.ensures c.alone.ensures
 
 pub read_polynomial_spec : {M : Type 1} → statement M
 read_polynomial_spec =

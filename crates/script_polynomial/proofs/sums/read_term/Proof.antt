@@ -10,24 +10,21 @@ use Rattle.script_polynomial.proofs.sums.read_term.Tie as tie
 
 read-product-requires : tie.Need-read_product-found-requires
 read-product-requires c κs =
-    let s = c.before.before.before.before.before in
-    (run_inside _ _ (40 ∷ 42 ∷ 32 ∷ []) c.before.agreed-start.ensures s.requires.0, s.requires.1, s.requires.2, s.requires.3)
+    (run_inside _ _ (40 ∷ 42 ∷ 32 ∷ []) c.agreed-start.ensures c.requires.0, c.requires.1, c.requires.2, c.requires.3)
 
 returns-2 : tie.Need-returns-in-Stopped
 returns-2 c =
-    let one = c.before.before.before in
-    term-stopped _ _ _ _ one.before.before.agreed-start.ensures one.before.if-start-at-lt3.false one.read_product-found.ensures c.before.in-Stopped.is
+    term-stopped _ _ _ _ c.agreed-start.ensures c.if-start-at-lt3.false c.read_product-found.ensures c.in-Stopped.is
 
 returns-3 : tie.Need-returns-in-Read
 returns-3 c =
-    let one = c.before.before.before in
-    term-read _ _ _ _ one.before.before.agreed-start.ensures one.before.if-start-at-lt3.false one.read_product-found.ensures c.before.in-Read.is
+    term-read _ _ _ _ c.agreed-start.ensures c.if-start-at-lt3.false c.read_product-found.ensures c.in-Read.is
     (to_z-of_z w32 _ (record { sfits = c.in-Read.known_told-in-Read-1-own.given.0.1 }))
 
 pub read_term_spec : {M : Type 1} → statement M
 read_term_spec =
     tie.close
-    (tie.spec (λ c. search rules) (λ c κs. search rules) (λ c. search rules) (λ c. term-unsaid _ _ _ _ c.before.agreed-start.ensures c.if-start-at-lt3.true)
+    (tie.spec (λ c κs. search rules) (λ c. search rules) (λ c. term-unsaid _ _ _ _ c.agreed-start.ensures c.if-start-at-lt3.true)
     read-product-requires (λ c. search rules) (λ c. search rules) (λ c. search rules) (λ c. search rules) (λ c. search rules)
     (λ c. search rules) returns-2
     (λ c. search rules) (λ c. search rules) returns-3)

@@ -18,9 +18,8 @@ use Rattle.script_polynomial.proofs.tabled.agreed_slot.Tie as tie
 
 put-polynomial-requires : tie.Need-put_polynomial-end-requires
 put-polynomial-requires c κs =
-    let s = c.before.before.before.before.before.before in
-    let h = s.requires.1 in
-    let same = c.before.wide-count.ensures in
+    let h = c.requires.1 in
+    let same = c.wide-count.ensures in
     let short = slot-short h in (
       h.variables,
       record { coefficients = omega (arith, same, h.room.coefficients); monomials = omega (arith, same, h.room.monomials) },
@@ -30,22 +29,20 @@ put-polynomial-requires c κs =
 -- The text has room, with one byte behind it.
 end-small : (c : tie.After-put_polynomial-end) → c.put_polynomial-end.result < 7958
 end-small c =
-    let s = c.before.before.before.before.before.before.before in
-    let same = c.before.before.wide-count.ensures in
-    omega (arith, c.put_polynomial-end.ensures.behind, rw (← same) at (slot-short s.requires.1))
+    let same = c.wide-count.ensures in
+    omega (arith, c.put_polynomial-end.ensures.behind, rw (← same) at (slot-short c.requires.1))
 
 long : (c : tie.After-put_polynomial-end) → length c.put_polynomial-end.new.text ≡ 7958
 long c = wrote-long c.put_polynomial-end.ensures ∙ length-replicate {A = ℕ} 7958 0
 
 returns : tie.Need-returns
 returns c =
-    let put = c.before.before.before in
-    let a = put.before.before.before.before.before.before.before.args in
-    let same = put.before.before.wide-count.ensures in
-    let text = front-and 32 put.put_polynomial-end.ensures (omega (
+    let a = c.args in
+    let same = c.wide-count.ensures in
+    let text = front-and 32 c.put_polynomial-end.ensures (omega (
       arith,
-      put.put_polynomial-end.ensures.behind,
-      end-small put,
+      c.put_polynomial-end.ensures.behind,
+      end-small c.before.before.before,
       length-replicate
           {A = ℕ} 7958 0,
     )) in

@@ -29,32 +29,31 @@ decreases-loop coefficient monomial terms value powers known n count j₀ j = kn
 
 same-slot-requires : tie.Need-same_slot-requires invariant-loop decreases-loop
 same-slot-requires c κs =
-    let s = c.before.before.before.before.before in
-    let h = slot-within s.requires.0 c.before.loop-j.j (omega arith) in
-    (h.room, h.counts, s.requires.1)
+    let h = slot-within c.requires.0 c.loop-j.j (omega arith) in
+    (h.room, h.counts, c.requires.1)
 
 returns : tie.Need-returns-then-same_slot invariant-loop decreases-loop
 returns c =
-    let l = c.before.before.before.loop-j in
-    let a = c.before.before.before.before.before.before.before.args in
+    let l = c.loop-j in
+    let a = c.args in
     sym (first_found (alike a.coefficient.now a.monomial.now a.terms.now a.value.now a.powers.now a.count) l.j a.known
     (omega arith)
-    (sym c.before.same_slot.ensures ∙ c.if-same_slot.true)) ∙ l.invariant.1
+    (sym c.same_slot.ensures ∙ c.if-same_slot.true)) ∙ l.invariant.1
 
 loop-again : tie.Need-loop-j-preserved invariant-loop decreases-loop
 loop-again c =
-    let l = c.before.before.before.loop-j in
-    let a = c.before.before.before.before.before.before.before.args in (
+    let l = c.loop-j in
+    let a = c.args in (
       omega arith,
       sym (first_step (alike a.coefficient.now a.monomial.now a.terms.now a.value.now a.powers.now a.count) l.j a.known
           (omega arith)
-          (sym c.before.same_slot.ensures ∙ c.if-same_slot.false)) ∙ l.invariant.1,
+          (sym c.same_slot.ensures ∙ c.if-same_slot.false)) ∙ l.invariant.1,
     )
 
 returns-2 : tie.Need-returns invariant-loop decreases-loop
 returns-2 c =
-    let l = c.before.loop-j in
-    let a = c.before.before.before.before.before.args in
+    let l = c.loop-j in
+    let a = c.args in
     sym (first-none (alike a.coefficient.now a.monomial.now a.terms.now a.value.now a.powers.now a.count) l.j a.known
     (omega arith)) ∙ l.invariant.1
 

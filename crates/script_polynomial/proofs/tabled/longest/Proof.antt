@@ -18,28 +18,27 @@ decreases-loop text coefficient monomial terms at n known best₀ i₀ best i = 
 
 loop-holds : tie.Need-loop-i-init invariant-loop decreases-loop
 loop-holds c =
-    let a = c.before.before.before.args in
+    let a = c.args in
     (omega arith, omega (arith, agrees-none a.n a.coefficient.now a.monomial.now a.terms.now (drop a.at a.text.now) a.known))
 
 agreed-slot-requires : tie.Need-agreed_slot-next-requires invariant-loop decreases-loop
-agreed-slot-requires c κs = let s = c.before.before.before.before.before in (
-  s.requires.0,
-  slot-within s.requires.1 _
-      (omega (arith, c.before.loop-i.invariant.0)),
+agreed-slot-requires c κs = (
+  c.requires.0,
+  slot-within c.requires.1 _
+      (omega (arith, c.loop-i.invariant.0)),
 )
 
 loop-again : tie.Need-loop-i-preserved invariant-loop decreases-loop
 loop-again c =
-    let turn = c.before.before in
-    let l = turn.before.loop-i in
-    let a = turn.before.before.before.before.before.args in
+    let l = c.loop-i in
+    let a = c.args in
     let next = agrees-one-more a.n a.coefficient.now a.monomial.now a.terms.now (drop a.at a.text.now) a.known l.i
     (omega arith) l.invariant.0 in
-    (omega arith, omega (arith, c.larger_of-best.ensures, c.before.agreed_slot-next.ensures, l.invariant.1, next))
+    (omega arith, omega (arith, c.larger_of-best.ensures, c.agreed_slot-next.ensures, l.invariant.1, next))
 
 returns : tie.Need-returns invariant-loop decreases-loop
 returns c =
-    let l = c.before.loop-i in
+    let l = c.loop-i in
     let none : l.i ≡ 0 = omega arith in
     rw (none, sub-zero) at l.invariant.1
 

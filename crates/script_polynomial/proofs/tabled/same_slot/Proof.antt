@@ -8,19 +8,18 @@ use Rattle.script_polynomial.proofs.tabled.same_slot.Tie as tie
 
 returns : tie.Need-returns-then-wide-count
 returns c =
-    let a = c.before.before.before.before.before.before.args in
+    let a = c.args in
     other-count a.coefficient.now a.monomial.now a.value.now a.powers.now 0 _ a.count _
-    (λ e. c.if-wide-count.true (c.before.wide.ensures ∙ e))
+    (λ e. c.if-wide-count.true (c.wide.ensures ∙ e))
 
 same-terms-requires : tie.Need-same_terms-requires
 same-terms-requires c κs =
-    let s = c.before.before.before.before.before.before in
-    let same = sym c.before.wide.ensures ∙ c.if-wide-count.false in
-    (rw same at s.requires.0, s.requires.2)
+    let same = sym c.wide.ensures ∙ c.if-wide-count.false in
+    (rw same at c.requires.0, c.requires.2)
 
 returns-2 : tie.Need-returns
 returns-2 c =
-    let same = sym c.before.before.wide.ensures ∙ c.before.if-wide-count.false in
+    let same = sym c.wide.ensures ∙ c.if-wide-count.false in
     rw same c.same_terms.ensures
 
 pub same_slot_spec : {M : Type 1} → statement M

@@ -9,9 +9,9 @@ use Rattle.script_polynomial.proofs.tabled.same_term.Tie as tie
 
 returns-2 : tie.Need-returns
 returns-2 c =
-    let a = c.before.before.before.before.before.args in
-    simp (eq-eqb _ _ c.before.before.if-powers-i.false)
-    (same_bits (get_or a.value.now a.i (pos 0)) (get_or a.coefficient.now a.place (pos 0)) c.before.c-1.given c.d-1.given)
+    let a = c.args in
+    simp (eq-eqb _ _ c.if-powers-i.false)
+    (same_bits (get_or a.value.now a.i (pos 0)) (get_or a.coefficient.now a.place (pos 0)) c.c-1.given c.d-1.given)
 
 pub same_term_spec : {M : Type 1} → statement M
 same_term_spec =

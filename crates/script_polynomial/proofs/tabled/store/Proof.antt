@@ -24,23 +24,22 @@ decreases-loop coefficient₀ monomial₀ terms value powers slot count i₀ coe
 
 loop-again : tie.Need-loop-i-preserved invariant-loop decreases-loop
 loop-again c =
-    let first = c.before.before in
-    let l = first.before.loop-i in
-    let a = first.before.before.args in
+    let l = c.loop-i in
+    let a = c.args in
     let v = a.value.now in
     let p = a.powers.now in
     let from = 16 * a.slot in (
       simp length-set l.invariant.0,
       simp length-set l.invariant.1,
       stored-step (λ t. t.coefficient) v p from a.count l.coefficient l.i _ (omega arith)
-          (to_z-of_z w32 _ (record { sfits = c.before.c-1.given })) ∙ l.invariant.2,
+          (to_z-of_z w32 _ (record { sfits = c.c-1.given })) ∙ l.invariant.2,
       stored-step (λ t. t.monomial) v p from a.count l.monomial l.i _ (omega arith) refl ∙ l.invariant.3,
     )
 
 returns : tie.Need-returns invariant-loop decreases-loop
 returns c =
-    let l = c.before.loop-i in
-    let a = c.before.before.args in
+    let l = c.loop-i in
+    let a = c.args in
     let v = a.value.now in
     let p = a.powers.now in
     let from = 16 * a.slot in (
@@ -53,14 +52,14 @@ pub store_spec : {M : Type 1} → statement M
 store_spec =
     tie.close
     (tie.spec invariant-loop decreases-loop (λ c. (refl, refl, refl, refl)) (λ c. search rules)
-    (λ c. omega (arith, c.before.before.requires.3.coefficients))
-    (λ c. omega (arith, c.before.before.before.requires.0.coefficients))
-    (λ c. omega (arith, c.before.before.before.requires.0.coefficients, c.before.before.before.requires.2)) (λ c. search rules)
-    (λ c. omega (arith, c.before.before.before.requires.0.coefficients, c.before.before.before.requires.2, c.before.before.loop-i.invariant.0))
+    (λ c. omega (arith, c.requires.3.coefficients))
+    (λ c. omega (arith, c.requires.0.coefficients))
+    (λ c. omega (arith, c.requires.0.coefficients, c.requires.2)) (λ c. search rules)
+    (λ c. omega (arith, c.requires.0.coefficients, c.requires.2, c.loop-i.invariant.0))
     (λ c. search rules)
-    (λ c. omega (arith, c.before.before.before.before.requires.3.monomials))
-    (λ c. omega (arith, c.before.before.before.before.requires.0.coefficients))
-    (λ c. omega (arith, c.before.before.before.before.requires.0.coefficients, c.before.before.before.before.requires.2)) (λ c. search rules)
-    (λ c. let s = c.before.before.before.before in omega (arith, s.requires.0.monomials, s.requires.2, c.before.before.before.loop-i.invariant.1))
-    (λ c. omega arith) (λ c. omega arith) loop-again (λ c. omega (arith, c.before.before.requires.2)) (λ c. c.before.before.requires.1)
-    (λ c. c.before.loop-i.invariant.0) (λ c. c.before.loop-i.invariant.1) (λ c. search rules) returns)
+    (λ c. omega (arith, c.requires.3.monomials))
+    (λ c. omega (arith, c.requires.0.coefficients))
+    (λ c. omega (arith, c.requires.0.coefficients, c.requires.2)) (λ c. search rules)
+    (λ c. omega (arith, c.requires.0.monomials, c.requires.2, c.loop-i.invariant.1))
+    (λ c. omega arith) (λ c. omega arith) loop-again (λ c. omega (arith, c.requires.2)) (λ c. c.requires.1)
+    (λ c. c.loop-i.invariant.0) (λ c. c.loop-i.invariant.1) (λ c. search rules) returns)

@@ -26,26 +26,21 @@ pub +put_factors_spec : {M : Type 1} → statement M
 +put_factors_spec = close μ-factors λ t. factors-lts.spec (power-reads.Asked, power-reads.Learnt, factors-below t, factors.Post) (factors-at t) factors.Post
     (λ c. factors-none _ _ _ c.if-count-eq0.true)
     (λ c. omega (arith, c.if-count-eq0.false))
-    (λ c. record { fits = omega (arith, c.before.before.requires.1.0) })
-    (λ c. omega (arith, c.before.before.requires.1.0))
-    (λ c κs.
-    let s = c.before.before.before in (
-      omega (arith, s.requires.1.0, c.before.if-count-eq0.false),
-      fits-first (factors-more _ _ _ c.before.if-count-eq0.false) s.requires.1.1,
+    (λ c. record { fits = omega (arith, c.requires.1.0) })
+    (λ c. omega (arith, c.requires.1.0))
+    (λ c κs. (
+      omega (arith, c.requires.1.0, c.if-count-eq0.false),
+      fits-first (factors-more _ _ _ c.if-count-eq0.false) c.requires.1.1,
     ))
-    (λ c. let s = c.before.before.before.before.before.before.before in record { fits = omega (arith, s.requires.1.0) })
-    (λ c. omega (arith, c.before.before.before.before.before.if-count-eq0.false))
-    (λ c κs.
-    let first = c.before.before.before in
-    let s = first.before.before.before.before in (
-      omega (arith, first.before.before.if-count-eq0.false),
+    (λ c. record { fits = omega (arith, c.requires.1.0) })
+    (λ c. omega (arith, c.if-count-eq0.false))
+    (λ c κs. (
+      omega (arith, c.if-count-eq0.false),
       (
-        omega (arith, s.requires.1.0, first.before.before.if-count-eq0.false),
-        fits-second (factors-more _ _ _ first.before.before.if-count-eq0.false) s.requires.1.1 first.put_power-next.ensures,
+        omega (arith, c.requires.1.0, c.if-count-eq0.false),
+        fits-second (factors-more _ _ _ c.if-count-eq0.false) c.requires.1.1 c.put_power-next.ensures,
       ),
     ))
-    (λ c. c.before.before.put_factors.auto.text ∙ c.before.before.before.before.before.before.put_power-next.auto.text)
+    (λ c. c.put_factors.auto.text ∙ c.put_power-next.auto.text)
     (λ c.
-    let others = c.before.before in
-    let first = others.before.before.before.before in
-    wrote-split (factors-more _ _ _ first.before.before.if-count-eq0.false) first.put_power-next.ensures others.put_factors.ensures)
+    wrote-split (factors-more _ _ _ c.if-count-eq0.false) c.put_power-next.ensures c.put_factors.ensures)

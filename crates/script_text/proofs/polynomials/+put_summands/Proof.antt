@@ -31,50 +31,33 @@ pub +put_summands_spec : {M : Type 1} → statement M
     close μ-summands λ t.
     summands-lts.spec (byte-Reads.Asked, byte-Reads.Learnt, term-reads.Asked, term-reads.Learnt, summands-below t, summands.Post) (summands-at t) summands.Post
     (λ c. summands-none _ _ _ _ _ c.if-count-eq0.true)
-    (λ c κs. fits-first (summands-more _ _ _ _ _ c.before.if-count-eq0.false refl) c.before.before.before.before.requires.1.2)
+    (λ c κs. fits-first (summands-more _ _ _ _ _ c.if-count-eq0.false refl) c.requires.1.2)
     (λ c. search rules)
-    (λ c. let space = c.before.before in omega (arith, space.before.before.before.before.before.requires.1.1.coefficients, space.before.before.if-count-eq0.false))
+    (λ c. omega (arith, c.requires.1.1.coefficients, c.if-count-eq0.false))
     (λ c. search rules)
-    (λ c. let space = c.before.before.before.before.before in
-    omega (arith, space.before.before.before.before.before.requires.1.1.monomials, space.before.before.if-count-eq0.false))
-    (λ c κs.
-    let value = c.before.before in
-    let space = value.before.before.before in
-    let s = space.before.before.before.before.before in (
-      s.requires.1.0,
-      fits-first two_runs (fits-second (summands-more _ _ _ _ _ space.before.before.if-count-eq0.false (to_z-of_z w32 _ (record { sfits = value.value-1.given })))
-          s.requires.1.2 space.put_byte-term.ensures),
+    (λ c. omega (arith, c.requires.1.1.monomials, c.if-count-eq0.false))
+    (λ c κs. (
+      c.requires.1.0,
+      fits-first two_runs (fits-second (summands-more _ _ _ _ _ c.if-count-eq0.false (to_z-of_z w32 _ (record { sfits = c.value-1.given })))
+          c.requires.1.2 c.put_byte-term.ensures),
     ))
     (λ c.
-    let space = c.before.before.before.before.before.before.before.before.before in
-    let s = space.before.before.before.before.before in
-    record { fits = omega (arith, s.requires.1.1.coefficients, space.before.before.if-count-eq0.false, s.ranges.k) })
-    (λ c. let space = c.before.before.before.before.before.before.before.before.before in omega (arith, space.before.before.if-count-eq0.false))
-    (λ c κs.
-    let term = c.before.before.before in
-    let value = term.before.before.before in
-    let space = value.before.before.before in
-    let s = space.before.before.before.before.before in (
-      omega (arith, space.before.before.if-count-eq0.false),
+    record { fits = omega (arith, c.requires.1.1.coefficients, c.if-count-eq0.false, c.ranges.k) })
+    (λ c. omega (arith, c.if-count-eq0.false))
+    (λ c κs. (
+      omega (arith, c.if-count-eq0.false),
       (
-        s.requires.1.0,
+        c.requires.1.0,
         record {
-          coefficients = omega (arith, s.requires.1.1.coefficients, space.before.before.if-count-eq0.false);
-          monomials = omega (arith, s.requires.1.1.monomials, space.before.before.if-count-eq0.false);
+          coefficients = omega (arith, c.requires.1.1.coefficients, c.if-count-eq0.false);
+          monomials = omega (arith, c.requires.1.1.monomials, c.if-count-eq0.false);
         },
-        fits-second two_runs (fits-second (summands-more _ _ _ _ _ space.before.before.if-count-eq0.false (to_z-of_z w32 _ (record { sfits = value.value-1.given })))
-            s.requires.1.2 space.put_byte-term.ensures) term.put_term-next.ensures,
+        fits-second two_runs (fits-second (summands-more _ _ _ _ _ c.if-count-eq0.false (to_z-of_z w32 _ (record { sfits = c.value-1.given })))
+            c.requires.1.2 c.put_byte-term.ensures) c.put_term-next.ensures,
       ),
     ))
     (λ c.
-    let others = c.before.before in
-    let term = others.before.before.before.before in
-    let space = term.before.before.before.before.before.before in
-    others.put_summands.auto.text ∙ term.put_term-next.auto.text ∙ space.put_byte-term.auto.text)
+    c.put_summands.auto.text ∙ c.put_term-next.auto.text ∙ c.put_byte-term.auto.text)
     (λ c.
-    let others = c.before.before in
-    let term = others.before.before.before.before in
-    let value = term.before.before.before in
-    let space = value.before.before.before in
-    wrote-split (summands-more _ _ _ _ _ space.before.before.if-count-eq0.false (to_z-of_z w32 _ (record { sfits = value.value-1.given }))) space.put_byte-term.ensures
-    (wrote-split two_runs term.put_term-next.ensures others.put_summands.ensures))
+    wrote-split (summands-more _ _ _ _ _ c.if-count-eq0.false (to_z-of_z w32 _ (record { sfits = c.value-1.given }))) c.put_byte-term.ensures
+    (wrote-split two_runs c.put_term-next.ensures c.put_summands.ensures))

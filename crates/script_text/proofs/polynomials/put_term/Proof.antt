@@ -19,39 +19,23 @@ pub put_term_spec : {M : Type 1} → statement M
 put_term_spec =
     tie.close
     (tie.spec
-    (λ c κs. let s = c.before.before.before in fits-as (term-constant _ _ _ (back s) c.before.if-monomial-eq0.true) s.requires.1)
+    (λ c κs. fits-as (term-constant _ _ _ (back c.before.before.before) c.if-monomial-eq0.true) c.requires.1)
     (λ c. search rules)
     (λ c.
-    let put = c.before.before in
-    wrote_as put.put_number.ensures (term-constant _ _ _ (back put.before.before.before.before) put.before.before.if-monomial-eq0.true))
-    (λ c. search rules)
-    (λ c κs. let s = c.before.before.before.before in fits-first (term-product _ _ _ (back s) c.before.before.if-monomial-eq0.false) s.requires.1)
+    wrote_as c.put_number.ensures (term-constant _ _ _ (back c.before.before.before.before.before.before) c.if-monomial-eq0.true))
+    (λ c κs. fits-first (term-product _ _ _ (back c.before.before.before.before.before) c.if-monomial-eq0.false) c.requires.1)
     (λ c κs.
-    let start = c.before.before.before in
-    let s = start.before.before.before.before.before in
-    fits-first two_runs (fits-second (term-product _ _ _ (back s) start.before.before.before.if-monomial-eq0.false) s.requires.1 start.put_bytes-number.ensures))
-    (λ c κs.
-    let number = c.before.before.before in
-    let start = number.before.before.before.before in
-    let s = start.before.before.before.before.before in (
-      omega (arith, s.requires.0),
+    fits-first two_runs (fits-second (term-product _ _ _ (back c.before.before.before.before.before.before.before.before.before) c.if-monomial-eq0.false) c.requires.1 c.put_bytes-number.ensures))
+    (λ c κs. (
+      omega (arith, c.requires.0),
       fits-first two_runs (fits-second two_runs
-          (fits-second (term-product _ _ _ (back s) start.before.before.before.if-monomial-eq0.false) s.requires.1 start.put_bytes-number.ensures) number.put_number-product.ensures),
+          (fits-second (term-product _ _ _ (back c.before.before.before.before.before.before.before.before.before.before.before.before.before) c.if-monomial-eq0.false) c.requires.1 c.put_bytes-number.ensures) c.put_number-product.ensures),
     ))
     (λ c κs.
-    let product = c.before.before.before in
-    let number = product.before.before.before.before in
-    let start = number.before.before.before.before in
-    let s = start.before.before.before.before.before in
     fits-second two_runs (fits-second two_runs
-    (fits-second (term-product _ _ _ (back s) start.before.before.before.if-monomial-eq0.false) s.requires.1 start.put_bytes-number.ensures) number.put_number-product.ensures)
-    product.put_factors-end.ensures)
+    (fits-second (term-product _ _ _ (back c.before.before.before.before.before.before.before.before.before.before.before.before.before.before.before.before.before) c.if-monomial-eq0.false) c.requires.1 c.put_bytes-number.ensures) c.put_number-product.ensures)
+    c.put_factors-end.ensures)
     (λ c. search rules)
     (λ c.
-    let end = c.before.before in
-    let product = end.before.before.before.before in
-    let number = product.before.before.before.before in
-    let start = number.before.before.before.before in
-    let s = start.before.before.before.before.before in
-    wrote-split (term-product _ _ _ (back s) start.before.before.before.if-monomial-eq0.false) start.put_bytes-number.ensures
-    (wrote-split two_runs number.put_number-product.ensures (wrote-split two_runs product.put_factors-end.ensures end.put_byte.ensures))))
+    wrote-split (term-product _ _ _ (back c.before.before.before.before.before.before.before.before.before.before.before.before.before.before.before.before.before.before.before.before) c.if-monomial-eq0.false) c.put_bytes-number.ensures
+    (wrote-split two_runs c.put_number-product.ensures (wrote-split two_runs c.put_factors-end.ensures c.put_byte.ensures))))

@@ -25,31 +25,20 @@ power_below t = and 1 power-kinds.ps (falls 1 power-kinds.ps ◌<◌ μ-power t)
 pub +put_power_spec : {M : Type 1} → statement M
 +put_power_spec = close μ-power λ t. power-lts.spec (byte-Reads.Asked, byte-Reads.Learnt, power_below t, power.Post) (power_at t) power.Post
     (λ c. power-none _ _ c.if-exponent-eq0.true)
-    (λ c κs. fits-first (power-more _ _ c.before.if-exponent-eq0.false) c.before.before.before.requires.1.1)
-    (λ c. let s = c.before.before.before.before.before.before.before in record { fits = omega (arith, s.requires.1.0) })
+    (λ c κs. fits-first (power-more _ _ c.if-exponent-eq0.false) c.requires.1.1)
+    (λ c. record { fits = omega (arith, c.requires.1.0) })
     (λ c κs.
-    let space = c.before.before.before in
-    let s = space.before.before.before.before in
-    fits-first two_runs (fits-second (power-more _ _ space.before.before.if-exponent-eq0.false) s.requires.1.1 space.put_byte-letter.ensures))
-    (λ c. let space = c.before.before.before.before.before.before.before in omega (arith, space.before.before.if-exponent-eq0.false))
-    (λ c κs.
-    let letter = c.before.before.before in
-    let space = letter.before.before.before.before in
-    let s = space.before.before.before.before in (
-      omega (arith, space.before.before.if-exponent-eq0.false),
+    fits-first two_runs (fits-second (power-more _ _ c.if-exponent-eq0.false) c.requires.1.1 c.put_byte-letter.ensures))
+    (λ c. omega (arith, c.if-exponent-eq0.false))
+    (λ c κs. (
+      omega (arith, c.if-exponent-eq0.false),
       (
-        s.requires.1.0,
-        fits-second two_runs (fits-second (power-more _ _ space.before.before.if-exponent-eq0.false) s.requires.1.1 space.put_byte-letter.ensures) letter.put_byte-next.ensures,
+        c.requires.1.0,
+        fits-second two_runs (fits-second (power-more _ _ c.if-exponent-eq0.false) c.requires.1.1 c.put_byte-letter.ensures) c.put_byte-next.ensures,
       ),
     ))
     (λ c.
-    let others = c.before.before in
-    let letter = others.before.before.before.before in
-    let space = letter.before.before.before.before in
-    others.put_power.auto.text ∙ letter.put_byte-next.auto.text ∙ space.put_byte-letter.auto.text)
+    c.put_power.auto.text ∙ c.put_byte-next.auto.text ∙ c.put_byte-letter.auto.text)
     (λ c.
-    let others = c.before.before in
-    let letter = others.before.before.before.before in
-    let space = letter.before.before.before.before in
-    wrote-split (power-more _ _ space.before.before.if-exponent-eq0.false) space.put_byte-letter.ensures
-    (wrote-split two_runs letter.put_byte-next.ensures others.put_power.ensures))
+    wrote-split (power-more _ _ c.if-exponent-eq0.false) c.put_byte-letter.ensures
+    (wrote-split two_runs c.put_byte-next.ensures c.put_power.ensures))

@@ -7,5 +7,5 @@ use Rattle.script_text.proofs.runs.put_byte.Tie as tie
 pub put_byte_spec : {M : Type 1} → statement M
 put_byte_spec =
     tie.close
-    (tie.spec (λ c. search rules) (λ c. byte_past c.before.args.byte c.if-text-at.true) (λ c. search rules) (λ c. search rules) (λ c. search rules)
+    (tie.spec (λ c. search rules) (λ c. byte_past c.args.byte c.if-text-at.true) (λ c. search rules) (λ c. search rules) (λ c. search rules)
     (λ c. search rules))

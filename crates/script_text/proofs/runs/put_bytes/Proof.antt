@@ -20,23 +20,22 @@ loop-holds c = (omega arith, refl, omega arith, wrote_nothing)
 
 loop-again : tie.Need-loop-i-preserved invariant-loop decreases-loop
 loop-again c =
-    let put = c.before.before in
-    let l = put.before.before.before.before.loop-i in
-    let bytes = put.before.before.before.before.before.before.before.args.bytes.now in (
+    let l = c.loop-i in
+    let bytes = c.args.bytes.now in (
       omega arith,
-      put.put_byte-next.auto.text ∙ l.invariant.1,
-      omega (arith, put.put_byte-next.ensures.behind, l.invariant.2),
-      wrote_as (wrote-both l.invariant.3 put.put_byte-next.ensures) (first_more bytes l.i (omega arith)),
+      c.put_byte-next.auto.text ∙ l.invariant.1,
+      omega (arith, c.put_byte-next.ensures.behind, l.invariant.2),
+      wrote_as (wrote-both l.invariant.3 c.put_byte-next.ensures) (first_more bytes l.i (omega arith)),
     )
 
 returns : tie.Need-returns invariant-loop decreases-loop
 returns c =
-    let l = c.before.loop-i in
-    wrote_as l.invariant.3 (first-whole c.before.before.before.before.args.bytes.now l.i (omega arith) l.invariant.0)
+    let l = c.loop-i in
+    wrote_as l.invariant.3 (first-whole c.args.bytes.now l.i (omega arith) l.invariant.0)
 
 pub put_bytes_spec : {M : Type 1} → statement M
 put_bytes_spec =
     tie.close
     (tie.spec invariant-loop decreases-loop loop-holds (λ c. omega arith) (λ c. omega arith)
-    (λ c κs. let s = c.before.before.before.before.before.before in record { short = omega (arith, s.requires.short) })
-    (λ c. omega arith) loop-again (λ c. c.before.loop-i.invariant.1) returns)
+    (λ c κs. record { short = omega (arith, c.requires.short) })
+    (λ c. omega arith) loop-again (λ c. c.loop-i.invariant.1) returns)

@@ -16,10 +16,10 @@ use Rattle.script_text.proofs.runs.put_number.Tie as tie
 back : (s : tie.Start) → to_z w32 (of_z w32 s.args.x) ≡ s.args.x
 back s = to_z-of_z w32 s.args.x s.ranges.x
 
-sign : (p : tie.After-minus_of) → p.minus_of.result ≡ minus_bit p.before.before.before.args.x
+sign : (p : tie.After-minus_of) → p.minus_of.result ≡ minus_bit p.args.x
 sign p = p.minus_of.ensures ∙ ap minus_bit (back p.before.before.before)
 
-size : (p : tie.After-magnitude_of-magnitude) → p.magnitude_of-magnitude.result ≡ nat_abs p.before.before.args.x
+size : (p : tie.After-magnitude_of-magnitude) → p.magnitude_of-magnitude.result ≡ nat_abs p.args.x
 size p = p.magnitude_of-magnitude.ensures ∙ ap nat_abs (back p.before.before)
 
 pub put_number_spec : {M : Type 1} → statement M
@@ -27,33 +27,19 @@ put_number_spec =
     tie.close
     (tie.spec (λ c κs. search rules) (λ c κs. search rules)
     (λ c κs.
-    let p = c.before.before in
-    fits-as (number-plain _ (sign p) (size p.before) c.before.if-minus_of-eq0.true) p.before.before.before.requires)
+    fits-as (number-plain _ (sign c.before.before) (size c.before.before.before) c.if-minus_of-eq0.true) c.requires)
     (λ c. search rules)
     (λ c.
-    let put = c.before.before in
-    let p = put.before.before.before in
-    wrote_as put.put_digits.ensures (number-plain _ (sign p) (size p.before) put.before.before.if-minus_of-eq0.true))
-    (λ c. search rules)
+    wrote_as c.put_digits.ensures (number-plain _ (sign c.before.before.before.before.before) (size c.before.before.before.before.before.before) c.if-minus_of-eq0.true))
     (λ c κs.
-    let p = c.before.before.before in
-    fits-first (number-minus _ (sign p) (size p.before) c.before.before.if-minus_of-eq0.false) p.before.before.before.requires)
+    fits-first (number-minus _ (sign c.before.before.before.before) (size c.before.before.before.before.before) c.if-minus_of-eq0.false) c.requires)
     (λ c κs.
-    let minus = c.before.before.before in
-    let p = minus.before.before.before.before in
-    fits-first two_runs (fits-second (number-minus _ (sign p) (size p.before) minus.before.before.before.if-minus_of-eq0.false) p.before.before.before.requires
-    minus.put_bytes-number.ensures))
+    fits-first two_runs (fits-second (number-minus _ (sign c.before.before.before.before.before.before.before.before) (size c.before.before.before.before.before.before.before.before.before) c.if-minus_of-eq0.false) c.requires
+    c.put_bytes-number.ensures))
     (λ c κs.
-    let digits = c.before.before.before in
-    let minus = digits.before.before.before.before in
-    let p = minus.before.before.before.before in
-    fits-second two_runs (fits-second (number-minus _ (sign p) (size p.before) minus.before.before.before.if-minus_of-eq0.false) p.before.before.before.requires
-    minus.put_bytes-number.ensures) digits.put_digits-end.ensures)
+    fits-second two_runs (fits-second (number-minus _ (sign c.before.before.before.before.before.before.before.before.before.before.before.before) (size c.before.before.before.before.before.before.before.before.before.before.before.before.before) c.if-minus_of-eq0.false) c.requires
+    c.put_bytes-number.ensures) c.put_digits-end.ensures)
     (λ c. search rules)
     (λ c.
-    let end = c.before.before in
-    let digits = end.before.before.before.before in
-    let minus = digits.before.before.before.before in
-    let p = minus.before.before.before.before in
-    wrote-split (number-minus _ (sign p) (size p.before) minus.before.before.before.if-minus_of-eq0.false) minus.put_bytes-number.ensures
-    (wrote-split two_runs digits.put_digits-end.ensures end.put_byte.ensures)))
+    wrote-split (number-minus _ (sign c.before.before.before.before.before.before.before.before.before.before.before.before.before.before.before) (size c.before.before.before.before.before.before.before.before.before.before.before.before.before.before.before.before) c.if-minus_of-eq0.false) c.put_bytes-number.ensures
+    (wrote-split two_runs c.put_digits-end.ensures c.put_byte.ensures)))

@@ -21,8 +21,10 @@ returns-then-end-eq0-2 c t walk kids s h = goes-as (omega arith) (tells-atom h c
 pub returns : goal.returns
 returns c t walk kids s h =
     let f = tells_more h (omega arith)
-    (λ z. elim c.if-n-eq0.branch [ then-n-eq0+else-end-eq0+else-first-inner w ↦
-      (w.if-end-eq0.false, λ e. w.if-first-inner.false (omega (arith, e, w.atoms_of-first.ensures.0, w.tokens_of-inner.ensures.0)))
-      | else-n-eq0 w ↦ absurd (w.if-n-eq0.false z) ])
+    (λ z. elim c.if-n-eq0.branch [
+      | then-n-eq0+else-end-eq0+else-first-inner w ↦
+          (w.if-end-eq0.false, λ e. w.if-first-inner.false (omega (arith, e, w.atoms_of-first.ensures.0, w.tokens_of-inner.ensures.0)))
+      | else-n-eq0 w ↦ absurd (w.if-n-eq0.false z)
+    ])
     (λ z y. elim c.if-n-eq1.branch [ then-n-eq1+else-end-eq0-2 w ↦ w.if-end-eq0-2.false y | else-n-eq1 w ↦ w.if-n-eq1.false z ]) in
     goes-as (omega arith) f.1 (c.stayed.ensures t walk h.list h.children s h.lists h.lies f.0)

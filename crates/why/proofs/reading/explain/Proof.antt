@@ -1,11 +1,8 @@
 -- `explain` meets its contract: refusal 19, refusal 20, or the records.
 use borrow.Author.Rules.{rules}
-use borrow.Author.Tests.{not-true, not-false}
-use mathlib.Core.Path.{◌≡◌, refl, sym, ap, ◌∙◌, subst}
+use mathlib.Core.Path.{sym, ap, ◌∙◌, subst}
 use Prim.Native.Nat.{ℕ, ◌-◌, ◌<◌, ◌≤◌}
 use native.Mathlib.Omega.{arith}
-use Rattle.block.specs.declared.Held.{Held}
-use Rattle.block.specs.Held.{held_by}
 use Rattle.why.specs.declared.Outcome.TheVariants.{Explained}
 use Rattle.why.specs.Entry.{tells-refusal}
 use Rattle.why.specs.Way.{tokens-there, refuses-19, refuses-20, atoms-many, told-reasons}
@@ -54,8 +51,7 @@ returns-3 c bytes taken =
     let here = c in
     let s = here in
     let behind = here.behind_root.ensures in
-    let only = sym here.and_of_atoms.ensures ∙ not-false _
-    here.if-not-and_of_atoms.false in
+    let only = sym here.and_of_atoms.ensures ∙ here.if-not-and_of_atoms.false in
     told-reasons taken only s.args.room (subst (λ (k : ℕ). s.args.count - k ≤ s.args.room) behind (omega arith)) _ (ap
     (λ (k : ℕ). Explained (s.args.count - k)) behind) (here.records_of-found.ensures bytes taken)
 
