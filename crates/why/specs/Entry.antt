@@ -1,9 +1,9 @@
 -- What the functions of this crate tell of a block: the book's `why`, as an outcome, so many records, and what the lent records are afterwards.
-use Rattle.std.specs.Prelude.{◌≡◌, refl, List, [], ◌∷◌, ◌++◌, map, ℕ, ◌≤◌, min, ℤ, pos, length, take, drop, replicate}
+use Rattle.std.specs.Prelude.{◌≡◌, refl, List, [], ◌++◌, map, ℕ, ◌≤◌, min, ℤ, pos, length, take, drop, replicate}
 use Rattle.std.proofs.Common.{sym, ap₂, ◌∙◌, arith, length-take}
 use Rattle.std.proofs.Math.Path.{ap}
 use Rattle.std.proofs.lemmas.List.{length-map}
-use Rattle.rules.specs.Block.{Block, Stream, refused, read, read_block}
+use Rattle.rules.specs.Block.{Block, Stream, read, read_block}
 use Rattle.block.specs.declared.Held.{Held}
 use Rattle.block.specs.declared.Contents.{Contents}
 use Rattle.block.specs.declared.Contents.TheVariants.{Refused as NoBlock, Numbers}

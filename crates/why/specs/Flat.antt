@@ -1,19 +1,19 @@
 -- A tree whose root is an AND of atoms, or an atom: how its tokens tell that it is one, and that the tokens behind the root's are its atoms in order.
 use Rattle.std.specs.Prelude.{◌≡◌, Bool, true, false, not, ◌&&◌, List, [], ◌∷◌, ◌++◌, map, ℕ, zero, suc, ◌+◌, ◌*◌, ◌<◌, ◌≤◌, eqb, length, drop}
 use Rattle.std.proofs.Math.Path.{refl, ap}
-use Rattle.std.proofs.Common.{sym, ap₂, ◌∙◌, subst, true≢false, append-nil, arith, lt-ltb, le-ltb}
+use Rattle.std.proofs.Common.{sym, ◌∙◌, true≢false, append-nil, arith, lt-ltb, le-ltb}
 use Rattle.std.proofs.lemmas.Bool.{false≢true}
-use Rattle.std.proofs.Math.Option.{Option, none, some}
+use Rattle.std.proofs.Math.Option.{none, some}
 use Rattle.rules.specs.Polynomial.{Atom, normal}
 use Rattle.rules.specs.Formula.{Parts, end, atom, and, or, Node, leaf, all_of}
-use Rattle.rules.specs.Formula.{any_of, each_atom, each_atom_of, in_order, alone, before, children, nodes, atoms}
+use Rattle.rules.specs.Formula.{any_of, each_atom, each_atom_of, in_order, alone, before, children, nodes}
 use Rattle.rules.specs.Level.{Placed, placed_at, placed_from, placed_tree, normal_placed}
 use Rattle.rules.specs.Block.{NumberedAtom}
 use Rattle.rules.specs.Limits.{PartsWithin}
 use Rattle.rules.specs.Reasons.{clauses_from, with_first, only_atoms, atoms_of_and}
 use Rattle.block.specs.Held as held
 use Rattle.places.specs.Places.{is_atom}
-use Rattle.level.specs.Tree.{tokens, kind_of}
+use Rattle.level.specs.Tree.{tokens}
 use Rattle.answer.specs.Tapes.{token_at, tokens_from, token_tree}
 
 -- ---- The test of the code.

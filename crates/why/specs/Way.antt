@@ -3,22 +3,20 @@
 use Rattle.std.specs.Prelude.{◌≡◌, refl, Bool, true, false, ℕ, ◌+◌, ◌-◌, ◌<◌, ◌≤◌, leb, pos, replicate}
 use Rattle.std.proofs.Common.{sym, ◌∙◌, subst, take_all, le-leb}
 use Rattle.std.proofs.Math.Path.{ap, ap₂}
-use mathlib.Core.List.{List, [], ◌++◌, map}
-use Rattle.std.proofs.Math.Option.{Option, none, some}
+use mathlib.Core.List.{List, ◌++◌}
 use native.Mathlib.Omega.{arith}
 use Rattle.std.proofs.Math.ListN.{length, take, drop, length-drop, length-replicate}
 use Rattle.std.proofs.Math.Seq.{sets, sets-eq, take_at}
 use Rattle.std.proofs.lemmas.Bool.{lt-leb}
 use Rattle.rules.specs.Signs.{bit}
-use Rattle.rules.specs.Polynomial.{Atom, normal}
-use Rattle.rules.specs.Formula.{Node, each_atom_of, alone, in_order, nodes}
+use Rattle.rules.specs.Polynomial.{Atom}
+use Rattle.rules.specs.Formula.{Node, alone, in_order, nodes}
 use Rattle.rules.specs.Level.{Placed, placed_tree}
-use Rattle.rules.specs.Block.{Block, Reading, NumberedAtom, edition_number, head_edition, read_block}
-use Rattle.rules.specs.Limits.{PartsWithin, BlockWithin}
+use Rattle.rules.specs.Block.{Block, NumberedAtom, edition_number, head_edition}
+use Rattle.rules.specs.Limits.{BlockWithin}
 use Rattle.rules.specs.Answer.{looked_up, formula_of}
 use Rattle.block_laws.specs.Blocks.{accepted-within}
-use Rattle.ending_laws.specs.Nestings.{alone-each}
-use Rattle.rules.specs.Reasons.{clauses_from, reasons, atoms_of_and, Why, refusal, explained, unless_fewer, why_atoms, why_of, why}
+use Rattle.rules.specs.Reasons.{clauses_from, reasons, refusal, explained, unless_fewer, why_atoms, why_of, why}
 use Rattle.block.specs.declared.Held.{Held}
 use Rattle.block.specs.Held as reader
 use Rattle.block.specs.Held.{held_of}
@@ -26,7 +24,6 @@ use Rattle.block.specs.Tokens.{length-tokens}
 use Rattle.forms.specs.declared.WorkingTable.{WorkingTable}
 use Rattle.forms.specs.Working.{TableRead, working_by, is_plain, blank, table_of, Worked}
 use Rattle.forms.specs.Tokens.{normal_tokens}
-use Rattle.used.specs.Tape.{in_slot}
 use Rattle.table.specs.Table.{Table}
 use Rattle.tape.specs.declared.rows.Row.{Row}
 use Rattle.tape.specs.Row.{row_of, Lists}

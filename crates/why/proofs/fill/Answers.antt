@@ -1,5 +1,5 @@
 -- One record more each turn, at the next place.
-use Rattle.std.proofs.Common.{◌<◌, ◌≤◌, refl, arith}
+use Rattle.std.proofs.Common.{refl, arith}
 use Rattle.reasons.specs.Records.{blank}
 use Rattle.why.proofs.Filling.{filling, filled, filled-all}
 use Rattle.why.proofs.fill.Goals as goal

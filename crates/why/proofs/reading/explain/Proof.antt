@@ -1,10 +1,8 @@
 -- `explain` meets its contract: refusal 19, refusal 20, or the records.
 use borrow.Author.Rules.{rules}
-use mathlib.Core.Path.{◌≡◌, refl, sym, ap, ◌∙◌, subst}
+use mathlib.Core.Path.{sym, ap, ◌∙◌, subst}
 use Prim.Native.Nat.{ℕ, ◌-◌, ◌<◌, ◌≤◌}
 use native.Mathlib.Omega.{arith}
-use Rattle.block.specs.declared.Held.{Held}
-use Rattle.block.specs.Held.{held_by}
 use Rattle.why.specs.declared.Outcome.TheVariants.{Explained}
 use Rattle.why.specs.Entry.{tells-refusal}
 use Rattle.why.specs.Way.{tokens-there, refuses-19, refuses-20, atoms-many, told-reasons}

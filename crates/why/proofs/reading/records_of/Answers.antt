@@ -1,7 +1,6 @@
 -- What each step ensures is what the next one asks.
 use Rattle.std.proofs.Common.{◌≡◌, sym, ap, ◌∙◌, subst, Bool, true, ℕ, List, ◌-◌, ◌≤◌, length, take, drop, arith, rules}
 use Rattle.block.specs.declared.Held.{Held}
-use Rattle.block.specs.Held.{held_by}
 use Rattle.forms.specs.declared.WorkingTable.{WorkingTable}
 use Rattle.forms.specs.Working.{working_by, table_of, Worked}
 use Rattle.forms.specs.Tokens.{normal_tokens}
