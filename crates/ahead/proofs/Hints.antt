@@ -1,27 +1,24 @@
 -- A variable's turn in part, by one atom: the signs of their two slots, and what the atom's deduction leaves of the variable's set.
 -- `both-signed`, `deduced-is` and `in-part-of` say so.
-use mathlib.Core.Path.{◌≡◌, refl, sym, ◌∙◌, ap, ap₂, subst}
-use mathlib.Core.Bool.{false}
+use mathlib.Core.Path.{◌≡◌, sym, ◌∙◌, ap, ap₂, subst}
 use mathlib.Core.List.{List}
-use Prim.Native.Nat.{ℕ, zero, suc, ◌+◌, ◌*◌, ◌<◌, ◌≤◌}
+use Prim.Native.Nat.{ℕ, zero, suc, ◌+◌, ◌<◌, ◌≤◌}
 use native.Mathlib.Decide.{dec_lt}
 use native.Mathlib.Omega.{arith}
-use lib.IntN.{ℤ}
 use lib.ListN.{length, get_or, set}
 use Rattle.rules.specs.Signs.{SignSet, full, intersect}
-use Rattle.rules.specs.Polynomial.{Polynomial, Atom, variable}
+use Rattle.rules.specs.Polynomial.{Polynomial, variable}
 use Rattle.rules.specs.Polynomial.{Board as Sets}
 use Rattle.rules.specs.Deduce.{deduce}
 use Rattle.rules.specs.Rounds.{cut_by}
 use Rattle.sign_laws.specs.Sets.{PartOf, part-refl, part-trans, intersect-first, intersect-below}
 use Rattle.ending_laws.specs.Cuts.{cut_by-part}
 use Rattle.removal_laws.specs.Fewer.{intersect-wider}
-use Rattle.turn_laws.specs.AfterTurns.{AfterTurns, no_turn, in_part}
+use Rattle.turn_laws.specs.AfterTurns.{no_turn, in_part}
 use Rattle.terms.specs.declared.Board.{Board}
 use Rattle.terms.specs.View.{few, sets_of}
 use Rattle.table.specs.declared.Atoms.{Atoms}
-use Rattle.table.specs.Table.{Table, Forms, form_at, atom_at, atoms_from, atoms_of, many}
-use Rattle.round.specs.Views.{table_of}
+use Rattle.table.specs.Table.{Table, Forms, atom_at, atoms_from, many}
 use Rattle.round.specs.Signing.{signed_slot, SignedSlot}
 use Rattle.round.specs.SignedSlots.{same-slots, form-slots, length-slot, slot-keeps, slot-there}
 use Rattle.round.specs.Boards.{set_at, changed-at}

@@ -4,7 +4,7 @@
 
 #![tactic(auto)]
 
-ghost use Rattle.std.specs.Prelude.{◌≡◌, ◌+◌, ◌<◌, ◌≤◌, length, false};
+ghost use Rattle.std.specs.Prelude.{◌≡◌, ◌+◌, ◌<◌, ◌≤◌, length, false, IfSome};
 ghost use Rattle.terms.specs.View.{sets_of};
 ghost use Rattle.table.specs.Table.{Forms, atom_at, atoms_of, many as many_of};
 ghost use Rattle.rules.specs.Polynomial.{variable};
@@ -18,7 +18,7 @@ ghost use Rattle.ahead.specs.Ahead.{place_of, Stepped, Reached, Ahead};
 use deduce::any_empty;
 use engines::{deduce_alone, deduce_from};
 use round::list::many;
-use round::round::cut_down;
+use round::round::turned_set;
 use round::slots::{places, sign_list, sign_slot};
 use signs::SignSet;
 use table::Atoms;
@@ -91,23 +91,26 @@ fn cause(
 {
     let n = many(atoms.count);
     let p = places(terms, 64 + i);
-    let mut j = 0;
-    while j < n {
-        let number = atoms.number[j];
-        let held = atoms.set[j];
-        j += 1;
-        let k = (number % 64) as usize;
-        let q = places(terms, k);
-        let found = deduce_from(coefficient, monomial, terms, sign, p, q, SignSet(held));
-        let cut = set.intersect(found);
-        if cut.0 != set.0 {
-            return number % 64;
+    for j in 0..n {
+        let slot = atoms.number[j] % 64;
+        let q = places(terms, slot as usize);
+        let found = deduce_from(
+            coefficient,
+            monomial,
+            terms,
+            sign,
+            p,
+            q,
+            SignSet(atoms.set[j]),
+        );
+        if set.intersect(found).0 != set.0 {
+            return slot;
         }
     }
     0
 }
 
-// Variable i's turn. No turn goes below the floor, so that one that has the floor's set needs none, and one that comes to it is over.
+// Variable i's turn. It does not go below the floor.
 fn step(
     coefficient: &[i32],
     monomial: &[u64],
@@ -125,28 +128,10 @@ fn step(
         Stepped t atoms passed i result sign.new }
 {
     let board = passed.board;
+    let Some(new) = turned_set(coefficient, monomial, terms, sign, board, atoms, i, floor) else {
+        return passed;
+    };
     let old = board.sets[i];
-    let low = floor.sets[i];
-    if old == low {
-        return passed;
-    }
-    let n = many(atoms.count);
-    let new = cut_down(
-        coefficient,
-        monomial,
-        terms,
-        sign,
-        board,
-        atoms,
-        0,
-        n,
-        64 + i,
-        SignSet(old),
-        SignSet(low),
-    );
-    if new.0 == old {
-        return passed;
-    }
     let by = cause(
         coefficient,
         monomial,
@@ -193,10 +178,8 @@ fn pass(
         still: true,
         order,
     };
-    let mut i = 0;
-    while i < n {
+    for i in 0..n {
         let j = place(up, n, i);
-        i += 1;
         passed = step(coefficient, monomial, terms, sign, passed, atoms, floor, j);
     }
     passed
@@ -204,20 +187,14 @@ fn pass(
 
 // ---- the turns of an order, each in part: by the one atom that is named
 
-// The index of the first atom of a slot, or how many atoms there are if none is.
-fn find(atoms: Atoms, slot: u8) -> usize
-    ensures { result ≤ many_of atoms.count }
+// The index of the first atom of a slot, if there is one.
+fn find(atoms: Atoms, slot: u8) -> Option<usize>
+    ensures { IfSome result (λ j. j < many_of atoms.count) }
 {
     let n = many(atoms.count);
-    let mut j = 0;
-    while j < n {
-        let number = atoms.number[j];
-        if number % 64 == slot {
-            return j;
-        }
-        j += 1;
-    }
-    n
+    atoms.number[..n]
+        .iter()
+        .position(|number| number % 64 == slot)
 }
 
 // What atom j says of variable i, where only the signs that this takes are worked out.
@@ -266,10 +243,9 @@ fn hint(
     if board.variables <= i {
         return board;
     }
-    let j = find(atoms, slot);
-    if many(atoms.count) <= j {
+    let Some(j) = find(atoms, slot) else {
         return board;
-    }
+    };
     let old = board.sets[i];
     let lowest = floor.sets[i];
     if old == lowest {
@@ -303,11 +279,8 @@ fn replay(
 {
     let end = many(order.count);
     let mut at = board;
-    let mut k = 0;
-    while k < end {
-        let i = order.variable[k];
-        let slot = order.slot[k];
-        k += 1;
+    for k in 0..end {
+        let i = order.variable[k] as usize;
         at = hint(
             coefficient,
             monomial,
@@ -316,8 +289,8 @@ fn replay(
             at,
             atoms,
             floor,
-            i as usize,
-            slot,
+            i,
+            order.slot[k],
         );
     }
     at
@@ -360,10 +333,8 @@ pub fn ahead(
         still: false,
         order,
     };
-    let mut made = 0;
-    while made < most {
+    for made in 0..most {
         let up = made / 2 % 2 == 1;
-        made += 1;
         let at = passed.board;
         let so_far = passed.order;
         passed = pass(

@@ -1,6 +1,6 @@
 -- What the entry returns for the book's answer, and the book's answer by cases. 01, "Refusal numbers": "A refusal returns its number and length 0",
 -- "An answer returns a verdict (formula, always, unsatisfiable) and a length".
-use Rattle.std.specs.Prelude.{◌≡◌, refl, Bool, true, false, List, [], ◌++◌, ℕ, zero, suc, ◌+◌, ◌≤◌, ◌<◌, eqb, length, drop}
+use Rattle.std.specs.Prelude.{◌≡◌, refl, Bool, true, false, Result, Ok, Err, List, [], ◌++◌, ℕ, zero, suc, ◌+◌, ◌≤◌, ◌<◌, eqb, length, drop}
 use Rattle.std.proofs.Common.{sym, ap, ◌∙◌, arith, le-leb, ne_eqb}
 use Rattle.std.proofs.lemmas.Bool.{lt-leb}
 use Rattle.rules.specs.Polynomial.{Atom}
@@ -17,7 +17,6 @@ use Rattle.answer.specs.declared.Verdict.{Verdict}
 use Rattle.answer.specs.declared.Verdict.TheVariants.{Formula, Always, Unsatisfiable}
 use Rattle.answer.specs.declared.Counts.{Counts}
 use Rattle.answer.specs.declared.Answer.{Answer}
-use Rattle.answer.specs.declared.Answer.TheVariants.{Refused, Answered}
 
 -- ---- the book's answer as it is returned
 
@@ -34,14 +33,14 @@ counts_of counts = record {
   polynomials_out = counts.polynomials-out;
 }
 
-unfoldable pub answer_of : book.Answer → Answer
-answer_of (book.refusal number) = Refused number
-answer_of (book.answered verdict bytes counts) = Answered (verdict_of verdict) (length bytes) (counts_of counts)
+unfoldable pub answer_of : book.Answer → Result Answer ℕ
+answer_of (book.refusal number) = Err number
+answer_of (book.answered verdict bytes counts) = Ok (record { verdict = verdict_of verdict; length = length bytes; counts = counts_of counts })
 
 -- "A refusal returns its number and length 0."
-abbrev pub length_in : Answer → ℕ
-length_in (Refused number) = 0
-length_in (Answered verdict length counts) = length
+abbrev pub length_in : Result Answer ℕ → ℕ
+length_in (Err number) = 0
+length_in (Ok answer) = answer.length
 
 -- ---- the answer by cases
 

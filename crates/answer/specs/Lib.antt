@@ -1,3 +1,4 @@
+pub mod Refusals
 pub mod Normal
 pub mod Tapes
 pub mod Travel

@@ -1,6 +1,6 @@
 -- The way of an accepted block through the crates below: what is held, made normal, simplified, collected and written, step by step.
 -- Each step takes what the function of that step ensures, and gives what the next one asks.
-use Rattle.std.specs.Prelude.{◌≡◌, Bool, ℤ, take, replicate}
+use Rattle.std.specs.Prelude.{◌≡◌, Ok, Bool, ℤ, take, replicate}
 use Rattle.std.proofs.Math.Path.{refl, sym, ap, ap₂, subst}
 use Rattle.std.proofs.Common.{◌∙◌, zero-add, take_at}
 use mathlib.Core.List.{List, [], ◌∷◌, ◌++◌, map}
@@ -38,7 +38,6 @@ use Rattle.level.specs.declared.writing.Tree.{Tree}
 use Rattle.level.specs.Tree.{TreeHeld, Simplified}
 use Rattle.used.specs.Tape.{in_slot, Holds, HoldsSome}
 use Rattle.answer.specs.declared.Verdict.{Verdict}
-use Rattle.answer.specs.declared.Answer.TheVariants.{Answered}
 use Rattle.array_laws.specs.Arrays.{held-table-read}
 use Rattle.answer.specs.Normal.{normalised, normal_tree, normal-holds, normal-kind, normal-within}
 use Rattle.answer.specs.Tapes.{token_tree, atoms-few, plain, plain_tokens, tokens-in-slots, held-as-tokens, result, result-is, result-places, result-holds}
@@ -270,11 +269,10 @@ module _ {bytes : List ℕ} {edition : ℕ} (before : List ℕ) {held : Held} (a
       → after ≡ sets before 0 (write_block (edition_of edition) (new_block accepted.given))
       → atoms-in ≡ atoms (alone prepared.tree) → atoms-out ≡ atoms (alone (simpler_tree prepared r simpler))
       → polynomials-in ≡ length (without_constants (used [] (alone (each_atom_of (in_slot (table_of held.variables w)) prepared.tree)))) → verdict ≡ verdict_from new.root new.tokens
-      → Answers bytes before after (Answered verdict size (record {
-        atoms_in = atoms-in;
-        atoms_out = atoms-out;
-        polynomials_in = polynomials-in;
-        polynomials_out = new.polynomials;
+      → Answers bytes before after (Ok (record {
+        verdict = verdict;
+        length = size;
+        counts = record { atoms_in = atoms-in; atoms_out = atoms-out; polynomials_in = polynomials-in; polynomials_out = new.polynomials };
       }))
   unfolding answer_of counts_of book.counts_of held_of
   answers new New-is after atoms-in atoms-out polynomials-in size verdict size_is after_is in_is out-is uses-is verdict-is =

@@ -7,6 +7,8 @@ ghost use Rattle.std.specs.Prelude.{◌≡◌, List, ℕ, ◌≤◌, length};
 ghost use Rattle.rules.specs.Signs.{bit};
 ghost use Rattle.block.specs.Held.{held_by};
 ghost use Rattle.answer.specs.Tapes.{plain_tokens as plain_tokens_of};
+ghost use Rattle.answer.specs.Refusals.{number_of};
+ghost use Rattle.answer.specs.declared.Refusal.TheVariants.{Block as BlockRefused};
 ghost use Rattle.answer.specs.Answered.{verdict_from};
 ghost use Rattle.answer.specs.Entry.{Accepted, AcceptedSome, Answers, TellsPlaces, CountsRounds};
 
@@ -17,7 +19,7 @@ use used::{atoms, collect, forms_used};
 use writer::write;
 
 // "one of the words FORMULA, ALWAYS, UNSATISFIABLE"
-#[derive(Clone, Copy)]
+#[derive(Clone, Copy, Debug, PartialEq, Eq)]
 pub enum Verdict {
     Formula,
     Always,
@@ -26,7 +28,7 @@ pub enum Verdict {
 
 // "atoms in, atoms out, polynomials in, polynomials out": polynomials in are the different non-constant normal forms that the given tree uses,
 // polynomials out the new table's.
-#[derive(Clone, Copy)]
+#[derive(Clone, Copy, Debug, PartialEq, Eq)]
 pub struct Counts {
     pub atoms_in: usize,
     pub atoms_out: usize,
@@ -34,21 +36,50 @@ pub struct Counts {
     pub polynomials_out: usize,
 }
 
-// A refusal's number, or the verdict, the new block's length in bytes and the counts.
-#[derive(Clone, Copy)]
-pub enum Answer {
-    Refused(u8),
-    Answered {
-        verdict: Verdict,
-        length: usize,
-        counts: Counts,
-    },
+// "An answer returns a verdict (formula, always, unsatisfiable) and a length": that of the new block in bytes; and the counts.
+#[derive(Clone, Copy, Debug, PartialEq, Eq)]
+pub struct Answer {
+    pub verdict: Verdict,
+    pub length: usize,
+    pub counts: Counts,
+}
+
+// Why there is no answer.
+#[derive(Clone, Copy, Debug, PartialEq, Eq)]
+pub enum Refusal {
+    // 1: "lent output shorter than lent input"
+    OutputShort,
+    // 18: the slice for the places is shorter than 255, "tried directly after 1"
+    PlacesShort,
+    // the reader's
+    Block(block::Refusal),
+}
+
+impl Refusal {
+    // The number that the documents give it.
+    pub fn number(self) -> u8
+        ensures { result ≡ number_of self }
+    {
+        match self {
+            Refusal::OutputShort => 1,
+            Refusal::PlacesShort => 18,
+            Refusal::Block(refusal) => refusal.number(),
+        }
+    }
+}
+
+impl From<block::Refusal> for Refusal {
+    ghost from_gives = { λ refusal given. given ≡ BlockRefused refusal };
+
+    fn from(refusal: block::Refusal) -> Refusal {
+        Refusal::Block(refusal)
+    }
 }
 
 // The answer, and the largest number of rounds so far, its runs counted (02, #108).
-#[derive(Clone, Copy)]
+#[derive(Clone, Copy, Debug, PartialEq, Eq)]
 pub struct WithRounds {
-    pub answer: Answer,
+    pub answer: Result<Answer, Refusal>,
     pub rounds: usize,
 }
 
@@ -72,13 +103,10 @@ fn plain_tokens(token: &mut [u32], count: usize)
     requires { count ≤ length token.old }
     ensures { token.new ≡ plain_tokens_of count token.old }
 {
-    let mut i = 0;
-    while i < count {
-        let at = i;
-        i += 1;
-        let t = token[at];
+    for i in 0..count {
+        let t = token[i];
         if t < 16777216 {
-            token[at] = t % 512;
+            token[i] = t % 512;
         }
     }
 }
@@ -183,13 +211,13 @@ pub fn answer_to(
         token,
         output,
     );
-    let answer = Answer::Answered {
-        verdict: verdict,
-        length: length,
-        counts: counts,
+    let answer = Answer {
+        verdict,
+        length,
+        counts,
     };
     WithRounds {
-        answer: answer,
+        answer: Ok(answer),
         rounds: short.rounds,
     }
 }

@@ -4,7 +4,7 @@
 #![tactic(auto)]
 
 use files::{argument, tell};
-use loading::{Loaded, place, value};
+use loading::{Refusal, place, value};
 use std::fs::{File, OpenFile};
 use std::io;
 use std::io::Write;
@@ -31,10 +31,14 @@ fn print_line<W: Write>(out: &mut W, word: &[u8], number: u64) -> io::Result<()>
 }
 
 // The line of an answer: REFUSED and the number, or the word for what was done and the block's length.
-pub fn print_answer<W: Write>(out: &mut W, answer: Loaded, word: &[u8]) -> io::Result<()> {
+pub fn print_answer<W: Write>(
+    out: &mut W,
+    answer: Result<usize, Refusal>,
+    word: &[u8],
+) -> io::Result<()> {
     match answer {
-        Loaded::Refused(number) => print_line(out, b"REFUSED ", number as u64),
-        Loaded::Starts(size) => print_line(out, word, size as u64),
+        Err(refusal) => print_line(out, b"REFUSED ", refusal.number() as u64),
+        Ok(size) => print_line(out, word, size as u64),
     }
 }
 

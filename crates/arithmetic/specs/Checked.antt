@@ -6,7 +6,7 @@ use Rattle.std.proofs.Math.Option.{Option, none, some, some-injective, none-ne-s
 use Rattle.std.proofs.Math.IntN.{one, pow, +ℤ_idl, +ℤ_idr, *ℤ-one}
 use Rattle.whole.specs.Differences.{*ℤ-assoc}
 use Rattle.whole.specs.Solver.{#, ◌:+◌, ◌:*◌, solve}
-use Rattle.rules.specs.Polynomial.{Term, Polynomial, exponent}
+use Rattle.rules.specs.Polynomial.{Polynomial, exponent}
 use Rattle.rules.specs.Meaning.{monomial_at, value_by}
 use Rattle.terms.specs.Exponents.{exponent-shifted}
 use Rattle.terms.specs.View.{terms_of, terms-cons, terms-nil}

@@ -1,6 +1,6 @@
 -- A number by its sign and its magnitude, and what products and sums of such numbers are. It fits 64 signed bits exactly if its magnitude is at most the
 -- limit of its sign: 2^63 for a negative number, 2^63 - 1 for any other.
-use Rattle.std.specs.Prelude.{◌≡◌, Bool, not, ◌&&◌, List, [], ◌∷◌, eqb, ℤ, pos, negsuc, neg_ℤ, nat_abs, ◌+ℤ◌, ◌*ℤ◌}
+use Rattle.std.specs.Prelude.{◌≡◌, Bool, not, ◌&&◌, [], ◌∷◌, eqb, ℤ, pos, negsuc, neg_ℤ, nat_abs, ◌+ℤ◌, ◌*ℤ◌}
 use Rattle.std.proofs.Math.Path.{refl, ap}
 use Rattle.std.proofs.Common.{sym, ap₂, ◌∙◌, true≢false, mul-zero, div-lt_iff_lt-mul, le-div_iff_mul-le, arith, lit<}
 use Rattle.std.proofs.Math.Bool.{true, false}

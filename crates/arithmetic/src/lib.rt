@@ -138,9 +138,7 @@ fn power(v: Number, negative: bool, magnitude: u64, exponent: u64) -> Number
     ensures { meaning result ≡ raised (value_of negative magnitude) exponent (meaning v) }
 {
     let mut product = v;
-    let mut left = exponent;
-    while 0 < left {
-        left -= 1;
+    for _ in 0..exponent {
         product = times(product, negative, magnitude);
     }
     product
@@ -152,12 +150,10 @@ fn term(readings: &[i32], monomial: u64, coefficient: i32) -> Number
     ensures { meaning result ≡ term_from readings.now monomial (some coefficient) }
 {
     let mut product = whole(coefficient);
-    let mut i = 0;
-    while i < readings.len() {
+    for i in 0..readings.len() {
         let x = readings[i];
         let reading = whole(x);
-        i += 1;
-        let exponent = (monomial >> (4 * (readings.len() - i))) % 16;
+        let exponent = (monomial >> (4 * (readings.len() - (i + 1)))) % 16;
         product = power(product, reading.negative, reading.magnitude, exponent);
     }
     product
@@ -179,11 +175,9 @@ pub fn value(
         negative: false,
         magnitude: 0,
     };
-    let mut i = from;
-    while i < to {
+    for i in from..to {
         let c = coefficient[i];
         let m = monomial[i];
-        i += 1;
         total = plus(total, term(readings, m, c));
     }
     total

@@ -21,12 +21,6 @@ fn power(k: usize) -> u64
     1u64 << k
 }
 
-fn least(a: usize, b: usize) -> usize
-    ensures { result ≡ min a b }
-{
-    if a < b { a } else { b }
-}
-
 // The first `count` of a byte's last `room` bits.
 fn part(byte: u8, room: usize, count: usize) -> u64
     requires { (count ≤ room) × (room ≤ 8) }
@@ -72,7 +66,7 @@ fn within_eight(src: &[u8], byte: usize, from: usize, k: usize) -> u64
     requires { (0 < k) × (k ≤ 56) × (from < 8) × (8 * byte + from + k ≤ 8 * length src.now) × (8 ≤ length src.now) }
     ensures { result ≡ value (take k (drop (8 * byte + from) (unpack src.now))) }
 {
-    let first = least(byte, src.len() - 8);
+    let first = byte.min(src.len() - 8);
     (eight(src, first) << (8 * (byte - first) + from)) >> (64 - k)
 }
 
@@ -85,8 +79,9 @@ fn by_bytes(src: &[u8], at: usize, k: usize) -> u64
     let mut left = k;
     let mut byte = at / 8;
     let mut room = 8 - at % 8;
+    // kept: no index loop: each turn passes as many bits as its byte has room for, and the bits, not the bytes, are counted
     while 0 < left {
-        let count = least(room, left);
+        let count = room.min(left);
         sofar = (sofar << count) + part(src[byte], room, count);
         left -= count;
         byte += 1;
@@ -122,8 +117,9 @@ pub fn put(dst: &mut [u8], at: usize, k: usize, v: u64)
     let mut left = k;
     let mut byte = at / 8;
     let mut room = 8 - at % 8;
+    // kept: no index loop: each turn passes as many bits as its byte has room for, and the bits, not the bytes, are counted
     while 0 < left {
-        let count = least(room, left);
+        let count = room.min(left);
         left -= count;
         dst[byte] = with_part(dst[byte], room, count, v >> left);
         byte += 1;

@@ -10,6 +10,9 @@ use lib.ListN.{length, take, drop}
 use lib.Pow.{pow_pos}
 use lib.Seq.{take-length}
 use borrow.Author.Tests.{lt-ltb, le-ltb, ne_eqb, leb-true, eqb-true, eqb-false, not-true}
+use Rattle.std.specs.Prelude.{Result, Ok, Err}
+use Rattle.block.specs.declared.Refusal.{Refusal}
+use Rattle.block.specs.declared.Refusal.TheVariants.{NodesDiffer, PaddingOrByteLeft}
 use Rattle.rules.specs.Signs.{bit}
 use Rattle.rules.specs.Bits.{value, unpack}
 use Rattle.rules.specs.Polynomial.{Polynomial}
@@ -20,9 +23,6 @@ use Rattle.block.specs.Held.{kind_of}
 use Rattle.block.specs.Tokens.{length-tokens}
 use Rattle.block.specs.Steps.{stream_at, Inside, Does, Reads, NodeStored, Ends, RootOf, RootFound}
 use Rattle.block.specs.declared.Place.{Place}
-use Rattle.block.specs.declared.Root.TheVariants.{Refused as NoTree, Kind}
-use Rattle.block.specs.declared.Step.{Step}
-use Rattle.block.specs.declared.Step.TheVariants.{Refused, Read}
 use Rattle.block.proofs.Steps.{field_at, length-left, refuses, reads, after_read, both_read, required}
 use Rattle.block.proofs.ReadingTree.{within, by-within}
 
@@ -36,12 +36,12 @@ all-zero (true ∷ bits) = sym (ne_eqb (1 * 2 ^ length bits + value bits) 0 (λ 
 all-zero (false ∷ bits) = rw (zero-mul, zero-add) (all-zero bits)
 
 module _ (bytes : List ℕ) (place : Place) (block : Block) where
-  pub nodes-left : (place.allowed ≡ 0 → ⊥) → Reads bytes (read_end block (stream_at bytes place)) (Ends block place) (Refused 14)
+  pub nodes-left : (place.allowed ≡ 0 → ⊥) → Reads bytes (read_end block (stream_at bytes place)) (Ends block place) (Err NodesDiffer)
   unfolding read_end require
   nodes-left some = refuses (rw (ne_eqb place.allowed 0 some))
 
   module _ (none : place.allowed ≡ 0) {rest : ℕ} (r : rest ≡ length (drop place.at (unpack bytes))) where
-    pub byte_left : 8 ≤ rest → Reads bytes (read_end block (stream_at bytes place)) (Ends block place) (Refused 15)
+    pub byte_left : 8 ≤ rest → Reads bytes (read_end block (stream_at bytes place)) (Ends block place) (Err PaddingOrByteLeft)
     unfolding read_end require
     byte_left h = refuses (rw (none, ← r, le-ltb rest 8 h))
 
@@ -53,11 +53,11 @@ module _ (bytes : List ℕ) (place : Place) (block : Block) where
           let all : padding ≡ value u = p ∙ ap (λ (k : ℕ). value (take k u)) r ∙ ap value (take-length u) in
           rw (none, all-zero u, ← all, ← r, lt-ltb rest 8 few)
 
-      pub padding-left : (padding ≡ 0 → ⊥) → Reads bytes (read_end block (stream_at bytes place)) (Ends block place) (Refused 15)
+      pub padding-left : (padding ≡ 0 → ⊥) → Reads bytes (read_end block (stream_at bytes place)) (Ends block place) (Err PaddingOrByteLeft)
       unfolding require
       padding-left h = refuses (by-padding ∙ rw (ne_eqb padding 0 h))
 
-      pub all-ended : padding ≡ 0 → Inside bytes place → Reads bytes (read_end block (stream_at bytes place)) (Ends block place) (Read place)
+      pub all-ended : padding ≡ 0 → Inside bytes place → Reads bytes (read_end block (stream_at bytes place)) (Ends block place) (Ok place)
       unfolding require
       all-ended z inside = reads block (by-padding ∙ rw z) inside (record { same = refl; all_read = none })
 
@@ -118,13 +118,13 @@ kind-read d m parent s node s₁ h =
 
 -- ---- the tree and the end
 
-module _ (m : ℕ) {bytes : List ℕ} {place : Place} {count : ℕ} {token token₁ : List ℕ} {step : Step}
+module _ (m : ℕ) {bytes : List ℕ} {place : Place} {count : ℕ} {token token₁ : List ℕ} {step : Result Place Refusal}
     (root : Reads bytes (read_node 6 m 0 (stream_at bytes place)) (NodeStored place count token token₁) step) where
-  pub tree-refused : {number : ℕ} → step ≡ Refused number → RootFound bytes place count m token token₁ (NoTree number)
+  pub tree-refused : {refusal : Refusal} → step ≡ Err refusal → RootFound bytes place count m token token₁ (Err refusal)
   unfolding RootOf Does afterwards
   tree-refused e = record { found = λ n table. rw (rw e at root).does }
 
-  module _ {after : Place} (e : step ≡ Read after) where
+  module _ {after : Place} (e : step ≡ Ok after) where
     -- The root's two bits are in the input.
     pub root-inside : place.at + 2 ≤ 8 * length bytes
     unfolding Does
@@ -132,19 +132,19 @@ module _ (m : ℕ) {bytes : List ℕ} {place : Place} {count : ℕ} {token token
         let d = (rw e at root).does in
         omega (arith, rw (length-left bytes place.at) at (kind-read 6 m 0 (stream_at bytes place) d.0 (stream_at bytes after) d.1).0)
 
-    module _ {last : Step} (ending : (block : Block) → Reads bytes (read_end block (stream_at bytes after)) (Ends block after) last) where
-      pub end_refused : {number : ℕ} → last ≡ Refused number → RootFound bytes place count m token token₁ (NoTree number)
+    module _ {last : Result Place Refusal} (ending : (block : Block) → Reads bytes (read_end block (stream_at bytes after)) (Ends block after) last) where
+      pub end_refused : {refusal : Refusal} → last ≡ Err refusal → RootFound bytes place count m token token₁ (Err refusal)
       unfolding RootOf Does afterwards
       end_refused f =
           let d = (rw e at root).does in
           record { found = λ n table. rw d.1 (rw f at (ending (record { variables = n; table = table; tree = d.0 }))).does }
 
-      pub tree-read : {end : Place} {kind : ℕ} → last ≡ Read end → kind ≡ field_at bytes place.at 2 → RootFound bytes place count m token token₁ (Kind kind)
+      pub tree-read : {end : Place} {kind : ℕ} → last ≡ Ok end → kind ≡ field_at bytes place.at 2 → RootFound bytes place count m token token₁ (Ok kind)
       unfolding RootOf Does afterwards
       tree-read {end} f k =
           let d = (rw e at root).does in
           let block : ℕ → List Polynomial → Block = λ n table. record { variables = n; table = table; tree = d.0 } in
-          let ended : (n : ℕ) (table : List Polynomial) → Does bytes (read_end (block n table) (stream_at bytes after)) (Ends (block n table) after) (Read end) =
+          let ended : (n : ℕ) (table : List Polynomial) → Does bytes (read_end (block n table) (stream_at bytes after)) (Ends (block n table) after) (Ok end) =
           λ n table. (rw f at (ending (block n table))).does in
           record {
             found = record {

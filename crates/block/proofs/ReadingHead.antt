@@ -2,18 +2,20 @@
 use mathlib.Core.Path.{◌≡◌, refl, ◌∙◌}
 use mathlib.Core.Bool.{true, ◌&&◌, ◌||◌}
 use mathlib.Core.List.{List, [], ◌∷◌}
-use Prim.Native.Nat.{ℕ, zero, suc, ◌-◌, ◌≤◌, ◌<◌}
+use Prim.Native.Nat.{ℕ, zero, suc, ◌≤◌, ◌<◌}
 use native.Mathlib.Omega.{arith}
 use lib.Dec.{eqb, leb, ltb}
 use lib.ListN.{length, drop}
 use borrow.Author.Tests.{lt-ltb, le-leb, lt-leb, eq-eqb, ne_eqb}
+use Rattle.std.specs.Prelude.{Result, Ok, Err}
+use Rattle.block.specs.Refusals.{number_of}
+use Rattle.block.specs.declared.Refusal.{Refusal}
+use Rattle.block.specs.declared.Refusal.TheVariants.{InputUnderFiveBytes, UnknownEdition, LengthDiffers, CountNotAllowed}
 use Rattle.rules.specs.Bits.{value, unpack}
-use Rattle.rules.specs.Formula.{nodes}
 use Rattle.rules.specs.Block.{edition1, edition2, edition_number, edition_of, refused, require, read_body, head_field, head_edition, read_block}
 use Rattle.bits.proofs.Fields.{value-take-lt}
 use Rattle.block.specs.Steps.{stream_at, HeadHeld, HeadOf, HeadFound}
 use Rattle.block.specs.declared.Head.{Head}
-use Rattle.block.specs.declared.Head.TheVariants.{Refused as NoHead, Numbers}
 use Rattle.block.proofs.Steps.{field_at}
 
 -- ---- the edition by itself
@@ -58,21 +60,21 @@ edition-known (suc (suc zero)) some known = refl
 edition-known (suc (suc (suc edition))) some known = absurd (omega arith)
 
 module _ (bytes : List ℕ) where
-  refuses-head : {number : ℕ} → read_block bytes ≡ refused number → HeadFound bytes (NoHead number)
+  refuses-head : {refusal : Refusal} → read_block bytes ≡ refused (number_of refusal) → HeadFound bytes (Err refusal)
   unfolding HeadOf
   refuses-head e = record { found = e }
 
-  pub block-short : length bytes < 5 → HeadFound bytes (NoHead 2)
+  pub block-short : length bytes < 5 → HeadFound bytes (Err InputUnderFiveBytes)
   unfolding read_block require
   block-short h = refuses-head (rw (lt-leb 5 (length bytes) h))
 
   module _ (long : 5 ≤ length bytes) {edition : ℕ} (e : edition ≡ field_at bytes 0 4) where
-    pub no-edition : edition ≡ 0 → HeadFound bytes (NoHead 3)
+    pub no-edition : edition ≡ 0 → HeadFound bytes (Err UnknownEdition)
     unfolding read_block require head_field
     no-edition h = refuses-head (rw (le-leb 5 (length bytes) long, ← e, h))
 
     module _ (some-edition : edition ≡ 0 → ⊥) where
-      pub other-edition : 2 < edition → HeadFound bytes (NoHead 3)
+      pub other-edition : 2 < edition → HeadFound bytes (Err UnknownEdition)
       unfolding read_block require head_field
       other-edition h =
           let not-one : edition ≡ 1 → ⊥ = λ one. omega (arith, one) in
@@ -83,7 +85,7 @@ module _ (bytes : List ℕ) where
       one_of_two : (eqb edition 1 || eqb edition 2) ≡ true
       one_of_two = edition-known edition some-edition known
 
-      pub other_length : (size ≡ length bytes → ⊥) → HeadFound bytes (NoHead 4)
+      pub other_length : (size ≡ length bytes → ⊥) → HeadFound bytes (Err LengthDiffers)
       unfolding read_block require head_field
       other_length h = refuses-head (rw (le-leb 5 (length bytes) long, ← e, one_of_two, ← z, ne_eqb size (length bytes) h))
 
@@ -99,7 +101,7 @@ module _ (bytes : List ℕ) where
         unfolding read_block require head_field head_edition
         by-numbers = rw (le-leb 5 (length bytes) long, ← e, one_of_two, ← z, eq-eqb size (length bytes) same, ← v)
 
-        pub no-variables : n ≡ 0 → HeadFound bytes (NoHead 5)
+        pub no-variables : n ≡ 0 → HeadFound bytes (Err CountNotAllowed)
         unfolding require
         no-variables h = refuses-head (by-numbers ∙ rw h)
 
@@ -107,21 +109,21 @@ module _ (bytes : List ℕ) where
           first : ltb 0 n ≡ true
           first = lt-ltb 0 n (omega arith)
 
-          pub many-variables : 16 < n → HeadFound bytes (NoHead 5)
+          pub many-variables : 16 < n → HeadFound bytes (Err CountNotAllowed)
           unfolding require
           many-variables h = refuses-head (by-numbers ∙ rw (first, lt-leb n 16 h))
 
           module _ (few : n ≤ 16) {polynomials : ℕ} (w : polynomials ≡ m) where
-            pub many-polynomials : 64 < polynomials → HeadFound bytes (NoHead 5)
+            pub many-polynomials : 64 < polynomials → HeadFound bytes (Err CountNotAllowed)
             unfolding require
             many-polynomials h = refuses-head (by-numbers ∙ rw (first, le-leb n 16 few, ← w, lt-leb polynomials 64 h))
 
             module _ (table : polynomials ≤ 64) {nodes : ℕ} (x : nodes ≡ count) where
-              pub no-nodes : nodes ≡ 0 → HeadFound bytes (NoHead 5)
+              pub no-nodes : nodes ≡ 0 → HeadFound bytes (Err CountNotAllowed)
               unfolding require
               no-nodes h = refuses-head (by-numbers ∙ rw (first, le-leb n 16 few, ← w, le-leb polynomials 64 table, ← x, h))
 
-              pub head_read : (nodes ≡ 0 → ⊥) → HeadFound bytes (Numbers edition n polynomials nodes)
+              pub head_read : (nodes ≡ 0 → ⊥) → HeadFound bytes (Ok (record { edition = edition; variables = n; polynomials = polynomials; nodes = nodes }))
               unfolding HeadOf require
               head_read h =
                   let some_nodes : 0 < nodes = omega arith in
@@ -136,11 +138,11 @@ module _ (bytes : List ℕ) where
                   }
 
 -- What a head says, by its kind.
-module _ {bytes : List ℕ} {head : Head} (h : HeadFound bytes head) where
-  pub head-refused : {number : ℕ} → head ≡ NoHead number → read_block bytes ≡ refused number
+module _ {bytes : List ℕ} {head : Result Head Refusal} (h : HeadFound bytes head) where
+  pub head-refused : {refusal : Refusal} → head ≡ Err refusal → read_block bytes ≡ refused (number_of refusal)
   unfolding HeadOf
   head-refused e = (rw e at h).found
 
-  pub head-held : {edition n m count : ℕ} → head ≡ Numbers edition n m count → HeadHeld bytes edition n m count
+  pub head-held : {numbers : Head} → head ≡ Ok numbers → HeadHeld bytes numbers
   unfolding HeadOf
   head-held e = (rw e at h).found

@@ -1,7 +1,7 @@
 -- The steps that read a polynomial and the table: each does what the book does, by the fields that the code reads and the tests that it makes.
 use mathlib.Core.Path.{◌≡◌, refl, sym, ap, ◌∙◌}
 use mathlib.Core.List.{List, [], ◌∷◌}
-use mathlib.Core.Bool.{true, ◌&&◌}
+use mathlib.Core.Bool.{◌&&◌}
 use Prim.Native.Nat.{ℕ, zero, suc, ◌+◌, ◌-◌, ◌*◌, ◌^◌, ◌≤◌, ◌<◌}
 use native.Mathlib.Numerals.{add-one}
 use native.Mathlib.Omega.{arith}
@@ -10,14 +10,15 @@ use lib.Dec.{leb, ltb}
 use lib.ListN.{length, set}
 use lib.Seq.{drop-drop}
 use borrow.Author.Tests.{lt-ltb, le-leb, lt-leb}
+use Rattle.std.specs.Prelude.{Result, Ok, Err}
+use Rattle.block.specs.declared.Refusal.{Refusal}
+use Rattle.block.specs.declared.Refusal.TheVariants.{EndsInsideField, TermCount}
 use Rattle.rules.specs.Bits.{unpack}
 use Rattle.rules.specs.Polynomial.{Polynomial}
 use Rattle.rules.specs.Block.{Edition, Stream, Reading, read, require, afterwards, read_terms, read_polynomial, read_table}
 use Rattle.block.specs.Held.{slots}
 use Rattle.block.specs.Steps.{stream_at, Inside, Left, Reads, TermsStored, PolynomialStored, TableStored}
 use Rattle.block.specs.declared.Place.{Place}
-use Rattle.block.specs.declared.Step.{Step}
-use Rattle.block.specs.declared.Step.TheVariants.{Refused, Read}
 use Rattle.block.proofs.Steps.{field_at, further, refuses, reads, inside-after, same-reading, refuses-first, follows, stored-as, turned-into, both_read}
 use Rattle.block.proofs.ReadingTerms.{length-terms}
 
@@ -30,22 +31,22 @@ by_count edition n bytes place {rest} l long c = rw (← l.counted, le-leb 5 res
 
 module _ (edition : Edition) (n : ℕ) {bytes : List ℕ} {place : Place} {rest : ℕ} (l : Left bytes place rest) where
   pub polynomial-short : rest < 5 → {i : ℕ} {cs : List ℤ} {ms counts : List ℕ}
-      → Reads bytes (read_polynomial edition n (stream_at bytes place)) (PolynomialStored place i cs cs ms ms counts counts) (Refused 6)
+      → Reads bytes (read_polynomial edition n (stream_at bytes place)) (PolynomialStored place i cs cs ms ms counts counts) (Err EndsInsideField)
   unfolding read_polynomial require
   polynomial-short h = refuses (rw (← l.counted, lt-leb 5 rest h))
 
   module _ (long : 5 ≤ rest) {count : ℕ} (c : count ≡ field_at bytes place.at 5) where
     pub no_terms : count ≡ 0 → {i : ℕ} {cs : List ℤ} {ms counts : List ℕ}
-        → Reads bytes (read_polynomial edition n (stream_at bytes place)) (PolynomialStored place i cs cs ms ms counts counts) (Refused 7)
+        → Reads bytes (read_polynomial edition n (stream_at bytes place)) (PolynomialStored place i cs cs ms ms counts counts) (Err TermCount)
     unfolding require
     no_terms z = refuses (by_count edition n bytes place l long c ∙ rw z)
 
     pub too-many-terms : 16 < count → {i : ℕ} {cs : List ℤ} {ms counts : List ℕ}
-        → Reads bytes (read_polynomial edition n (stream_at bytes place)) (PolynomialStored place i cs cs ms ms counts counts) (Refused 7)
+        → Reads bytes (read_polynomial edition n (stream_at bytes place)) (PolynomialStored place i cs cs ms ms counts counts) (Err TermCount)
     unfolding require
     too-many-terms h = let some : 0 < count = omega arith in refuses (by_count edition n bytes place l long c ∙ rw (lt-ltb 0 count some, lt-leb count 16 h))
 
-    pub polynomial-read : (count ≡ 0 → ⊥) → count ≤ 16 → {i : ℕ} {cs cs₁ : List ℤ} {ms ms₁ counts : List ℕ} {step : Step}
+    pub polynomial-read : (count ≡ 0 → ⊥) → count ≤ 16 → {i : ℕ} {cs cs₁ : List ℤ} {ms ms₁ counts : List ℕ} {step : Result Place Refusal}
         → Reads bytes (read_terms edition count n (2 ^ (4 * n)) (stream_at bytes (further place 5))) (TermsStored (further place 5) (16 * i) cs cs₁ ms ms₁) step
         → Reads bytes (read_polynomial edition n (stream_at bytes place)) (PolynomialStored place i cs cs₁ ms ms₁ counts (set counts i count)) step
     unfolding require
@@ -68,19 +69,19 @@ unfolding read_table
 table-next edition i m n s l h = let e : m - i ≡ suc (m - (i + 1)) = omega arith in rw e
 
 module _ (edition : Edition) (i m n : ℕ) {bytes : List ℕ} {place : Place} {cs : List ℤ} {ms counts : List ℕ} where
-  table_done : Inside bytes place → i ≡ m → Reads bytes (read_table edition (m - i) n (stream_at bytes place)) (TableStored place i cs cs ms ms counts counts) (Read place)
+  table_done : Inside bytes place → i ≡ m → Reads bytes (read_table edition (m - i) n (stream_at bytes place)) (TableStored place i cs cs ms ms counts counts) (Ok place)
   unfolding read_table slots
   table_done inside e =
       let none : m - i ≡ 0 = omega arith in
       reads [] (rw none) inside (record { allows = refl; coefficient = refl; monomial = refl; counted = refl })
 
-  module _ {cs₁ : List ℤ} {ms₁ counts₁ : List ℕ} {step : Step} (l : i ≤ m) (more : i ≡ m → ⊥)
+  module _ {cs₁ : List ℤ} {ms₁ counts₁ : List ℕ} {step : Result Place Refusal} (l : i ≤ m) (more : i ≡ m → ⊥)
       (first : Reads bytes (read_polynomial edition n (stream_at bytes place)) (PolynomialStored place i cs cs₁ ms ms₁ counts counts₁) step) where
-    table-refused : {number : ℕ} → step ≡ Refused number → {cs₂ : List ℤ} {ms₂ counts₂ : List ℕ}
-        → Reads bytes (read_table edition (m - i) n (stream_at bytes place)) (TableStored place i cs cs₂ ms ms₂ counts counts₂) (Refused number)
+    table-refused : {refusal : Refusal} → step ≡ Err refusal → {cs₂ : List ℤ} {ms₂ counts₂ : List ℕ}
+        → Reads bytes (read_table edition (m - i) n (stream_at bytes place)) (TableStored place i cs cs₂ ms ms₂ counts counts₂) (Err refusal)
     table-refused e = same-reading (table-next edition i m n (stream_at bytes place) l more) (refuses-first (rest_of_table edition (m - (i + 1)) n) first e)
 
-    table-read : {after : Place} {cs₂ : List ℤ} {ms₂ counts₂ : List ℕ} {next : Step} → step ≡ Read after
+    table-read : {after : Place} {cs₂ : List ℤ} {ms₂ counts₂ : List ℕ} {next : Result Place Refusal} → step ≡ Ok after
         → Reads bytes (read_table edition (m - (i + 1)) n (stream_at bytes after)) (TableStored after (i + 1) cs₁ cs₂ ms₁ ms₂ counts₁ counts₂) next
         → Reads bytes (read_table edition (m - i) n (stream_at bytes place)) (TableStored place i cs cs₂ ms ms₂ counts counts₂) next
     unfolding slots
@@ -97,10 +98,7 @@ module _ (edition : Edition) (i m n : ℕ) {bytes : List ℕ} {place : Place} {c
 pub record TableLeft (edition : Edition) (bytes : List ℕ) (n m : ℕ) (start : Place) (cs₀ : List ℤ) (ms₀ counts₀ : List ℕ) (i : ℕ) (place : Place) (cs : List ℤ) (ms counts : List ℕ)
     : Type 0 where
   pub inside : Inside bytes place
-  pub coefficients : length cs ≡ length cs₀
-  pub monomials : length ms ≡ length ms₀
-  pub numbers : length counts ≡ length counts₀
-  pub whole : {cs₂ : List ℤ} {ms₂ counts₂ : List ℕ} {step : Step}
+  pub whole : {cs₂ : List ℤ} {ms₂ counts₂ : List ℕ} {step : Result Place Refusal}
       → Reads bytes (read_table edition (m - i) n (stream_at bytes place)) (TableStored place i cs cs₂ ms ms₂ counts counts₂) step
       → Reads bytes (read_table edition m n (stream_at bytes start)) (TableStored start 0 cs₀ cs₂ ms₀ ms₂ counts₀ counts₂) step
 
@@ -108,26 +106,22 @@ module _ (edition : Edition) {bytes : List ℕ} (n m : ℕ) {start : Place} {cs�
   pub table-begin : Inside bytes start → TableLeft edition bytes n m start cs₀ ms₀ counts₀ 0 start cs₀ ms₀ counts₀
   table-begin inside =
       let all : m - 0 ≡ m = omega arith in
-      record { inside = inside; coefficients = refl; monomials = refl; numbers = refl; whole = λ {cs₂} {ms₂} {counts₂} {step} rest. rw all at rest }
+      record { inside = inside; whole = λ {cs₂} {ms₂} {counts₂} {step} rest. rw all at rest }
 
   module _ {i : ℕ} {place : Place} {cs : List ℤ} {ms counts : List ℕ} (l : TableLeft edition bytes n m start cs₀ ms₀ counts₀ i place cs ms counts) where
-    pub table-end : i ≡ m → Reads bytes (read_table edition m n (stream_at bytes start)) (TableStored start 0 cs₀ cs ms₀ ms counts₀ counts) (Read place)
-    table-end e = l.whole (table_done edition i m n l.inside e)
+    pub table-end : m ≤ i → i ≤ m → Reads bytes (read_table edition m n (stream_at bytes start)) (TableStored start 0 cs₀ cs ms₀ ms counts₀ counts) (Ok place)
+    table-end over most = l.whole (table_done edition i m n l.inside (omega arith))
 
-    module _ {cs₁ : List ℤ} {ms₁ counts₁ : List ℕ} {step : Step} (more : i < m)
+    module _ {cs₁ : List ℤ} {ms₁ counts₁ : List ℕ} {step : Result Place Refusal} (more : i < m)
         (one : Reads bytes (read_polynomial edition n (stream_at bytes place)) (PolynomialStored place i cs cs₁ ms ms₁ counts counts₁) step) where
-      pub table-stop : {number : ℕ} → step ≡ Refused number → {cs₂ : List ℤ} {ms₂ counts₂ : List ℕ}
-          → Reads bytes (read_table edition m n (stream_at bytes start)) (TableStored start 0 cs₀ cs₂ ms₀ ms₂ counts₀ counts₂) (Refused number)
+      pub table-stop : {refusal : Refusal} → step ≡ Err refusal → {cs₂ : List ℤ} {ms₂ counts₂ : List ℕ}
+          → Reads bytes (read_table edition m n (stream_at bytes start)) (TableStored start 0 cs₀ cs₂ ms₀ ms₂ counts₀ counts₂) (Err refusal)
       table-stop e = l.whole (table-refused edition i m n (omega arith) (λ same. omega arith) one e)
 
-      pub table-go-on : {after : Place} → step ≡ Read after → length cs₁ ≡ length cs → length ms₁ ≡ length ms → length counts₁ ≡ length counts
-          → TableLeft edition bytes n m start cs₀ ms₀ counts₀ (i + 1) after cs₁ ms₁ counts₁
-      table-go-on {after} e c k t =
+      pub table-go-on : {after : Place} → step ≡ Ok after → TableLeft edition bytes n m start cs₀ ms₀ counts₀ (i + 1) after cs₁ ms₁ counts₁
+      table-go-on {after} e =
           record {
             inside = inside-after one e;
-            coefficients = c ∙ l.coefficients;
-            monomials = k ∙ l.monomials;
-            numbers = t ∙ l.numbers;
             whole = λ {cs₂} {ms₂} {counts₂} {step} rest. l.whole (table-read edition i m n (omega arith) (λ same. omega arith) one e rest);
           }
 

@@ -10,6 +10,10 @@ use lib.Dec.{eqb, ltb}
 use lib.ListN.{length, drop, set, length-drop, length-append}
 use lib.Seq.{sets, drop-drop}
 use borrow.Author.Tests.{lt-ltb, le-ltb, le-leb, lt-leb, eq-eqb, ne_eqb}
+use Rattle.std.specs.Prelude.{Result, Ok, Err}
+use Rattle.block.specs.Refusals.{number_of}
+use Rattle.block.specs.declared.Refusal.{Refusal}
+use Rattle.block.specs.declared.Refusal.TheVariants.{EndsInsideField, KindThree, PolynomialNumber, SameKindAbove, NestingAboveSix, NodesDiffer}
 use Rattle.rules.specs.Bits.{unpack}
 use Rattle.rules.specs.Formula.{Parts, end, Node, leaf, all_of, any_of, before, alone, children}
 use Rattle.rules.specs.Block.{NumberedAtom, Stream, Reading, refused, read, require, afterwards, read_atom, read_join, by_kind, read_node_by, read_parts, joined, read_node}
@@ -20,9 +24,7 @@ use Rattle.block.specs.Held.{tokens}
 use Rattle.block.specs.Steps.{stream_at, Inside, Left, Does, Reads, past_node, AtomOpened, JoinOpened, Opens, Opened, NodeStored, PartsStored}
 use Rattle.block.specs.declared.Place.{Place}
 use Rattle.block.specs.declared.Opening.{Opening}
-use Rattle.block.specs.declared.Opening.TheVariants.{Refused as NoNode, Atom, Join}
-use Rattle.block.specs.declared.Step.{Step}
-use Rattle.block.specs.declared.Step.TheVariants.{Refused, Read}
+use Rattle.block.specs.declared.Opening.TheVariants.{Atom, Join}
 use Rattle.block.proofs.Steps.{field_at, refuses, reads, inside-after, same-reading, refuses-first, follows, turned-into, both_read}
 
 -- ---- what a node begins with
@@ -38,14 +40,14 @@ by-within zero m parent s = refl
 by-within (suc d) m parent s = refl
 
 module _ (bytes : List ℕ) (place : Place) (nesting m parent : ℕ) where
-  abbrev opens : Opening → Type 0
+  abbrev opens : Result Opening Refusal → Type 0
   opens = Opened bytes place nesting m parent
 
-  refuses-node : {number : ℕ} → read_node nesting m parent (stream_at bytes place) ≡ refused number → opens (NoNode number)
+  refuses-node : {refusal : Refusal} → read_node nesting m parent (stream_at bytes place) ≡ refused (number_of refusal) → opens (Err refusal)
   unfolding Opens
   refuses-node e = record { opens = e }
 
-  pub none_allowed : place.allowed ≡ 0 → opens (NoNode 14)
+  pub none_allowed : place.allowed ≡ 0 → opens (Err NodesDiffer)
   unfolding read_node_by require
   none_allowed z = refuses-node (by-within nesting m parent (stream_at bytes place) ∙ rw z)
 
@@ -58,7 +60,7 @@ module _ (bytes : List ℕ) (place : Place) (nesting m parent : ℕ) where
     some_left : 0 < place.allowed
     some_left = omega arith
 
-    pub kind-short : rest < 2 → opens (NoNode 6)
+    pub kind-short : rest < 2 → opens (Err EndsInsideField)
     unfolding read_node_by require
     kind-short h = refuses-node (by-within nesting m parent (stream_at bytes place) ∙ rw (lt-ltb 0 place.allowed some_left, ← r.counted, lt-leb 2 rest h))
 
@@ -71,7 +73,7 @@ module _ (bytes : List ℕ) (place : Place) (nesting m parent : ℕ) where
           by-within nesting m parent (stream_at bytes place)
           ∙ rw (lt-ltb 0 place.allowed some_left, ← r.counted, le-leb 2 rest long, ← k, drop-drop 2 place.at (unpack bytes))
 
-      pub kind-three : kind ≡ 3 → opens (NoNode 10)
+      pub kind-three : kind ≡ 3 → opens (Err KindThree)
       unfolding require
       kind-three z = refuses-node (by-kind ∙ rw z)
 
@@ -80,7 +82,7 @@ module _ (bytes : List ℕ) (place : Place) (nesting m parent : ℕ) where
         unfolding require by_kind
         an_atom = by-kind ∙ rw z
 
-        pub atom-short : rest < 11 → opens (NoNode 6)
+        pub atom-short : rest < 11 → opens (Err EndsInsideField)
         unfolding read_atom require
         atom-short h = let l : rest - 2 < 9 = omega arith in refuses-node (an_atom ∙ rw (behind 2, lt-leb 9 (rest - 2) l))
 
@@ -104,11 +106,11 @@ module _ (bytes : List ℕ) (place : Place) (nesting m parent : ℕ) where
               let f : place.at + 8 + 3 ≡ place.at + 11 = omega arith in
               an_atom ∙ rw (behind 2, le-leb 9 (rest - 2) l, number_is, set_is, drop-drop 6 (place.at + 2) u, e, drop-drop 3 (place.at + 8) u, f)
 
-          pub number-high : m ≤ both / 8 → opens (NoNode 11)
+          pub number-high : m ≤ both / 8 → opens (Err PolynomialNumber)
           unfolding require
           number-high h = refuses-node (by_number ∙ rw (le-ltb (both / 8) m h))
 
-          pub atom-opens : both / 8 < m → length bytes < 2 ^ 16 → opens (Atom (both / 8) (both % 8))
+          pub atom-opens : both / 8 < m → length bytes < 2 ^ 16 → opens (Ok (Atom (both / 8) (both % 8)))
           unfolding Opens require
           atom-opens h short = record {
             opens = record {
@@ -126,7 +128,7 @@ module _ (bytes : List ℕ) (place : Place) (nesting m parent : ℕ) where
         unfolding require by_kind
         a-join = by-kind ∙ rw (ne_eqb kind 3 not_three, ne_eqb kind 0 no-atom)
 
-        pub join-short : rest < 10 → opens (NoNode 6)
+        pub join-short : rest < 10 → opens (Err EndsInsideField)
         unfolding read_join require
         join-short h = let l : rest - 2 < 8 = omega arith in refuses-node (a-join ∙ rw (behind 2, lt-leb 8 (rest - 2) l))
 
@@ -139,16 +141,16 @@ module _ (bytes : List ℕ) (place : Place) (nesting m parent : ℕ) where
               let e : place.at + 2 + 8 ≡ place.at + 10 = omega arith in
               a-join ∙ rw (behind 2, le-leb 8 (rest - 2) l, drop-drop 8 (place.at + 2) (unpack bytes), e)
 
-          pub same_kind : kind ≡ parent → opens (NoNode 12)
+          pub same_kind : kind ≡ parent → opens (Err SameKindAbove)
           unfolding require
           same_kind e = refuses-node (by-parent ∙ rw (eq-eqb kind parent e))
 
           module _ (other : kind ≡ parent → ⊥) where
-            pub too-deep : nesting ≡ 0 → opens (NoNode 13)
+            pub too-deep : nesting ≡ 0 → opens (Err NestingAboveSix)
             unfolding require
             too-deep z = refuses-node (by-parent ∙ rw (ne_eqb kind parent other, z))
 
-            pub join-opens : (nesting ≡ 0 → ⊥) → {count : ℕ} → count ≡ field_at bytes (place.at + 2) 8 → length bytes < 2 ^ 16 → opens (Join kind count)
+            pub join-opens : (nesting ≡ 0 → ⊥) → {count : ℕ} → count ≡ field_at bytes (place.at + 2) 8 → length bytes < 2 ^ 16 → opens (Ok (Join kind count))
             unfolding Opens require
             join-opens deep {count} c short = record {
               opens = record {
@@ -204,31 +206,32 @@ children-read one (suc count) s kids s₁ h =
 -- ---- the steps
 
 -- What an opening says, by its kind.
-module _ {bytes : List ℕ} {place : Place} {nesting m parent : ℕ} {opening : Opening} (h : Opened bytes place nesting m parent opening) where
-  pub atom-is : {number set : ℕ} → opening ≡ Atom number set → AtomOpened bytes place nesting m parent number set
+module _ {bytes : List ℕ} {place : Place} {nesting m parent : ℕ} where
+  pub node-refused : {opening : Result Opening Refusal} {refusal : Refusal} → Opened bytes place nesting m parent opening → opening ≡ Err refusal
+      → {Stored : Node NumberedAtom → Place → Type 0} → Reads bytes (read_node nesting m parent (stream_at bytes place)) Stored (Err refusal)
   unfolding Opens
-  atom-is e = (rw e at h).opens
+  node-refused h e = refuses (rw e at h).opens
 
-  pub join_is : {kind children : ℕ} → opening ≡ Join kind children → JoinOpened bytes place nesting m parent kind children
-  unfolding Opens
-  join_is e = (rw e at h).opens
+  module _ {opening : Opening} (h : Opened bytes place nesting m parent (Ok opening)) where
+    pub atom-is : {number set : ℕ} → opening ≡ Atom number set → AtomOpened bytes place nesting m parent number set
+    unfolding Opens
+    atom-is e = (rw e at h).opens
 
-  pub node-refused : {number : ℕ} → opening ≡ NoNode number → {Stored : Node NumberedAtom → Place → Type 0}
-      → Reads bytes (read_node nesting m parent (stream_at bytes place)) Stored (Refused number)
-  unfolding Opens
-  node-refused e = refuses (rw e at h).opens
+    pub join_is : {kind children : ℕ} → opening ≡ Join kind children → JoinOpened bytes place nesting m parent kind children
+    unfolding Opens
+    join_is e = (rw e at h).opens
 
 module _ {bytes : List ℕ} {place : Place} {nesting m parent count : ℕ} {token : List ℕ} where
   -- An atom's step.
   pub atom-step : {number set' : ℕ} → AtomOpened bytes place nesting m parent number set'
-      → Reads bytes (read_node nesting m parent (stream_at bytes place)) (NodeStored place count token (set token (count - place.allowed) (number * 8 + set'))) (Read
+      → Reads bytes (read_node nesting m parent (stream_at bytes place)) (NodeStored place count token (set token (count - place.allowed) (number * 8 + set'))) (Ok
       (past_node place 11))
   unfolding tokens before alone
   atom-step {number} {set'} o =
       reads (leaf (record { number = number; set = set' })) o.reading o.inside (record { stored = refl; counted = omega (arith, o.some_allowed) })
 
   -- The step of an AND or OR, by that of its children.
-  pub join_step : {kind count' : ℕ} {token' : List ℕ} {step : Step} → JoinOpened bytes place nesting m parent kind count' → place.allowed ≤ count
+  pub join_step : {kind count' : ℕ} {token' : List ℕ} {step : Result Place Refusal} → JoinOpened bytes place nesting m parent kind count' → place.allowed ≤ count
       → Reads bytes (read_parts (read_node (nesting - 1) m kind) count' (stream_at bytes (past_node place 10)))
       (PartsStored (past_node place 10) count (set token (count - place.allowed) (16777216 + count')) token') step
       → Reads bytes (read_node nesting m parent (stream_at bytes place)) (NodeStored place count token token') step
@@ -252,17 +255,17 @@ parts_next one zero s h = absurd (h refl)
 parts_next one (suc children) s h = let e : suc children - 1 ≡ children = omega arith in rw e
 
 module _ (one : Stream → Reading (Node NumberedAtom)) (children : ℕ) {bytes : List ℕ} {place : Place} {count : ℕ} {token : List ℕ} where
-  parts-done : Inside bytes place → children ≡ 0 → Reads bytes (read_parts one children (stream_at bytes place)) (PartsStored place count token token) (Read place)
+  parts-done : Inside bytes place → children ≡ 0 → Reads bytes (read_parts one children (stream_at bytes place)) (PartsStored place count token token) (Ok place)
   unfolding read_parts tokens
   parts-done inside z = reads end (rw z) inside (record { stored = refl; counted = omega arith })
 
-  module _ {token₁ : List ℕ} {step : Step} (some : children ≡ 0 → ⊥) (first : Reads bytes (one (stream_at bytes place)) (NodeStored place count token token₁) step)
+  module _ {token₁ : List ℕ} {step : Result Place Refusal} (some : children ≡ 0 → ⊥) (first : Reads bytes (one (stream_at bytes place)) (NodeStored place count token token₁) step)
     where
-      parts-refused : {number : ℕ} → step ≡ Refused number → {token₂ : List ℕ}
-          → Reads bytes (read_parts one children (stream_at bytes place)) (PartsStored place count token token₂) (Refused number)
+      parts-refused : {refusal : Refusal} → step ≡ Err refusal → {token₂ : List ℕ}
+          → Reads bytes (read_parts one children (stream_at bytes place)) (PartsStored place count token token₂) (Err refusal)
       parts-refused e = same-reading (parts_next one children (stream_at bytes place) some) (refuses-first (rest_of_parts one (children - 1)) first e)
 
-      parts-read : {after : Place} {token₂ : List ℕ} {next : Step} → step ≡ Read after → place.allowed ≤ count
+      parts-read : {after : Place} {token₂ : List ℕ} {next : Result Place Refusal} → step ≡ Ok after → place.allowed ≤ count
           → Reads bytes (read_parts one (children - 1) (stream_at bytes after)) (PartsStored after count token₁ token₂) next
           → Reads bytes (read_parts one children (stream_at bytes place)) (PartsStored place count token token₂) next
       parts-read {after} e le rest =
@@ -276,39 +279,39 @@ module _ (one : Stream → Reading (Node NumberedAtom)) (children : ℕ) {bytes 
           })))
 
 -- The places that a node's step leaves allowed.
-allowed-after : {bytes : List ℕ} {place : Place} {count : ℕ} {token token₁ : List ℕ} {reading : Reading (Node NumberedAtom)} {step : Step} {after : Place}
-    → Reads bytes reading (NodeStored place count token token₁) step → step ≡ Read after → after.allowed ≤ place.allowed
+allowed-after : {bytes : List ℕ} {place : Place} {count : ℕ} {token token₁ : List ℕ} {reading : Reading (Node NumberedAtom)} {step : Result Place Refusal} {after : Place}
+    → Reads bytes reading (NodeStored place count token token₁) step → step ≡ Ok after → after.allowed ≤ place.allowed
 unfolding Does
 allowed-after h e = omega (arith, (rw e at h).does.3.counted)
 
--- What is left of an AND's or OR's children: as those that are left are read, so are all of them.
-pub record PartsLeft (one : Stream → Reading (Node NumberedAtom)) (bytes : List ℕ) (count children : ℕ) (start : Place) (token₀ : List ℕ) (left : ℕ) (place : Place)
+-- What is left of an AND's or OR's children after i of them: as those that are left are read, so are all of them.
+pub record PartsLeft (one : Stream → Reading (Node NumberedAtom)) (bytes : List ℕ) (count children : ℕ) (start : Place) (token₀ : List ℕ) (i : ℕ) (place : Place)
     (token : List ℕ) : Type 0 where
   pub inside : Inside bytes place
   pub allows : place.allowed ≤ count
-  pub tape : length token ≡ length token₀
-  pub whole : {token₂ : List ℕ} {step : Step} → Reads bytes (read_parts one left (stream_at bytes place)) (PartsStored place count token token₂) step
+  pub whole : {token₂ : List ℕ} {step : Result Place Refusal} → Reads bytes (read_parts one (children - i) (stream_at bytes place)) (PartsStored place count token token₂) step
       → Reads bytes (read_parts one children (stream_at bytes start)) (PartsStored start count token₀ token₂) step
 
 module _ (one : Stream → Reading (Node NumberedAtom)) {bytes : List ℕ} {count children : ℕ} {start : Place} {token₀ : List ℕ} where
-  pub parts-begin : Inside bytes start → start.allowed ≤ count → PartsLeft one bytes count children start token₀ children start token₀
-  parts-begin inside allows = record { inside = inside; allows = allows; tape = refl; whole = λ {token₂} {step} rest. rest }
+  pub parts-begin : Inside bytes start → start.allowed ≤ count → PartsLeft one bytes count children start token₀ 0 start token₀
+  parts-begin inside allows =
+      let all : children - 0 ≡ children = omega arith in
+      record { inside = inside; allows = allows; whole = λ {token₂} {step} rest. rw all at rest }
 
-  module _ {left : ℕ} {place : Place} {token : List ℕ} (l : PartsLeft one bytes count children start token₀ left place token) where
-    pub parts-end : left ≤ 0 → Reads bytes (read_parts one children (stream_at bytes start)) (PartsStored start count token₀ token) (Read place)
-    parts-end h = l.whole (parts-done one left l.inside (omega arith))
+  module _ {i : ℕ} {place : Place} {token : List ℕ} (l : PartsLeft one bytes count children start token₀ i place token) where
+    pub parts-end : children ≤ i → Reads bytes (read_parts one children (stream_at bytes start)) (PartsStored start count token₀ token) (Ok place)
+    parts-end h = l.whole (parts-done one (children - i) l.inside (omega arith))
 
-    module _ {token₁ : List ℕ} {step : Step} (more : 0 < left) (first : Reads bytes (one (stream_at bytes place)) (NodeStored place count token token₁) step) where
-      pub parts-stop : {number : ℕ} → step ≡ Refused number → {token₂ : List ℕ}
-          → Reads bytes (read_parts one children (stream_at bytes start)) (PartsStored start count token₀ token₂) (Refused number)
-      parts-stop e = l.whole (parts-refused one left (omega arith) first e)
+    module _ {token₁ : List ℕ} {step : Result Place Refusal} (more : i < children) (first : Reads bytes (one (stream_at bytes place)) (NodeStored place count token token₁) step) where
+      pub parts-stop : {refusal : Refusal} → step ≡ Err refusal → {token₂ : List ℕ}
+          → Reads bytes (read_parts one children (stream_at bytes start)) (PartsStored start count token₀ token₂) (Err refusal)
+      parts-stop e = l.whole (parts-refused one (children - i) (omega arith) first e)
 
-      pub parts-go-on : {after : Place} → step ≡ Read after → length token₁ ≡ length token
-          → PartsLeft one bytes count children start token₀ (left - 1) after token₁
-      parts-go-on {after} e t =
+      pub parts-go-on : {after : Place} → step ≡ Ok after → PartsLeft one bytes count children start token₀ (i + 1) after token₁
+      parts-go-on {after} e =
+          let fewer : children - (i + 1) ≡ children - i - 1 = omega arith in
           record {
             inside = inside-after first e;
             allows = omega (arith, allowed-after first e, l.allows);
-            tape = t ∙ l.tape;
-            whole = λ {token₂} {step} rest. l.whole (parts-read one left (omega arith) first e l.allows rest);
+            whole = λ {token₂} {step} rest. l.whole (parts-read one (children - i) (omega arith) first e l.allows (rw fewer at rest));
           }

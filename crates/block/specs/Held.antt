@@ -1,12 +1,14 @@
--- A block as the arrays that hold it, and what reading a run of bytes gives: a block's arrays, or a refusal's number and empty arrays.
+-- A block as the arrays that hold it, and what reading a run of bytes gives: a block's arrays, or a refusal.
 -- An array is 0 wherever nothing is stored.
-use Rattle.std.specs.Prelude.{List, [], ◌∷◌, ◌++◌, map, ℕ, suc, ◌+◌, ◌*◌, ◌≤◌, ℤ, pos, length, replicate}
+use Rattle.std.specs.Prelude.{◌≡◌, Result, Ok, Err, List, [], ◌∷◌, ◌++◌, map, ℕ, suc, ◌+◌, ◌*◌, ◌≤◌, ℤ, pos, length, replicate}
+use Rattle.std.proofs.Common.{sym, ap, ◌∙◌}
 use Rattle.std.proofs.lemmas.List.Edits.{sets}
 use Rattle.rules.specs.Polynomial.{Term, Polynomial}
 use Rattle.rules.specs.Formula.{Parts, end, atom, and, or, Node, leaf, all_of, any_of, children, nodes, alone}
-use Rattle.rules.specs.Block.{NumberedAtom, Block, Reading, refused, read}
+use Rattle.rules.specs.Block.{NumberedAtom, Block, Reading, refused, read, read_block}
 use Rattle.block.specs.declared.Held.{Held}
-use Rattle.block.specs.declared.Outcome.{Outcome}
+use Rattle.block.specs.Refusals.{number_of, same_refusal}
+use Rattle.block.specs.declared.Refusal.{Refusal}
 
 -- Polynomial i has its terms in the slot of sixteen places from 16 * i on: one part of each term, the coefficient or the monomial, of the
 -- polynomials from number i on.
@@ -79,6 +81,25 @@ held_over coefficient monomial terms token block =
 unfoldable pub held_of : Block → Held
 held_of block = held_over (replicate 1024 (pos 0)) (replicate 1024 0) (replicate 64 0) (replicate 255 0) block
 
-unfoldable pub outcome_of : Reading Block → Outcome
-outcome_of (refused number) = record { refusal = number; held = nothing }
-outcome_of (read block rest) = record { refusal = 0; held = held_of block }
+-- What reading gives: the book's refusal, or what the book's block has in the arrays.
+unfoldable pub HeldBy : Reading Block → Result Held Refusal → Type 0
+HeldBy (refused number) (Err refusal) = number ≡ number_of refusal
+HeldBy (refused number) (Ok held) = ⊥
+HeldBy (read block rest) (Err refusal) = ⊥
+HeldBy (read block rest) (Ok held) = held ≡ held_of block
+
+pub record HeldFound (bytes : List ℕ) (outcome : Result Held Refusal) : Type 0 where
+  pub found : HeldBy (read_block bytes) outcome
+
+-- It is all that reading gives: no other outcome is found in the same bytes.
+one_outcome : (reading : Reading Block) (outcome other : Result Held Refusal) → HeldBy reading outcome → HeldBy reading other → outcome ≡ other
+unfolding HeldBy
+one_outcome (refused number) (Err refusal) (Err refusal') e f = ap Err (same_refusal refusal refusal' (sym e ∙ f))
+one_outcome (refused number) (Err refusal) (Ok held) e f = absurd f
+one_outcome (refused number) (Ok held) other e f = absurd e
+one_outcome (read block rest) (Err refusal) other e f = absurd e
+one_outcome (read block rest) (Ok held) (Err refusal) e f = absurd f
+one_outcome (read block rest) (Ok held) (Ok held') e f = ap Ok (e ∙ sym f)
+
+pub held-found-once : (bytes : List ℕ) {outcome other : Result Held Refusal} → HeldFound bytes outcome → HeldFound bytes other → outcome ≡ other
+held-found-once bytes e f = one_outcome (read_block bytes) _ _ e.found f.found

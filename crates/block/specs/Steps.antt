@@ -1,29 +1,22 @@
 -- What the steps of the reader say: each does what the book's reading of the same part does, and stores what was read.
-use Rattle.std.specs.Prelude.{◌≡◌, Bool, true, false, List, map, ℕ, ◌+◌, ◌-◌, ◌*◌, ◌^◌, ◌≤◌, ◌<◌, ℤ, length, take, drop, set}
+use Rattle.std.specs.Prelude.{◌≡◌, Option, None, Some, Result, Ok, Err, Bool, true, false, List, map, ℕ, ◌+◌, ◌-◌, ◌*◌, ◌^◌, ◌≤◌, ◌<◌, ℤ, length, take, drop, set}
 use Rattle.std.proofs.lemmas.List.Edits.{sets}
 use Rattle.rules.specs.Polynomial.{Term, Polynomial}
 use Rattle.rules.specs.Bits.{value, unpack}
 use Rattle.rules.specs.Formula.{Parts, Node, leaf, alone, nodes}
 use Rattle.rules.specs.Block.{NumberedAtom, Block, edition2, edition_of, Stream, Reading, refused, read, afterwards, read_exponents}
 use Rattle.rules.specs.Block.{read_parts, read_node, joined, read_end, read_body, read_block}
+use Rattle.block.specs.Refusals.{number_of}
 use Rattle.block.specs.Held.{slots, tokens, kind_of, held_by, held_over}
+use Rattle.block.specs.declared.Refusal.{Refusal}
 use Rattle.block.specs.declared.Held.{Held}
 use Rattle.block.specs.declared.Place.{Place}
-use Rattle.block.specs.declared.Step.{Step}
-use Rattle.block.specs.declared.Step.TheVariants.{Refused, Read}
 use Rattle.block.specs.declared.Fields.{Fields}
 use Rattle.block.specs.declared.Exponents.{Exponents}
-use Rattle.block.specs.declared.Exponents.TheVariants.{Refused as NoExponents, Number}
 use Rattle.block.specs.declared.Head.{Head}
-use Rattle.block.specs.declared.Head.TheVariants.{Refused as NoHead, Numbers}
 use Rattle.block.specs.declared.Opening.{Opening}
-use Rattle.block.specs.declared.Opening.TheVariants.{Refused as NoNode, Atom, Join}
-use Rattle.block.specs.declared.Root.{Root}
-use Rattle.block.specs.declared.Root.TheVariants.{Refused as NoTree, Kind}
+use Rattle.block.specs.declared.Opening.TheVariants.{Atom, Join}
 use Rattle.block.specs.declared.Contents.{Contents}
-use Rattle.block.specs.declared.Contents.TheVariants.{Refused as NoBlock, Numbers as BlockNumbers}
-use Rattle.block.specs.declared.Few.{Few}
-use Rattle.block.specs.declared.Few.TheVariants.{More, Read as ReadFew}
 
 -- The stream at a place of the input.
 abbrev pub stream_at : List ℕ → Place → Stream
@@ -40,11 +33,11 @@ pub record Left (bytes : List ℕ) (place : Place) (rest : ℕ) : Type 0 where
   pub up_to_end : place.at + rest ≡ 8 * length bytes
 
 -- A step refuses with the number of the book's reading, or goes on at its place, with what it read stored.
-unfoldable pub Does : {A : Type 0} → List ℕ → Reading A → (A → Place → Type 0) → Step → Type 0
-Does bytes reading Stored (Refused number) = reading ≡ refused number
-Does {A} bytes reading Stored (Read place) = (a : A) × (reading ≡ read a (stream_at bytes place)) × Inside bytes place × Stored a place
+unfoldable pub Does : {A : Type 0} → List ℕ → Reading A → (A → Place → Type 0) → Result Place Refusal → Type 0
+Does bytes reading Stored (Err refusal) = reading ≡ refused (number_of refusal)
+Does {A} bytes reading Stored (Ok place) = (a : A) × (reading ≡ read a (stream_at bytes place)) × Inside bytes place × Stored a place
 
-pub record Reads {A : Type 0} (bytes : List ℕ) (reading : Reading A) (Stored : A → Place → Type 0) (step : Step) : Type 0 where
+pub record Reads {A : Type 0} (bytes : List ℕ) (reading : Reading A) (Stored : A → Place → Type 0) (step : Result Place Refusal) : Type 0 where
   pub does : Does bytes reading Stored step
 
 -- ---- the table
@@ -65,11 +58,11 @@ pub record PairsRead (bytes : List ℕ) (place : Place) (n exponents behind : �
   pub inside : Inside bytes (record { at = behind; allowed = place.allowed })
   pub small : exponents < 2 ^ (4 * n)
 
-unfoldable pub ExponentsOf : List ℕ → Place → ℕ → Exponents → Type 0
-ExponentsOf bytes place n (NoExponents number) = read_exponents edition2 n (stream_at bytes place) ≡ refused number
-ExponentsOf bytes place n (Number exponents behind) = PairsRead bytes place n exponents behind
+unfoldable pub ExponentsOf : List ℕ → Place → ℕ → Result Exponents Refusal → Type 0
+ExponentsOf bytes place n (Err refusal) = read_exponents edition2 n (stream_at bytes place) ≡ refused (number_of refusal)
+ExponentsOf bytes place n (Ok pairs) = PairsRead bytes place n pairs.exponents pairs.behind
 
-pub record ExponentsFound (bytes : List ℕ) (place : Place) (n : ℕ) (exponents : Exponents) : Type 0 where
+pub record ExponentsFound (bytes : List ℕ) (place : Place) (n : ℕ) (exponents : Result Exponents Refusal) : Type 0 where
   pub found : ExponentsOf bytes place n exponents
 
 -- A step leaves as many nodes allowed as before, and stores in the arrays of terms: one term at the place k,
@@ -121,12 +114,12 @@ pub record JoinOpened (bytes : List ℕ) (place : Place) (nesting m parent kind 
   pub some_nesting : 0 < nesting
   pub children_small : children < 256
 
-unfoldable pub Opens : List ℕ → Place → ℕ → ℕ → ℕ → Opening → Type 0
-Opens bytes place nesting m parent (NoNode number) = read_node nesting m parent (stream_at bytes place) ≡ refused number
-Opens bytes place nesting m parent (Atom number set) = AtomOpened bytes place nesting m parent number set
-Opens bytes place nesting m parent (Join kind children) = JoinOpened bytes place nesting m parent kind children
+unfoldable pub Opens : List ℕ → Place → ℕ → ℕ → ℕ → Result Opening Refusal → Type 0
+Opens bytes place nesting m parent (Err refusal) = read_node nesting m parent (stream_at bytes place) ≡ refused (number_of refusal)
+Opens bytes place nesting m parent (Ok (Atom number set)) = AtomOpened bytes place nesting m parent number set
+Opens bytes place nesting m parent (Ok (Join kind children)) = JoinOpened bytes place nesting m parent kind children
 
-pub record Opened (bytes : List ℕ) (place : Place) (nesting m parent : ℕ) (opening : Opening) : Type 0 where
+pub record Opened (bytes : List ℕ) (place : Place) (nesting m parent : ℕ) (opening : Result Opening Refusal) : Type 0 where
   pub opens : Opens bytes place nesting m parent opening
 
 -- The nodes that the head allows have a token each, so with `count` of them in all the next token goes to the place `count` less the nodes still allowed.
@@ -160,26 +153,28 @@ pub record TreeStored (bytes : List ℕ) (place : Place) (count m : ℕ) (token 
   pub stored : token' ≡ sets token (count - place.allowed) (tokens (alone tree))
   pub counted : nodes (alone tree) ≡ place.allowed
 
-unfoldable pub RootOf : List ℕ → Place → ℕ → ℕ → List ℕ → List ℕ → Root → Type 0
-RootOf bytes place count m token token' (NoTree number) = (n : ℕ) (table : List Polynomial) → read_tree n m table (stream_at bytes place) ≡ refused number
-RootOf bytes place count m token token' (Kind kind) = TreeStored bytes place count m token token' kind
+unfoldable pub RootOf : List ℕ → Place → ℕ → ℕ → List ℕ → List ℕ → Result ℕ Refusal → Type 0
+RootOf bytes place count m token token' (Err refusal) =
+    (n : ℕ) (table : List Polynomial) → read_tree n m table (stream_at bytes place) ≡ refused (number_of refusal)
+RootOf bytes place count m token token' (Ok kind) = TreeStored bytes place count m token token' kind
 
-pub record RootFound (bytes : List ℕ) (place : Place) (count m : ℕ) (token token' : List ℕ) (root : Root) : Type 0 where
+pub record RootFound (bytes : List ℕ) (place : Place) (count m : ℕ) (token token' : List ℕ) (root : Result ℕ Refusal) : Type 0 where
   pub found : RootOf bytes place count m token token' root
 
 -- The head is as the book wants it: the rest decides.
-pub record HeadHeld (bytes : List ℕ) (edition n m count : ℕ) : Type 0 where
-  pub reading : read_block bytes ≡ read_body (edition_of edition) n m (stream_at bytes (record { at = 40; allowed = count }))
-  pub inside : Inside bytes (record { at = 40; allowed = count })
-  pub variables : n ≤ 16
-  pub polynomials : m ≤ 64
-  pub nodes : count ≤ 255
+pub record HeadHeld (bytes : List ℕ) (head : Head) : Type 0 where
+  pub reading : read_block bytes
+      ≡ read_body (edition_of head.edition) head.variables head.polynomials (stream_at bytes (record { at = 40; allowed = head.nodes }))
+  pub inside : Inside bytes (record { at = 40; allowed = head.nodes })
+  pub variables : head.variables ≤ 16
+  pub polynomials : head.polynomials ≤ 64
+  pub nodes : head.nodes ≤ 255
 
-unfoldable pub HeadOf : List ℕ → Head → Type 0
-HeadOf bytes (NoHead number) = read_block bytes ≡ refused number
-HeadOf bytes (Numbers edition variables polynomials nodes) = HeadHeld bytes edition variables polynomials nodes
+unfoldable pub HeadOf : List ℕ → Result Head Refusal → Type 0
+HeadOf bytes (Err refusal) = read_block bytes ≡ refused (number_of refusal)
+HeadOf bytes (Ok head) = HeadHeld bytes head
 
-pub record HeadFound (bytes : List ℕ) (head : Head) : Type 0 where
+pub record HeadFound (bytes : List ℕ) (head : Result Head Refusal) : Type 0 where
   pub found : HeadOf bytes head
 
 -- ---- the whole block
@@ -191,36 +186,35 @@ pub record BlockStored (bytes : List ℕ) (coefficient : List ℤ) (monomial ter
   pub reading : read_block bytes ≡ read block rest
   pub stored : held ≡ held_over coefficient monomial terms token block
 
-unfoldable pub ContentsOf : List ℕ → List ℤ → List ℤ → List ℕ → List ℕ → List ℕ → List ℕ → List ℕ → List ℕ → Contents → Type 0
-ContentsOf bytes coefficient coefficient' monomial monomial' terms terms' token token' (NoBlock number) = read_block bytes ≡ refused number
-ContentsOf bytes coefficient coefficient' monomial monomial' terms terms' token token' (BlockNumbers variables polynomials root tokens) =
-    BlockStored bytes coefficient monomial terms token (held_by variables polynomials root tokens coefficient' monomial' terms' token')
+unfoldable pub ContentsOf : List ℕ → List ℤ → List ℤ → List ℕ → List ℕ → List ℕ → List ℕ → List ℕ → List ℕ → Result Contents Refusal → Type 0
+ContentsOf bytes coefficient coefficient' monomial monomial' terms terms' token token' (Err refusal) = read_block bytes ≡ refused (number_of refusal)
+ContentsOf bytes coefficient coefficient' monomial monomial' terms terms' token token' (Ok contents) =
+    BlockStored bytes coefficient monomial terms token
+    (held_by contents.variables contents.polynomials contents.root contents.tokens coefficient' monomial' terms' token')
 
-pub record ContentsFound (bytes : List ℕ) (coefficient coefficient' : List ℤ) (monomial monomial' terms terms' token token' : List ℕ) (contents : Contents)
-    : Type 0 where
+pub record ContentsFound (bytes : List ℕ) (coefficient coefficient' : List ℤ) (monomial monomial' terms terms' token token' : List ℕ)
+    (contents : Result Contents Refusal) : Type 0 where
   pub found : ContentsOf bytes coefficient coefficient' monomial monomial' terms terms' token token' contents
 
 -- What is held has at most so many polynomials.
-unfoldable pub AtMost : ℕ → Contents → Type 0
-AtMost most (NoBlock number) = Unit {0}
-AtMost most (BlockNumbers variables polynomials root tokens) = polynomials ≤ most
+unfoldable pub AtMost : ℕ → Result Contents Refusal → Type 0
+AtMost most (Err refusal) = Unit {0}
+AtMost most (Ok contents) = contents.polynomials ≤ most
 
-pub record HasAtMost (most : ℕ) (contents : Contents) : Type 0 where
+pub record HasAtMost (most : ℕ) (contents : Result Contents Refusal) : Type 0 where
   pub has : AtMost most contents
 
 -- Reading a block of few polynomials finds the same, or that the head gives more than sixteen.
 pub record MorePolynomials (bytes : List ℕ) : Type 0 where
-  pub edition : ℕ
-  pub variables : ℕ
-  pub polynomials : ℕ
-  pub nodes : ℕ
-  pub head : HeadHeld bytes edition variables polynomials nodes
-  pub many : 16 < polynomials
+  pub head : Head
+  pub held : HeadHeld bytes head
+  pub many : 16 < head.polynomials
 
-unfoldable pub FewOf : List ℕ → List ℤ → List ℤ → List ℕ → List ℕ → List ℕ → List ℕ → List ℕ → List ℕ → Few → Type 0
-FewOf bytes coefficient coefficient' monomial monomial' terms terms' token token' More = MorePolynomials bytes
-FewOf bytes coefficient coefficient' monomial monomial' terms terms' token token' (ReadFew contents) =
+unfoldable pub FewOf : List ℕ → List ℤ → List ℤ → List ℕ → List ℕ → List ℕ → List ℕ → List ℕ → List ℕ → Option (Result Contents Refusal) → Type 0
+FewOf bytes coefficient coefficient' monomial monomial' terms terms' token token' None = MorePolynomials bytes
+FewOf bytes coefficient coefficient' monomial monomial' terms terms' token token' (Some contents) =
     ContentsFound bytes coefficient coefficient' monomial monomial' terms terms' token token' contents × HasAtMost 16 contents
 
-pub record FewFound (bytes : List ℕ) (coefficient coefficient' : List ℤ) (monomial monomial' terms terms' token token' : List ℕ) (few : Few) : Type 0 where
+pub record FewFound (bytes : List ℕ) (coefficient coefficient' : List ℤ) (monomial monomial' terms terms' token token' : List ℕ)
+    (few : Option (Result Contents Refusal)) : Type 0 where
   pub found : FewOf bytes coefficient coefficient' monomial monomial' terms terms' token token' few

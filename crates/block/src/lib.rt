@@ -6,12 +6,98 @@
 ghost use Rattle.std.specs.Prelude.{◌||◌, ◌≡◌, ◌+◌, ◌-◌, ◌*◌, ◌^◌, ◌≤◌, ◌<◌, ltb, length};
 ghost use Rattle.rules.specs.Block.{Block, edition1, edition2, edition_number, edition_of, head_edition, signed, read_term as read_term_of, read_terms as read_terms_of};
 ghost use Rattle.rules.specs.Block.{read_polynomial as read_polynomial_of, read_table as read_table_of, read_node, read_parts, read_end as read_end_of, read_block};
-ghost use Rattle.block.specs.Held.{nothing, BlockRoom, RoomFor, outcome_of};
+ghost use Rattle.block.specs.Refusals.{number_of, refusal_by};
+ghost use Rattle.block.specs.Held.{BlockRoom, RoomFor, HeldFound};
 ghost use Rattle.block.specs.Steps.{stream_at, Inside, Left, Reads, ceiling, FieldsAt, TermStored, TermsStored, PolynomialStored, TableStored};
 ghost use Rattle.block.specs.Steps.{ExponentsFound, Opened, NodeStored, PartsStored, Ends, RootFound, HeadHeld, HeadFound, ContentsFound, HasAtMost, FewFound};
 
 use bits::get;
-use pairs::{Told, tell};
+use pairs::{PairsFault, tell};
+
+// Why a run of bytes is no block: 01, "Refusal numbers", 2 to 15, and 02, #109, 21 to 23.
+#[derive(Clone, Copy, Debug, PartialEq, Eq)]
+pub enum Refusal {
+    // 2: "input under 5 bytes"
+    InputUnderFiveBytes,
+    // 3: "edition not 1"; since #109 "neither 1 nor 2"
+    UnknownEdition,
+    // 4: "length field differs from input length"
+    LengthDiffers,
+    // 5: "n, m or node count not allowed"
+    CountNotAllowed,
+    // 6: "bits end inside a field"
+    EndsInsideField,
+    // 7: "term count 0 or above 16"
+    TermCount,
+    // 8: "magnitude 0"
+    MagnitudeZero,
+    // 9: "exponents do not fall strictly"
+    ExponentsNotFalling,
+    // 10: "kind 3"
+    KindThree,
+    // 11: "polynomial number m or above"
+    PolynomialNumber,
+    // 12: "AND under AND or OR under OR"
+    SameKindAbove,
+    // 13: "nesting above 6"
+    NestingAboveSix,
+    // 14: "more or fewer nodes than the head says"
+    NodesDiffer,
+    // 15: "padding not zero, or a whole byte left over"
+    PaddingOrByteLeft,
+    // 21: "pair count above n"
+    PairCountAboveN,
+    // 22: "variable numbers not rising or not below n"
+    VariablesNotRising,
+    // 23: "exponent 0"
+    ExponentZero,
+}
+
+impl Refusal {
+    // The number that the documents give it.
+    pub fn number(self) -> u8
+        ensures { result ≡ number_of self }
+    {
+        match self {
+            Refusal::InputUnderFiveBytes => 2,
+            Refusal::UnknownEdition => 3,
+            Refusal::LengthDiffers => 4,
+            Refusal::CountNotAllowed => 5,
+            Refusal::EndsInsideField => 6,
+            Refusal::TermCount => 7,
+            Refusal::MagnitudeZero => 8,
+            Refusal::ExponentsNotFalling => 9,
+            Refusal::KindThree => 10,
+            Refusal::PolynomialNumber => 11,
+            Refusal::SameKindAbove => 12,
+            Refusal::NestingAboveSix => 13,
+            Refusal::NodesDiffer => 14,
+            Refusal::PaddingOrByteLeft => 15,
+            Refusal::PairCountAboveN => 21,
+            Refusal::VariablesNotRising => 22,
+            Refusal::ExponentZero => 23,
+        }
+    }
+}
+
+impl From<Refusal> for u8 {
+    ghost from_gives = { λ refusal number. number ≡ number_of refusal };
+
+    fn from(refusal: Refusal) -> u8 {
+        refusal.number()
+    }
+}
+
+impl From<PairsFault> for Refusal {
+    ghost from_gives = { λ fault refusal. refusal ≡ refusal_by fault };
+
+    fn from(fault: PairsFault) -> Refusal {
+        match fault {
+            PairsFault::NotRising => Refusal::VariablesNotRising,
+            PairsFault::SomeZero => Refusal::ExponentZero,
+        }
+    }
+}
 
 // What a block holds, in arrays that are 0 wherever nothing is stored.
 #[derive(Clone, Copy)]
@@ -19,6 +105,7 @@ pub struct Held {
     pub variables: usize,
     pub polynomials: usize,
     // the kind of the tree's root: 0 is an atom, 1 is AND, 2 is OR
+    // kept: a number, since it is the block's own two bits, and the writer takes and writes it as such
     pub root: u8,
     // how many tokens there are
     pub tokens: usize,
@@ -31,23 +118,13 @@ pub struct Held {
     pub token: [u32; 255],
 }
 
-// What reading gives: a refusal's number and nothing held, or 0 and what the block holds.
+// What reading into lent arrays gives: the four numbers that `Held` has beside its arrays.
 #[derive(Clone, Copy)]
-pub struct Outcome {
-    pub refusal: u8,
-    pub held: Held,
-}
-
-// What reading into lent arrays gives: a refusal's number, or the four numbers that `Held` has beside its arrays.
-#[derive(Clone, Copy)]
-pub enum Contents {
-    Refused(u8),
-    Numbers {
-        variables: usize,
-        polynomials: usize,
-        root: u8,
-        tokens: usize,
-    },
+pub struct Contents {
+    pub variables: usize,
+    pub polynomials: usize,
+    pub root: u8,
+    pub tokens: usize,
 }
 
 // Where the reader stands: the next bit, and how many nodes the head still allows.
@@ -55,13 +132,6 @@ pub enum Contents {
 struct Place {
     at: usize,
     allowed: usize,
-}
-
-// What a step finds: a refusal's number, or the place behind what it read.
-#[derive(Clone, Copy)]
-enum Step {
-    Refused(u8),
-    Read(Place),
 }
 
 // ---- the table of polynomials
@@ -126,60 +196,56 @@ fn read_term(
     k: usize,
     first: bool,
     above: u64,
-) -> Step
+) -> Result<Place, Refusal>
     requires { Inside src.now place × (n ≤ 16) × (k < length coefficient.old) × (k < length monomial.old) }
     ensures { Reads src.now (read_term_of edition1 n (ceiling first n above) (stream_at src.now place))
         (TermStored place k coefficient.old coefficient.new monomial.old monomial.new) result }
 {
     let at = place.at;
     if left(src, place) < 32 + 4 * n {
-        return Step::Refused(6);
+        return Err(Refusal::EndsInsideField);
     }
     let fields = term_fields(src, at, n);
     let magnitude = fields.word % 2147483648;
     if magnitude == 0 {
-        return Step::Refused(8);
+        return Err(Refusal::MagnitudeZero);
     }
     if !falls(fields.exponents, first, above) {
-        return Step::Refused(9);
+        return Err(Refusal::ExponentsNotFalling);
     }
     coefficient[k] = coefficient_of(fields.word / 2147483648, magnitude);
     monomial[k] = fields.exponents;
-    Step::Read(Place {
+    Ok(Place {
         at: at + (32 + 4 * n),
         allowed: place.allowed,
     })
 }
 
-// What the pairs of a term are: a refusal's number, or the exponents as one number and the bit behind the pairs.
+// What the pairs of a term are: the exponents as one number, and the bit behind the pairs.
 #[derive(Clone, Copy)]
-enum Exponents {
-    Refused(u8),
-    Number { exponents: u64, behind: usize },
+struct Exponents {
+    exponents: u64,
+    behind: usize,
 }
 
 // The exponents of a term in edition 2, from its pair count on: "21, 6 for the pairs, 22, 23".
-fn read_pairs(src: &[u8], place: Place, n: usize) -> Exponents
+fn read_pairs(src: &[u8], place: Place, n: usize) -> Result<Exponents, Refusal>
     requires { Inside src.now place × (place.at + 5 ≤ 8 * length src.now) × (n ≤ 16) }
     ensures { ExponentsFound src.now place n result }
 {
     let at = place.at;
     let count = get(src, at, 5) as usize;
     if n < count {
-        return Exponents::Refused(21);
+        return Err(Refusal::PairCountAboveN);
     }
     if left(src, place) < 5 + 8 * count {
-        return Exponents::Refused(6);
+        return Err(Refusal::EndsInsideField);
     }
-    let told = tell(src, at + 5, n, count);
-    match told {
-        Told::NotRising => Exponents::Refused(22),
-        Told::SomeZero => Exponents::Refused(23),
-        Told::Exponents(exponents) => Exponents::Number {
-            exponents,
-            behind: at + (5 + 8 * count),
-        },
-    }
+    let exponents = tell(src, at + 5, n, count)?;
+    Ok(Exponents {
+        exponents,
+        behind: at + (5 + 8 * count),
+    })
 }
 
 // A term of n variables in edition 2, stored at the place k: "6 as far as the pair count, 8, 21, 6 for the pairs, 22, 23, 9".
@@ -192,38 +258,33 @@ fn read_paired_term(
     k: usize,
     first: bool,
     above: u64,
-) -> Step
+) -> Result<Place, Refusal>
     requires { Inside src.now place × (n ≤ 16) × (k < length coefficient.old) × (k < length monomial.old) }
     ensures { Reads src.now (read_term_of edition2 n (ceiling first n above) (stream_at src.now place))
         (TermStored place k coefficient.old coefficient.new monomial.old monomial.new) result }
 {
     let at = place.at;
     if left(src, place) < 37 {
-        return Step::Refused(6);
+        return Err(Refusal::EndsInsideField);
     }
     let magnitude = get(src, at + 1, 31);
     if magnitude == 0 {
-        return Step::Refused(8);
+        return Err(Refusal::MagnitudeZero);
     }
     let count = Place {
         at: at + 32,
         allowed: place.allowed,
     };
-    let found = read_pairs(src, count, n);
-    match found {
-        Exponents::Refused(number) => Step::Refused(number),
-        Exponents::Number { exponents, behind } => {
-            if !falls(exponents, first, above) {
-                return Step::Refused(9);
-            }
-            coefficient[k] = coefficient_of(get(src, at, 1), magnitude);
-            monomial[k] = exponents;
-            Step::Read(Place {
-                at: behind,
-                allowed: place.allowed,
-            })
-        }
+    let pairs = read_pairs(src, count, n)?;
+    if !falls(pairs.exponents, first, above) {
+        return Err(Refusal::ExponentsNotFalling);
     }
+    coefficient[k] = coefficient_of(get(src, at, 1), magnitude);
+    monomial[k] = pairs.exponents;
+    Ok(Place {
+        at: pairs.behind,
+        allowed: place.allowed,
+    })
 }
 
 // A term of n variables in an edition, stored at the place k.
@@ -237,7 +298,7 @@ fn read_term_in(
     k: usize,
     first: bool,
     above: u64,
-) -> Step
+) -> Result<Place, Refusal>
     requires { Inside src.now place × (n ≤ 16) × (k < length coefficient.old) × (k < length monomial.old) }
     ensures { Reads src.now (read_term_of (edition_of edition) n (ceiling first n above) (stream_at src.now place))
         (TermStored place k coefficient.old coefficient.new monomial.old monomial.new) result }
@@ -258,7 +319,7 @@ fn read_terms(
     n: usize,
     k: usize,
     count: usize,
-) -> Step
+) -> Result<Place, Refusal>
     requires { Inside src.now place × (n ≤ 16) × (k + count ≤ length coefficient.old) × (k + count ≤ length monomial.old) × (count ≤ 16) }
     ensures { Reads src.now (read_terms_of (edition_of edition) count n (2 ^ (4 * n)) (stream_at src.now place))
         (TermsStored place k coefficient.old coefficient.new monomial.old monomial.new) result }
@@ -266,9 +327,8 @@ fn read_terms(
     let mut next = place;
     let mut first = true;
     let mut above: u64 = 0;
-    let mut i = 0;
-    while i < count {
-        let step = read_term_in(
+    for i in 0..count {
+        next = read_term_in(
             src,
             coefficient,
             monomial,
@@ -278,20 +338,11 @@ fn read_terms(
             k + i,
             first,
             above,
-        );
-        match step {
-            Step::Refused(number) => {
-                return Step::Refused(number);
-            }
-            Step::Read(after) => {
-                next = after;
-                first = false;
-                above = monomial[k + i];
-                i += 1;
-            }
-        }
+        )?;
+        first = false;
+        above = monomial[k + i];
     }
-    Step::Read(next)
+    Ok(next)
 }
 
 // A polynomial of n variables, stored as number i.
@@ -304,7 +355,7 @@ fn read_polynomial(
     edition: u64,
     n: usize,
     i: usize,
-) -> Step
+) -> Result<Place, Refusal>
     requires { Inside src.now place × (n ≤ 16)
         × (16 * i + 16 ≤ length coefficient.old) × (16 * i + 16 ≤ length monomial.old) × (i < length counts.old) × (i < 64) }
     ensures { Reads src.now (read_polynomial_of (edition_of edition) n (stream_at src.now place))
@@ -313,14 +364,14 @@ fn read_polynomial(
 {
     let at = place.at;
     if left(src, place) < 5 {
-        return Step::Refused(6);
+        return Err(Refusal::EndsInsideField);
     }
     let count = get(src, at, 5);
     if count == 0 {
-        return Step::Refused(7);
+        return Err(Refusal::TermCount);
     }
     if 16 < count {
-        return Step::Refused(7);
+        return Err(Refusal::TermCount);
     }
     counts[i] = count as u8;
     let first = Place {
@@ -349,7 +400,7 @@ fn read_table(
     edition: u64,
     n: usize,
     m: usize,
-) -> Step
+) -> Result<Place, Refusal>
     requires { Inside src.now place × (n ≤ 16) × (m ≤ 64)
         × (16 * m ≤ length coefficient.old) × (16 * m ≤ length monomial.old) × (m ≤ length counts.old) }
     ensures { Reads src.now (read_table_of (edition_of edition) m n (stream_at src.now place))
@@ -357,74 +408,69 @@ fn read_table(
         counts.old counts.new) result }
 {
     let mut next = place;
-    let mut i = 0;
-    while i < m {
-        let step = read_polynomial(src, coefficient, monomial, counts, next, edition, n, i);
-        match step {
-            Step::Refused(number) => {
-                return Step::Refused(number);
-            }
-            Step::Read(after) => {
-                next = after;
-                i += 1;
-            }
-        }
+    for i in 0..m {
+        next = read_polynomial(src, coefficient, monomial, counts, next, edition, n, i)?;
     }
-    Step::Read(next)
+    Ok(next)
 }
 
 // ---- the tree
 
-// What a node begins with: a refusal's number, an atom, or the kind and the number of children of an AND or OR.
+// What a node begins with: an atom, or the kind and the number of children of an AND or OR.
 #[derive(Clone, Copy)]
 enum Opening {
-    Refused(u8),
     Atom { number: u64, set: u64 },
     Join { kind: u64, children: u64 },
 }
 
 // What the node at a place begins with, under a parent of that kind (0 at the root), where so many nestings are still allowed.
-fn open_node(src: &[u8], place: Place, nesting: usize, parent: u64, m: u64) -> Opening
+fn open_node(
+    src: &[u8],
+    place: Place,
+    nesting: usize,
+    parent: u64,
+    m: u64,
+) -> Result<Opening, Refusal>
     requires { Inside src.now place }
     ensures { Opened src.now place nesting m parent result }
 {
     let at = place.at;
     let rest = left(src, place);
     if place.allowed == 0 {
-        return Opening::Refused(14);
+        return Err(Refusal::NodesDiffer);
     }
     if rest < 2 {
-        return Opening::Refused(6);
+        return Err(Refusal::EndsInsideField);
     }
     let kind = get(src, at, 2);
     if kind == 3 {
-        return Opening::Refused(10);
+        return Err(Refusal::KindThree);
     }
     if kind == 0 {
         if rest < 11 {
-            return Opening::Refused(6);
+            return Err(Refusal::EndsInsideField);
         }
         let both = get(src, at + 2, 9);
         let number = both / 8;
         if m <= number {
-            return Opening::Refused(11);
+            return Err(Refusal::PolynomialNumber);
         }
-        return Opening::Atom {
+        return Ok(Opening::Atom {
             number,
             set: both % 8,
-        };
+        });
     }
     if rest < 10 {
-        return Opening::Refused(6);
+        return Err(Refusal::EndsInsideField);
     }
     if kind == parent {
-        return Opening::Refused(12);
+        return Err(Refusal::SameKindAbove);
     }
     if nesting == 0 {
-        return Opening::Refused(13);
+        return Err(Refusal::NestingAboveSix);
     }
     let children = get(src, at + 2, 8);
-    Opening::Join { kind, children }
+    Ok(Opening::Join { kind, children })
 }
 
 // The node at a place: its tokens go behind those of the nodes read so far, of the `count` that the head gives.
@@ -437,19 +483,18 @@ fn read_node(
     nesting: usize,
     parent: u64,
     m: u64,
-) -> Step
+) -> Result<Place, Refusal>
     requires { Inside src.now place × (place.allowed ≤ count) × (count ≤ length token.old) }
     ensures { Reads src.now (read_node nesting m parent (stream_at src.now place))
         (NodeStored place count token.old token.new) result }
 {
     let at = place.at;
     let allowed = place.allowed;
-    let opening = open_node(src, place, nesting, parent, m);
+    let opening = open_node(src, place, nesting, parent, m)?;
     match opening {
-        Opening::Refused(number) => Step::Refused(number),
         Opening::Atom { number, set } => {
             token[count - allowed] = (number * 8 + set) as u32;
-            Step::Read(Place {
+            Ok(Place {
                 at: at + 11,
                 allowed: allowed - 1,
             })
@@ -476,71 +521,52 @@ fn read_parts(
     parent: u64,
     m: u64,
     children: u64,
-) -> Step
+) -> Result<Place, Refusal>
     requires { Inside src.now place × (place.allowed ≤ count) × (count ≤ length token.old) × (children < 256) }
     ensures { Reads src.now (read_parts (read_node nesting m parent) children (stream_at src.now place))
         (PartsStored place count token.old token.new) result }
 {
     let mut next = place;
-    let mut left = children;
-    while 0 < left {
-        left -= 1;
-        let step = read_node(src, token, next, count, nesting, parent, m);
-        match step {
-            Step::Refused(number) => {
-                return Step::Refused(number);
-            }
-            Step::Read(after) => {
-                next = after;
-            }
-        }
+    for _ in 0..children {
+        next = read_node(src, token, next, count, nesting, parent, m)?;
     }
-    Step::Read(next)
+    Ok(next)
 }
 
 // "At the end 14, then 15."
-fn read_end(src: &[u8], place: Place) -> Step
+fn read_end(src: &[u8], place: Place) -> Result<Place, Refusal>
     requires { Inside src.now place }
     ensures { (block : Block) → Reads src.now (read_end_of block (stream_at src.now place)) (Ends block place) result }
 {
     let at = place.at;
     if place.allowed != 0 {
-        return Step::Refused(14);
+        return Err(Refusal::NodesDiffer);
     }
     let rest = left(src, place);
     if 8 <= rest {
-        return Step::Refused(15);
+        return Err(Refusal::PaddingOrByteLeft);
     }
     if get(src, at, rest) != 0 {
-        return Step::Refused(15);
+        return Err(Refusal::PaddingOrByteLeft);
     }
-    Step::Read(place)
+    Ok(place)
 }
 
-// What reading the tree finds: a refusal's number, or the kind of the root.
-#[derive(Clone, Copy)]
-enum Root {
-    Refused(u8),
-    Kind(u8),
-}
-
-// The tree and the end.
-fn read_tree(src: &[u8], token: &mut [u32], place: Place, count: usize, m: u64) -> Root
+// The tree and the end: the kind of the root.
+fn read_tree(
+    src: &[u8],
+    token: &mut [u32],
+    place: Place,
+    count: usize,
+    m: u64,
+) -> Result<u8, Refusal>
     requires { Inside src.now place × (place.allowed ≤ count) × (count ≤ length token.old) }
     ensures { RootFound src.now place count m token.old token.new result }
 {
     let at = place.at;
-    let step = read_node(src, token, place, count, 6, 0, m);
-    match step {
-        Step::Refused(number) => Root::Refused(number),
-        Step::Read(after) => {
-            let last = read_end(src, after);
-            match last {
-                Step::Refused(number) => Root::Refused(number),
-                Step::Read(_) => Root::Kind(get(src, at, 2) as u8),
-            }
-        }
-    }
+    let after = read_node(src, token, place, count, 6, 0, m)?;
+    read_end(src, after)?;
+    Ok(get(src, at, 2) as u8)
 }
 
 // ---- the whole block
@@ -558,76 +584,53 @@ pub fn edition(src: &[u8]) -> u64
     2
 }
 
-// What the head holds: a refusal's number, or the edition, the variable count, the polynomial count and the node count.
+// What the head holds: the edition, the variable count, the polynomial count and the node count.
 #[derive(Clone, Copy)]
-enum Head {
-    Refused(u8),
-    Numbers {
-        edition: u64,
-        variables: usize,
-        polynomials: usize,
-        nodes: usize,
-    },
+struct Head {
+    edition: u64,
+    variables: usize,
+    polynomials: usize,
+    nodes: usize,
 }
 
 // "1 to 5 are tried in that order; 5 in field order." (1 is about the output.)
-fn read_head(src: &[u8]) -> Head
+fn read_head(src: &[u8]) -> Result<Head, Refusal>
     ensures { HeadFound src.now result }
 {
     if src.len() < 5 {
-        return Head::Refused(2);
+        return Err(Refusal::InputUnderFiveBytes);
     }
     let edition = get(src, 0, 4);
     if edition == 0 {
-        return Head::Refused(3);
+        return Err(Refusal::UnknownEdition);
     }
     if 2 < edition {
-        return Head::Refused(3);
+        return Err(Refusal::UnknownEdition);
     }
     if get(src, 24, 16) != src.len() as u64 {
-        return Head::Refused(4);
+        return Err(Refusal::LengthDiffers);
     }
     let variables = get(src, 4, 5) as usize;
     if variables == 0 {
-        return Head::Refused(5);
+        return Err(Refusal::CountNotAllowed);
     }
     if 16 < variables {
-        return Head::Refused(5);
+        return Err(Refusal::CountNotAllowed);
     }
     let polynomials = get(src, 9, 7) as usize;
     if 64 < polynomials {
-        return Head::Refused(5);
+        return Err(Refusal::CountNotAllowed);
     }
     let nodes = get(src, 16, 8) as usize;
     if nodes == 0 {
-        return Head::Refused(5);
+        return Err(Refusal::CountNotAllowed);
     }
-    Head::Numbers {
+    Ok(Head {
         edition,
         variables,
         polynomials,
         nodes,
-    }
-}
-
-// Nothing but a refusal's number.
-fn refusal(number: u8) -> Outcome
-    ensures { result ≡ record { refusal = number; held = nothing } }
-{
-    let held = Held {
-        variables: 0,
-        polynomials: 0,
-        root: 0,
-        tokens: 0,
-        coefficient: [0; 1024],
-        monomial: [0; 1024],
-        terms: [0; 64],
-        token: [0; 255],
-    };
-    Outcome {
-        refusal: number,
-        held,
-    }
+    })
 }
 
 // What stands behind the head.
@@ -637,44 +640,33 @@ fn read_body(
     monomial: &mut [u64],
     terms: &mut [u8],
     token: &mut [u32],
-    edition: u64,
-    variables: usize,
-    polynomials: usize,
-    nodes: usize,
-) -> Contents
-    requires { HeadHeld src.now edition variables polynomials nodes × RoomFor polynomials nodes coefficient.old monomial.old terms.old token.old }
+    head: Head,
+) -> Result<Contents, Refusal>
+    requires { HeadHeld src.now head × RoomFor head.polynomials head.nodes coefficient.old monomial.old terms.old token.old }
     ensures { ContentsFound src.now coefficient.old coefficient.new monomial.old monomial.new
-        terms.old terms.new token.old token.new result × HasAtMost polynomials result }
+        terms.old terms.new token.old token.new result × HasAtMost head.polynomials result }
 {
     let start = Place {
         at: 40,
-        allowed: nodes,
+        allowed: head.nodes,
     };
-    let step = read_table(
+    let after = read_table(
         src,
         coefficient,
         monomial,
         terms,
         start,
-        edition,
-        variables,
-        polynomials,
-    );
-    match step {
-        Step::Refused(number) => Contents::Refused(number),
-        Step::Read(after) => {
-            let found = read_tree(src, token, after, nodes, polynomials as u64);
-            match found {
-                Root::Refused(number) => Contents::Refused(number),
-                Root::Kind(root) => Contents::Numbers {
-                    variables,
-                    polynomials,
-                    root,
-                    tokens: nodes,
-                },
-            }
-        }
-    }
+        head.edition,
+        head.variables,
+        head.polynomials,
+    )?;
+    let root = read_tree(src, token, after, head.nodes, head.polynomials as u64)?;
+    Ok(Contents {
+        variables: head.variables,
+        polynomials: head.polynomials,
+        root,
+        tokens: head.nodes,
+    })
 }
 
 // Reads a block and stores what it holds over what the lent arrays hold.
@@ -684,107 +676,58 @@ pub fn read_into(
     monomial: &mut [u64],
     terms: &mut [u8],
     token: &mut [u32],
-) -> Contents
+) -> Result<Contents, Refusal>
     requires { BlockRoom coefficient.old monomial.old terms.old token.old }
     ensures { ContentsFound src.now coefficient.old coefficient.new monomial.old monomial.new
         terms.old terms.new token.old token.new result }
 {
-    let numbers = read_head(src);
-    match numbers {
-        Head::Refused(number) => Contents::Refused(number),
-        Head::Numbers {
-            edition,
-            variables,
-            polynomials,
-            nodes,
-        } => read_body(
-            src,
-            coefficient,
-            monomial,
-            terms,
-            token,
-            edition,
-            variables,
-            polynomials,
-            nodes,
-        ),
-    }
+    let head = read_head(src)?;
+    read_body(src, coefficient, monomial, terms, token, head)
 }
 
-// What reading a block of few polynomials gives: that it has more, or what reading into lent arrays gives.
-#[derive(Clone, Copy)]
-pub enum Few {
-    More,
-    Read(Contents),
-}
-
-// The same as `read_into` for a block of at most sixteen polynomials, in arrays with room for these; of one with more no more than the head is read.
+// The same as `read_into` for a block of at most sixteen polynomials, in arrays with room for these; None for a block with more, of which no more than
+// the head is read.
 pub fn read_few_into(
     src: &[u8],
     coefficient: &mut [i32],
     monomial: &mut [u64],
     terms: &mut [u8],
     token: &mut [u32],
-) -> Few
+) -> Option<Result<Contents, Refusal>>
     requires { RoomFor 16 255 coefficient.old monomial.old terms.old token.old }
     ensures { FewFound src.now coefficient.old coefficient.new monomial.old monomial.new
         terms.old terms.new token.old token.new result }
 {
-    let numbers = read_head(src);
-    match numbers {
-        Head::Refused(number) => Few::Read(Contents::Refused(number)),
-        Head::Numbers {
-            edition,
-            variables,
-            polynomials,
-            nodes,
-        } => {
-            if 16 < polynomials {
-                return Few::More;
+    let head = read_head(src);
+    // kept: a `?` would give the refusal back bare, and here it is one of the outcomes of a block of few polynomials
+    match head {
+        Err(refusal) => Some(Err(refusal)),
+        Ok(head) => {
+            if 16 < head.polynomials {
+                return None;
             }
-            Few::Read(read_body(
-                src,
-                coefficient,
-                monomial,
-                terms,
-                token,
-                edition,
-                variables,
-                polynomials,
-                nodes,
-            ))
+            Some(read_body(src, coefficient, monomial, terms, token, head))
         }
     }
 }
 
 // Reads a block.
-pub fn read(src: &[u8]) -> Outcome
-    ensures { result ≡ outcome_of (read_block src.now) }
+pub fn read(src: &[u8]) -> Result<Held, Refusal>
+    ensures { HeldFound src.now result }
 {
     let mut coefficient = [0i32; 1024];
     let mut monomial = [0u64; 1024];
     let mut terms = [0u8; 64];
     let mut token = [0u32; 255];
-    let contents = read_into(src, &mut coefficient, &mut monomial, &mut terms, &mut token);
-    match contents {
-        Contents::Refused(number) => refusal(number),
-        Contents::Numbers {
-            variables,
-            polynomials,
-            root,
-            tokens,
-        } => {
-            let held = Held {
-                variables,
-                polynomials,
-                root,
-                tokens,
-                coefficient,
-                monomial,
-                terms,
-                token,
-            };
-            Outcome { refusal: 0, held }
-        }
-    }
+    let contents = read_into(src, &mut coefficient, &mut monomial, &mut terms, &mut token)?;
+    Ok(Held {
+        variables: contents.variables,
+        polynomials: contents.polynomials,
+        root: contents.root,
+        tokens: contents.tokens,
+        coefficient,
+        monomial,
+        terms,
+        token,
+    })
 }

@@ -1,7 +1,7 @@
 -- The words of all atoms of a list, column by column: bit j of a word is about the atom at place j. What all columns tell of an atom, and which
 -- atoms a word still has: those that may pass a test as q2.
 use Rattle.std.specs.Prelude.{◌≡◌, refl, Bool, true, false, ◌&&◌, ◌||◌, List, ◌⊎◌, ℕ, ◌+◌, ◌-◌, ◌*◌, ◌/◌, ◌%◌, ◌^◌, ◌≤◌, ◌<◌, length, get_or, set}
-use Rattle.std.proofs.Common.{sym, ap, ap₂, ◌∙◌, subst, inl, inr, zero-add, one-mul, mod-eq_of_lt, lt_of_le_of_lt, arith, length-set, get_or-set_same, get_or-set_other, eqb-true}
+use Rattle.std.proofs.Common.{sym, ap, ◌∙◌, subst, inl, inr, zero-add, one-mul, mod-eq_of_lt, lt_of_le_of_lt, arith, length-set, get_or-set_same, get_or-set_other, eqb-true}
 use Rattle.std.proofs.Math.Decide.{ℕ_discrete}
 use Rattle.std.specs.Int.Bits.{bit_and, bit_or, bit_xor}
 use Rattle.std.proofs.lemmas.Nat.{and_le_l}
@@ -148,6 +148,13 @@ LeftAbove columns p q1 set1 r = Left columns (λ (q2 : Mask) (set2 : SignSet). n
 abbrev pub LeftBelow : List ℕ → Mask → Mask → SignSet → ℕ → Type 0
 LeftBelow columns p q1 set1 r =
     Left columns (λ (q2 : Mask) (set2 : SignSet). non_negative (kind set1) && some_second (joined p (swapped q1)) q2 (kind set2)) r
+
+-- with a u of one sign, q having the words of u·q1, if it is allowed; and with p and q1, if the test can cut the set
+abbrev pub LeftWith : List ℕ → Bool → Mask → Mask → ℕ → Type 0
+LeftWith columns allowed p q r = Left columns (λ (q2 : Mask) (set2 : SignSet). allowed && some_second (joined p q) q2 (kind set2)) r
+
+abbrev pub LeftIf : List ℕ → Bool → Mask → Mask → SignSet → ℕ → Type 0
+LeftIf columns cuts p q1 set1 r = Left columns (λ (q2 : Mask) (set2 : SignSet). cuts && some_both p q1 (kind set1) q2 (kind set2)) r
 
 abbrev pub LeftCutting : Side → List ℕ → Mask → Mask → SignSet → SignSet → ℕ → Type 0
 LeftCutting side columns p q1 set1 set r =

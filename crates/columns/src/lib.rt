@@ -3,13 +3,8 @@
 
 #![tactic(auto)]
 
-ghost use Rattle.std.specs.Prelude.{◌≡◌, ◌&&◌, true, ◌+◌, ◌<◌, ◌≤◌, length};
-ghost use Rattle.rules.specs.Signs.{SignSet, kind};
-ghost use Rattle.rules.specs.TwoAtoms.{non_positive as non_positive_of, non_negative as non_negative_of};
-ghost use Rattle.deduction_laws.specs.FractionSets.{L, U};
-ghost use Rattle.masks.specs.Masks.{joined as joined_of, swapped as swapped_of, some_second, some_both, cuts};
-ghost use Rattle.masks.specs.declared.Mask.{Mask as MaskOf};
-ghost use Rattle.columns.specs.Columns.{Put, PutIf, Spread, Took, LeftOf, LeftAbove, LeftBelow, LeftCutting, Candidates, Still, Next};
+ghost use Rattle.std.specs.Prelude.{◌≡◌, ◌<◌, ◌≤◌, length};
+ghost use Rattle.columns.specs.Columns.{Put, PutIf, Spread, Took, LeftOf, LeftWith, LeftIf, Candidates, Still, Next};
 
 use masks::Mask;
 use masks::cutting::swapped;
@@ -17,28 +12,25 @@ use two_atoms::finding::{non_negative, non_positive};
 
 // ---- what is written
 
-// Bit j, put into the columns of each bit of a word, those from a place on.
-fn spread(word: u64, from: usize, j: usize, columns: &mut [u64])
-    requires { (j < 64) × ((from ≤ 64) × (length columns.old ≡ 130)) }
-    ensures { Spread columns.old word from j columns.new }
-{
-    let own = 1u64 << j;
-    let mut rest = word;
-    while rest != 0 {
-        let k = u64::trailing_zeros(rest) as usize;
-        let column = columns[from + k];
-        columns[from + k] = column | own;
-        rest = rest - (1u64 << k);
-    }
-}
-
 // Bit j, put into one column.
 fn put(k: usize, j: usize, columns: &mut [u64])
     requires { (j < 64) × ((k < 130) × (length columns.old ≡ 130)) }
     ensures { Put columns.old k j columns.new }
 {
-    let column = columns[k];
-    columns[k] = column | (1u64 << j);
+    columns[k] |= 1u64 << j;
+}
+
+// Bit j, put into the columns of each bit of a word, those from a place on.
+fn spread(word: u64, from: usize, j: usize, columns: &mut [u64])
+    requires { (j < 64) × ((from ≤ 64) × (length columns.old ≡ 130)) }
+    ensures { Spread columns.old word from j columns.new }
+{
+    let mut rest = word;
+    while rest != 0 {
+        let k = u64::trailing_zeros(rest) as usize;
+        put(from + k, j, columns);
+        rest = rest - (1u64 << k);
+    }
 }
 
 // Bit j, put into one column if a test holds.
@@ -84,60 +76,39 @@ fn left_of(n: u64, p: u64, columns: &[u64]) -> u64
     low | high
 }
 
-// With a u above 0, if u·q1 is never positive for it.
-fn left_above(p: Mask, q1: Mask, set1: u8, columns: &[u64]) -> u64
+// And with a u of one sign, if u·q1 is never positive for it; q has the words of u·q1.
+fn left_with(allowed: bool, p: Mask, q: Mask, columns: &[u64]) -> u64
     requires { length columns.now ≡ 130 }
-    ensures { LeftAbove columns.now p q1 set1 result }
+    ensures { LeftWith columns.now allowed p q result }
 {
-    if non_positive(set1) {
-        return left_of(p.negative | q1.negative, p.positive | q1.positive, columns);
+    if allowed {
+        return left_of(p.negative | q.negative, p.positive | q.positive, columns);
     }
     0
 }
 
-// And with a u below 0.
-fn left_below(p: Mask, q1: Mask, set1: u8, columns: &[u64]) -> u64
+// And with a u of either sign, for a test that can cut the set.
+fn left_cutting(cuts: bool, p: Mask, q1: Mask, set1: u8, columns: &[u64]) -> u64
     requires { length columns.now ≡ 130 }
-    ensures { LeftBelow columns.now p q1 set1 result }
+    ensures { LeftIf columns.now cuts p q1 set1 result }
 {
-    if non_negative(set1) {
-        return left_of(p.negative | q1.positive, p.positive | q1.negative, columns);
-    }
-    0
-}
-
-// The atoms with which the test ≥ may cut a set: none if it is > already.
-fn left_raising(p: Mask, q1: Mask, set1: u8, set: u8, columns: &[u64]) -> u64
-    requires { length columns.now ≡ 130 }
-    ensures { LeftCutting L columns.now p q1 set1 set result }
-{
-    if 2 <= set {
-        return left_above(p, q1, set1, columns) | left_below(p, q1, set1, columns);
-    }
-    0
-}
-
-// And the mirrored one: none if it is < already.
-fn left_lowering(p: Mask, q1: Mask, set1: u8, set: u8, columns: &[u64]) -> u64
-    requires { length columns.now ≡ 130 }
-    ensures { LeftCutting U columns.now p q1 set1 set result }
-{
-    if set % 4 == 0 {
+    if !cuts {
         return 0;
     }
-    let face = swapped(p);
-    left_above(face, q1, set1, columns) | left_below(face, q1, set1, columns)
+    left_with(non_positive(set1), p, q1, columns)
+        | left_with(non_negative(set1), p, swapped(q1), columns)
 }
 
-// The atoms whose tries with p and q1 may cut a set of p.
+// The atoms whose tries with p and q1 may cut a set of p: the test ≥ does not if it is > already, nor the mirrored one if it is <.
 pub fn candidates(p: Mask, q1: Mask, set1: u8, set: u8, columns: &[u64]) -> u64
     requires { length columns.now ≡ 130 }
     ensures { Candidates columns.now p q1 set1 set result }
 {
     if 8 <= set {
-        return 18446744073709551615;
+        return u64::MAX;
     }
-    left_raising(p, q1, set1, set, columns) | left_lowering(p, q1, set1, set, columns)
+    left_cutting(2 <= set, p, q1, set1, columns)
+        | left_cutting(set % 4 != 0, swapped(p), q1, set1, columns)
 }
 
 // The next place from j on, below n, whose bit is set; n, or one above it, if there is none.
@@ -162,5 +133,5 @@ pub fn still(word: u64, before: u8, after: u8) -> u64
     if before == after {
         return word;
     }
-    18446744073709551615
+    u64::MAX
 }

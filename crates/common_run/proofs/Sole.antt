@@ -1,10 +1,8 @@
 -- Who takes a sign out, after one more atom; and the slots that are marked because their atoms alone take one out.
-use mathlib.Core.Path.{◌≡◌, refl, sym, ◌∙◌, ap, subst}
+use mathlib.Core.Path.{◌≡◌, sym, subst}
 use mathlib.Core.Bool.{true}
-use mathlib.Core.Logic.{dite, inl, inr}
 use mathlib.Core.List.{List}
 use Prim.Native.Nat.{ℕ, suc, ◌-◌, ◌/◌, ◌%◌, ◌<◌}
-use native.Mathlib.Decide.{ℕ_discrete}
 use native.Mathlib.Omega.{arith}
 use lib.ListN.{get_or}
 use Rattle.rules.specs.Signs.{Sign, negative, nought, positive, only}
@@ -14,20 +12,6 @@ use Rattle.common_run.specs.Takers.{taker_of, Taker, Taken, SoleMarked, NeededMa
 use Rattle.common_run.proofs.Marking.{grows-itself, grows-on}
 
 -- ---- one more atom, of slot k
-
-module _ (by before after k : ℕ) where
-  pub left_alone : before ≡ after → Taker by before after k by
-  left_alone e = record { same = λ q. refl; some = λ d. absurd (d e); other = λ d. absurd (d e) }
-
-  pub its_own : {r : ℕ} → r ≡ suc k → (before ≡ after → ⊥) → Taker by before after k r
-  its_own e d = record { same = λ q. absurd (d q); some = λ f z. omega arith; other = λ f x low sole. inl (λ q. sole (e ∙ ap suc q)) }
-
-  pub of-several : (by ≡ 0 → ⊥) → (by ≡ suc k → ⊥) → (before ≡ after → ⊥) → Taker by before after k 65
-  of-several some not_own d = record {
-    same = λ q. absurd (d q);
-    some = λ f z. omega arith;
-    other = λ f x low sole. dite (ℕ_discrete k x) (λ (q : k ≡ x). inr (some, λ z. not_own (z ∙ ap suc (sym q)))) (λ (q : k ≡ x → ⊥). inl q);
-  }
 
 -- of the three signs
 pub no-taker : {takers : Takers} → takers.negative ≡ 0 → takers.nought ≡ 0 → takers.positive ≡ 0 → (s : Sign) → taker_of takers s ≡ 0

@@ -21,12 +21,7 @@ pub fn stored(boards: Boards, board: Board, round: usize) -> Boards
     ensures { StoredAt boards.sets board.sets round result.sets }
 {
     let mut more = boards;
-    let mut i = 0;
-    while i < 16 {
-        let set = board.sets[i];
-        more.sets[16 * round + i] = set;
-        i += 1;
-    }
+    more.sets[16 * round..16 * round + 16].copy_from_slice(&board.sets);
     more
 }
 
@@ -36,11 +31,7 @@ pub fn restored(boards: Boards, board: Board, round: usize) -> Board
     ensures { (result.variables ≡ board.variables) × (sets_of result ≡ board_at boards.sets round board.variables) }
 {
     let mut left = board;
-    let mut i = 0;
-    while i < 16 {
-        let set = boards.sets[16 * round + i];
-        left.sets[i] = set;
-        i += 1;
-    }
+    left.sets
+        .copy_from_slice(&boards.sets[16 * round..16 * round + 16]);
     left
 }

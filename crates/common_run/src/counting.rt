@@ -85,9 +85,9 @@ fn by_common(
     common: Common,
     k: usize,
 ) -> usize
-    requires fact { let t = lent_table coefficient monomial terms variables in
+    requires others_afresh { let t = lent_table coefficient monomial terms variables in
         Forms t × AfreshFrom t settled (atoms_of t others) }
-    requires fact_2 { let t = lent_table coefficient monomial terms variables in
+    requires without_slot { let t = lent_table coefficient monomial terms variables in
         (k < 64) × (common.known ≡ true → Without t settled common k (atoms_of t others)) }
     ensures { let t = lent_table coefficient.entry monomial.entry terms.entry variables in
         result ≡ max largest (run_count variables (atoms_of t others)) }
@@ -131,9 +131,9 @@ fn form_counted(
     out: bool,
     k: usize,
 ) -> Counting
-    requires fact { let t = lent_table coefficient monomial terms variables in
+    requires remaining_known { let t = lent_table coefficient monomial terms variables in
         Forms t × (Remain t settled kept list i others × Known t settled (atoms_of t kept ++ rest t list i) before.common) }
-    requires fact_2 { let t = lent_table coefficient monomial terms variables in
+    requires slot_of_form { let t = lent_table coefficient monomial terms variables in
         (k ≡ atom_slot list.number i) × (which_of variables (form_at t k) ≡ none) }
     ensures { let t = lent_table coefficient.entry monomial.entry terms.entry variables in
         CountedOne t settled kept list i others before.rounds out result }

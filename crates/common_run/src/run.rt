@@ -22,6 +22,7 @@ use terms::{Board, few};
 
 // How many rounds were begun, the board at the start of each, and which atoms their cuts rest on and need, if the run is known; whether it has ended,
 // and whether it is one over all atoms that remain: none has gone since it was made.
+// kept: a flag beside values, no Option: the public contracts (specs/Known, specs/Run) name its fields, and stay as they are.
 #[derive(Clone, Copy)]
 pub struct Common {
     pub known: bool,
@@ -88,8 +89,7 @@ pub fn marking_run(
     let mut stood = board;
     let mut boards = no_boards();
     let mut marks = no_marks_at_all();
-    let mut round = 0u8;
-    while round < 40 {
+    for round in 0..40u8 {
         boards = stored(boards, stood, round as usize);
         if within(stood, floor, round as usize, largest) {
             return Common {
@@ -101,7 +101,6 @@ pub fn marking_run(
                 marks,
             };
         }
-        round += 1;
         let turned = turns_marking(
             coefficient,
             monomial,
@@ -110,7 +109,7 @@ pub fn marking_run(
             stood,
             atoms,
             marks,
-            round,
+            round + 1,
             floor,
         );
         let next = turned.board;
@@ -124,7 +123,7 @@ pub fn marking_run(
                 known: true,
                 ended,
                 whole: true,
-                rounds: round as usize,
+                rounds: round as usize + 1,
                 boards,
                 marks,
             };

@@ -51,8 +51,7 @@ fn cut_marking(
     let mut sofar = SignSet(old);
     let mut resting = marks.resting;
     let mut takers = no_takers();
-    let mut j = 0;
-    while j < n {
+    for j in 0..n {
         let number = atoms.number[j];
         let k = (number % 64) as usize;
         let cut = cut_by(
@@ -71,7 +70,6 @@ fn cut_marking(
         resting = marked(resting, sofar.0, left.0, k, round);
         takers = taken(takers, old, cut.0, k);
         sofar = left;
-        j += 1;
     }
     let needed = needed_marked(marks.needed, takers, round);
     Cutting {
@@ -146,8 +144,7 @@ pub fn turns_marking(
 {
     let n = board.variables;
     let mut passed = Turning { board, marks };
-    let mut i = 0;
-    while i < n {
+    for i in 0..n {
         let at = passed.board;
         let so_far = passed.marks;
         passed = turn_marking(
@@ -162,7 +159,6 @@ pub fn turns_marking(
             round,
             floor,
         );
-        i += 1;
     }
     passed
 }

@@ -1,5 +1,5 @@
 -- What the converters say: what is returned and what the lent output holds afterwards is the book's conversion; and that conversion by cases.
-use Rattle.std.specs.Prelude.{◌≡◌, refl, List, ◌++◌, ℕ, ◌≤◌, ◌<◌, leb, ℤ, pos, length, take, drop, replicate}
+use Rattle.std.specs.Prelude.{◌≡◌, refl, Result, Ok, Err, List, ◌++◌, ℕ, ◌≤◌, ◌<◌, leb, ℤ, pos, length, take, drop, replicate}
 use Rattle.std.proofs.Common.{sym, ap, ◌∙◌, zero-add, arith, le-leb}
 use Rattle.std.proofs.lemmas.List.{length-replicate}
 use Rattle.std.proofs.lemmas.List.Edits.{sets, sets-eq}
@@ -11,41 +11,43 @@ use Rattle.block_laws.specs.Sizes.{longest, longest-block}
 use Rattle.block_laws.specs.Blocks.{accepted-within}
 use Rattle.block.specs.declared.Held.{Held}
 use Rattle.block.specs.declared.Contents.{Contents}
-use Rattle.block.specs.declared.Contents.TheVariants.{Refused as NoBlock, Numbers}
+use Rattle.block.specs.declared.Refusal.{Refusal as BlockRefusal}
+use Rattle.block.specs.Refusals as block
 use Rattle.block.specs.Held.{held_by}
 use Rattle.block.specs.Steps.{ContentsOf, ContentsFound}
 use Rattle.writer.specs.Written.{Writable}
 use Rattle.array_laws.specs.Writing.{writable}
-use Rattle.convert.specs.declared.Converted.{Converted}
-use Rattle.convert.specs.declared.Converted.TheVariants.{Refused, Finished}
+use Rattle.convert.specs.declared.Refusal.{Refusal}
+use Rattle.convert.specs.declared.Refusal.TheVariants.{OutputShort, Block as BlockRefused}
+use Rattle.convert.specs.Refusals.{by_number}
 
--- The book's conversion as it is returned.
-unfoldable pub outcome_of : Conversion → Converted
-outcome_of (not_converted number) = Refused number
-outcome_of (converted bytes) = Finished (length bytes)
+-- The book's conversion as it is returned: a refusal's number, or the length of the finished block.
+unfoldable pub outcome_of : Conversion → Result ℕ ℕ
+outcome_of (not_converted number) = Err number
+outcome_of (converted bytes) = Ok (length bytes)
 
 -- A finished block goes to the output if there is room for it, else it is refused by 1.
-pub record Finishes (bytes before after : List ℕ) (returned : Converted) : Type 0 where
-  pub returns : returned ≡ outcome_of (if_room_for (leb (length bytes) (length before)) bytes)
+pub record Finishes (bytes before after : List ℕ) (returned : Result ℕ Refusal) : Type 0 where
+  pub returns : by_number returned ≡ outcome_of (if_room_for (leb (length bytes) (length before)) bytes)
   pub output : after ≡ converted_into (if_room_for (leb (length bytes) (length before)) bytes) before
 
 -- What is returned, and what the lent output holds afterwards, is the book's conversion of the bytes.
-pub record Converts (edition : Edition) (bytes before after : List ℕ) (returned : Converted) : Type 0 where
-  pub returns : returned ≡ outcome_of (convert edition (length before) bytes)
+pub record Converts (edition : Edition) (bytes before after : List ℕ) (returned : Result ℕ Refusal) : Type 0 where
+  pub returns : by_number returned ≡ outcome_of (convert edition (length before) bytes)
   pub output : after ≡ converted_into (convert edition (length before) bytes) before
 
 -- ---- a finished block
 
-pub finishes-not : (bytes before : List ℕ) → length before < length bytes → Finishes bytes before before (Refused 1)
+pub finishes-not : (bytes before : List ℕ) → length before < length bytes → Finishes bytes before before (Err OutputShort)
 unfolding if_room_for outcome_of converted_into
 finishes-not bytes before short =
     record { returns = rw (lt-leb (length bytes) (length before) short); output = rw (lt-leb (length bytes) (length before) short) }
 
 pub finishes : {bytes before after : List ℕ} {size : ℕ} → length bytes ≤ length before → size ≡ length bytes
-    → after ≡ bytes ++ drop (length bytes) before → Finishes bytes before after (Finished size)
+    → after ≡ bytes ++ drop (length bytes) before → Finishes bytes before after (Ok size)
 unfolding if_room_for outcome_of converted_into
 finishes {bytes} {before} room size_is after_is = record {
-  returns = ap Finished size_is ∙ rw (le-leb (length bytes) (length before) room);
+  returns = ap Ok size_is ∙ rw (le-leb (length bytes) (length before) room);
   output = after_is ∙ rw (le-leb (length bytes) (length before) room);
 }
 
@@ -59,13 +61,13 @@ front-again zeros bytes is size_is room =
 -- ---- what was read
 
 -- What the reader refuses is refused by its number,
-pub converts-refused : (edition : Edition) {bytes before : List ℕ} {number : ℕ} → read_block bytes ≡ refused number
-    → Converts edition bytes before before (Refused number)
+pub converts-refused : (edition : Edition) {bytes before : List ℕ} {refusal : BlockRefusal} → read_block bytes ≡ refused (block.number_of refusal)
+    → Converts edition bytes before before (Err (BlockRefused refusal))
 unfolding convert converted_to outcome_of converted_into
 converts-refused edition is = record { returns = rw is; output = rw is }
 
 -- and what it accepts is finished.
-pub converts-finished : (edition : Edition) {bytes before after : List ℕ} {returned : Converted} {block : Block} {stream : Stream}
+pub converts-finished : (edition : Edition) {bytes before after : List ℕ} {returned : Result ℕ Refusal} {block : Block} {stream : Stream}
     → read_block bytes ≡ read block stream → Finishes (write_block edition block) before after returned → Converts edition bytes before after returned
 unfolding convert converted_to
 converts-finished edition is told = record { returns = told.returns ∙ rw is; output = told.output ∙ rw is }
@@ -82,16 +84,16 @@ unfolding longest
 longest-at-most edition1 = omega arith
 longest-at-most edition2 = omega arith
 
-module _ {bytes : List ℕ} {cs : List ℤ} {ms ts token : List ℕ} {contents : Contents}
+module _ {bytes : List ℕ} {cs : List ℤ} {ms ts token : List ℕ} {contents : Result Contents BlockRefusal}
     (found : ContentsFound bytes (replicate 1024 (pos 0)) cs (replicate 1024 0) ms (replicate 64 0) ts (replicate 255 0) token contents) where
   -- The reader finds a refusal,
-  pub found-refused : {number : ℕ} → contents ≡ NoBlock number → read_block bytes ≡ refused number
+  pub found-refused : {refusal : BlockRefusal} → contents ≡ Err refusal → read_block bytes ≡ refused (block.number_of refusal)
   unfolding ContentsOf
   found-refused e = (rw e at found).found
 
   -- or a block, which can be written in either edition where there is room for 21,516 bytes.
-  pub found-accepted : {variables polynomials root count : ℕ} (edition : ℕ) → edition ≡ edition_number (edition_of edition)
-      → contents ≡ Numbers variables polynomials root count → Readable bytes edition (held_by variables polynomials root count cs ms ts token)
+  pub found-accepted : {given : Contents} (edition : ℕ) → edition ≡ edition_number (edition_of edition) → contents ≡ Ok given
+      → Readable bytes edition (held_by given.variables given.polynomials given.root given.tokens cs ms ts token)
   unfolding ContentsOf
   found-accepted edition known e =
       let stored = (rw e at found).found in

@@ -3,9 +3,9 @@
 // Below 256 it is the refusal's number, else 65,536 more than the length of the finished block.
 ghost use Rattle.std.specs.Prelude.{◌≡◌, ◌+◌, ◌<◌};
 ghost use Rattle.rules.specs.Block.{edition1, edition2};
-ghost use Rattle.convert.specs.Exported.{number_of, Short, ExportsConversion};
+ghost use Rattle.convert.specs.Exported.{number_in as number_in_of, Short, ExportsConversion};
 
-use crate::{Converted, to_edition1, to_edition2};
+use crate::{Refusal, to_edition1, to_edition2};
 
 // A block has fewer than 32,768 bytes.
 fn above(size: usize) -> u32
@@ -16,13 +16,13 @@ fn above(size: usize) -> u32
 }
 
 // A refusal's own number, or 65,536 more than the length.
-fn number_in(outcome: Converted) -> u32
+fn number_in(outcome: Result<usize, Refusal>) -> u32
     requires { Short outcome }
-    ensures { result ≡ number_of outcome }
+    ensures { result ≡ number_in_of outcome }
 {
     match outcome {
-        Converted::Refused(number) => number as u32,
-        Converted::Finished(size) => above(size),
+        Err(refusal) => refusal.number() as u32,
+        Ok(size) => above(size),
     }
 }
 

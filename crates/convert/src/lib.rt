@@ -7,19 +7,43 @@ ghost use Rattle.std.specs.Prelude.{◌≡◌, length};
 ghost use Rattle.rules.specs.Block.{Block, edition1, edition2, edition_number, edition_of, write_block};
 ghost use Rattle.block.specs.Held.{held_by, BlockRoom};
 ghost use Rattle.writer.specs.Written.{Writable, SomeWritable};
+ghost use Rattle.convert.specs.Refusals.{number_of};
+ghost use Rattle.convert.specs.declared.Refusal.TheVariants.{Block as BlockRefused};
 ghost use Rattle.convert.specs.Converted.{Finishes, Converts};
 
-use block::{Contents, read_into};
+use block::read_into;
 use lines::put_bytes;
 use writer::write;
 
 pub mod exported; // the entries for C
 
-// A refusal's number, or the length of the finished block.
-#[derive(Clone, Copy)]
-pub enum Converted {
-    Refused(u8),
-    Finished(usize),
+// Why a block is not converted.
+#[derive(Clone, Copy, Debug, PartialEq, Eq)]
+pub enum Refusal {
+    // "after all others": the output is shorter than the finished block
+    OutputShort,
+    // the reader's
+    Block(block::Refusal),
+}
+
+impl Refusal {
+    // The number that the documents give it.
+    pub fn number(self) -> u8
+        ensures { result ≡ number_of self }
+    {
+        match self {
+            Refusal::OutputShort => 1,
+            Refusal::Block(refusal) => refusal.number(),
+        }
+    }
+}
+
+impl From<block::Refusal> for Refusal {
+    ghost from_gives = { λ refusal given. given ≡ BlockRefused refusal };
+
+    fn from(refusal: block::Refusal) -> Refusal {
+        Refusal::Block(refusal)
+    }
 }
 
 // Writes the block that the arrays hold, in an edition, if the output has room for it. It is written apart first, so that its length is known before
@@ -35,7 +59,7 @@ fn finish(
     terms: &[u8],
     token: &[u32],
     output: &mut [u8],
-) -> Converted
+) -> Result<usize, Refusal>
     requires { BlockRoom coefficient.now monomial.now terms.now token.now
         × SomeWritable edition (held_by variables polynomials root tokens coefficient.now monomial.now terms.now token.now) 21516 }
     ensures { (block : Block) → Writable edition (held_by variables polynomials root tokens coefficient.now monomial.now
@@ -56,14 +80,14 @@ fn finish(
         &mut finished,
     );
     if output.len() < size {
-        return Converted::Refused(1);
+        return Err(Refusal::OutputShort);
     }
     put_bytes(output, 0, &finished[..size]);
-    Converted::Finished(size)
+    Ok(size)
 }
 
 // Reads a block and writes it in an edition.
-fn converted_to(edition: u64, input: &[u8], output: &mut [u8]) -> Converted
+fn converted_to(edition: u64, input: &[u8], output: &mut [u8]) -> Result<usize, Refusal>
     requires { edition ≡ edition_number (edition_of edition) }
     ensures { Converts (edition_of edition) input.now output.old output.new result }
 {
@@ -77,38 +101,30 @@ fn converted_to(edition: u64, input: &[u8], output: &mut [u8]) -> Converted
         &mut monomial,
         &mut terms,
         &mut token,
-    );
-    match contents {
-        Contents::Refused(number) => Converted::Refused(number),
-        Contents::Numbers {
-            variables,
-            polynomials,
-            root,
-            tokens,
-        } => finish(
-            edition,
-            variables,
-            polynomials,
-            root,
-            tokens,
-            &coefficient,
-            &monomial,
-            &terms,
-            &token,
-            output,
-        ),
-    }
+    )?;
+    finish(
+        edition,
+        contents.variables,
+        contents.polynomials,
+        contents.root,
+        contents.tokens,
+        &coefficient,
+        &monomial,
+        &terms,
+        &token,
+        output,
+    )
 }
 
 // Converts a block of either edition to edition 1: every input is converted or refused.
-pub fn to_edition1(input: &[u8], output: &mut [u8]) -> Converted
+pub fn to_edition1(input: &[u8], output: &mut [u8]) -> Result<usize, Refusal>
     ensures { Converts edition1 input.now output.old output.new result }
 {
     converted_to(1, input, output)
 }
 
 // Converts a block of either edition to edition 2: every input is converted or refused.
-pub fn to_edition2(input: &[u8], output: &mut [u8]) -> Converted
+pub fn to_edition2(input: &[u8], output: &mut [u8]) -> Result<usize, Refusal>
     ensures { Converts edition2 input.now output.old output.new result }
 {
     converted_to(2, input, output)

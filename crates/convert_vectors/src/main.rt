@@ -6,10 +6,10 @@
 
 ghost use Rattle.std.specs.Prelude.{◌≤◌};
 
-use convert::{Converted, to_edition1, to_edition2};
-use frames::Kind;
+use convert::{Refusal, to_edition1, to_edition2};
+use frames::answer_each;
 use std::io;
-use std::io::{Read, Write};
+use std::io::Write;
 
 fn wide(byte: u8) -> u64
     ensures { result ≤ 255 }
@@ -44,10 +44,13 @@ fn print_hex<W: Write>(out: &mut W, output: &[u8], size: usize) -> io::Result<()
     out.write_all(b"\n")
 }
 
-fn tell<W: Write>(out: &mut W, outcome: Converted, output: &[u8]) -> io::Result<()> {
+fn tell<W: Write>(out: &mut W, outcome: Result<usize, Refusal>, output: &[u8]) -> io::Result<()> {
     match outcome {
-        Converted::Refused(number) => writeln!(out, "REFUSED {number}"),
-        Converted::Finished(size) => print_hex(out, output, size),
+        Err(refusal) => {
+            let number = refusal.number();
+            writeln!(out, "REFUSED {number}")
+        }
+        Ok(size) => print_hex(out, output, size),
     }
 }
 
@@ -66,39 +69,13 @@ fn run<W: Write>(out: &mut W, frame: &[u8], output: &mut [u8]) -> io::Result<()>
     tell(out, second, output)
 }
 
-// One frame; whether there may be more.
-fn one<R: Read, W: Write>(
-    input: &mut R,
-    out: &mut W,
-    space: &mut [u8],
-    output: &mut [u8],
-) -> io::Result<bool> {
-    let frame = frames::next(input, space)?;
-    let n = frame.length;
-    let kind = frame.kind;
-    match kind {
-        Kind::Block => {
-            run(out, &space[..n], output)?;
-            Ok(true)
-        }
-        Kind::CutOff => {
-            out.write_all(b"CUT OFF\n")?;
-            Ok(false)
-        }
-        Kind::End => Ok(false),
-    }
-}
-
-// A proved loop has to end, and nothing says that standard input does: the turns are counted up to a number that no run reaches.
 fn main(rt: HostRuntime) -> io::Result<()> {
-    let mut input = rt.stdin();
-    let mut out = rt.stdout();
     let mut space = [0u8; 65536];
     let mut output = [0u8; 65536];
-    for _ in 0..u64::MAX {
-        if !one(&mut input, &mut out, &mut space, &mut output)? {
-            break;
-        }
-    }
-    Ok(())
+    answer_each(
+        &mut rt.stdin(),
+        &mut rt.stdout(),
+        &mut space,
+        |out, frame| run(out, frame, &mut output),
+    )
 }

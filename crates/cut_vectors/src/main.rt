@@ -4,7 +4,7 @@
 
 #![tactic(auto)]
 
-use loading::{Loaded, first_write, place, start, step};
+use loading::{first_write, place, start, step};
 use std::io;
 use std::io::{Read, Write};
 
@@ -26,38 +26,25 @@ fn nothing() -> Tally {
     }
 }
 
-// One more.
-fn more(n: u64) -> u64 {
-    if n < u64::MAX { n + 1 } else { n }
-}
-
-// Whether a block stands at the start of an image.
-fn same(image: &[u8], block: &[u8]) -> bool {
-    if image.len() < block.len() {
-        return false;
-    }
-    &image[..block.len()] == block
-}
-
 // What an image starts, counted.
 fn told(tally: Tally, image: &[u8], old: &[u8], new: &[u8]) -> Tally {
     let mut next = tally;
     let answer = start(image);
     match answer {
-        Loaded::Refused(_) => {
-            next.refused = more(tally.refused);
+        Err(_) => {
+            next.refused = tally.refused.saturating_add(1);
             next
         }
-        Loaded::Starts(size) => {
-            if size == new.len() && same(image, new) {
-                next.new = more(tally.new);
+        Ok(size) => {
+            if size == new.len() && image.starts_with(new) {
+                next.new = tally.new.saturating_add(1);
                 return next;
             }
-            if size == old.len() && same(image, old) {
-                next.old = more(tally.old);
+            if size == old.len() && image.starts_with(old) {
+                next.old = tally.old.saturating_add(1);
                 return next;
             }
-            next.other = more(tally.other);
+            next.other = tally.other.saturating_add(1);
             next
         }
     }
@@ -79,6 +66,7 @@ fn cut_in(
     let stood = image[at];
     let mut counted = tally;
     let mut v = 0;
+    // kept: no index loop, since the step is an argument
     while v < 256 {
         image[at] = (v % 256) as u8;
         counted = told(counted, image, old, block);
@@ -133,6 +121,7 @@ fn again_in(
     let at = place(block.len(), k);
     let mut counted = tally;
     let mut v: usize = 0;
+    // kept: no index loop, since four values are taken, 85 apart
     while v < 256 {
         copy(image, torn);
         put(torn, at, (v % 256) as u8);
@@ -185,17 +174,12 @@ fn load<R: Read, W: Write>(
     image: &mut [u8],
     torn: &mut [u8],
 ) -> io::Result<bool> {
-    let area = frames::next(input, space)?;
-    let n = area.length;
-    let block = frames::next(input, given)?;
-    let m = block.length;
+    let n = frames::next(input, space)?.length();
+    let m = frames::next(input, given)?.length();
     if m == 0 {
         return Ok(false);
     }
-    if image.len() < n {
-        return Ok(false);
-    }
-    if torn.len() < n {
+    if image.len() < n || torn.len() < n {
         return Ok(false);
     }
     one(

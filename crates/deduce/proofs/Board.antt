@@ -1,34 +1,36 @@
--- Whether some set of a board is empty, one variable after the other.
+-- Whether some set of a board is empty.
 -- And what is left of the deduction where none is: the finding, or nothing.
-use mathlib.Core.Path.{◌≡◌, ◌∙◌}
-use mathlib.Core.Bool.{true, false}
-use mathlib.Core.List.{List}
+use mathlib.Core.Path.{◌≡◌, refl, ap, ◌∙◌}
+use mathlib.Core.Bool.{true, false, ◌||◌}
+use mathlib.Core.List.{List, ◌∷◌}
 use mathlib.Core.Logic.{◌⊎◌, inl, inr}
-use Prim.Native.Nat.{ℕ, ◌+◌, ◌-◌, ◌<◌, ◌≤◌}
+use Prim.Native.Nat.{ℕ, zero, suc, ◌+◌, ◌≤◌}
 use native.Mathlib.Omega.{arith}
-use borrow.Author.Tests.{eq-eqb, ne_eqb}
+use borrow.Author.Tests.{ne_eqb}
 use lib.Dec.{eqb}
-use lib.ListN.{get_or}
+use lib.ListN.{length, get_or, take, drop}
+use Rattle.std.specs.List.{list_any}
+use Rattle.std.proofs.Math.Seq.{drop-cons}
+use Rattle.std.proofs.lemmas.List.Recursion.{same_from_clauses}
 use Rattle.sign_laws.specs.Booleans.{or-true}
 use Rattle.rules.specs.Signs.{SignSet, kind}
 use Rattle.rules.specs.Polynomial.{Board, Polynomial}
 use Rattle.rules.specs.Deduce.{rows, finding_of, any_empty, unless_empty, deduce}
-use Rattle.terms.specs.View.{numbers_from, numbers-cons, numbers-nil}
+use Rattle.terms.specs.View.{numbers_from}
 use Rattle.deduce.proofs.Nothing.{says_nothing}
 
--- the sets of a board from place i on, up to n
-module _ (sets : List SignSet) (i n : ℕ) where
-  pub empty-here : i < n → get_or sets i 0 ≡ 0 → any_empty (numbers_from sets i (n - i)) ≡ true
-  unfolding any_empty
-  empty-here h e = rw (numbers-cons sets i n h) (simp (eq-eqb _ _ e))
+-- the n sets from place i on
+sets-from : (sets : List SignSet) (i n : ℕ) → i + n ≤ length sets → take n (drop i sets) ≡ numbers_from sets i n
+unfolding numbers_from
+sets-from sets i zero h = refl
+sets-from sets i (suc n) h = rw (drop-cons sets i 0 (omega arith)) (ap (λ (l : List SignSet). get_or sets i 0 ∷ l) (sets-from sets (suc i) n (omega arith)))
 
-  pub empty-later : i < n → (get_or sets i 0 ≡ 0 → ⊥) → any_empty (numbers_from sets i (n - i)) ≡ any_empty (numbers_from sets (i + 1) (n - (i + 1)))
-  unfolding any_empty
-  empty-later h e = rw (numbers-cons sets i n h) (simp (ne_eqb _ _ e))
-
-  pub empty-nowhere : n ≤ i → any_empty (numbers_from sets i (n - i)) ≡ false
-  unfolding any_empty
-  empty-nowhere h = rw (numbers-nil sets i n h)
+-- whether one of the first n is empty
+pub empty-among : (sets : List SignSet) (n : ℕ) → n ≤ length sets → list_any (λ s. eqb s 0) (take n sets) ≡ any_empty (numbers_from sets 0 n)
+unfolding any_empty
+empty-among sets n h =
+    same_from_clauses (list_any (λ s. eqb s 0)) any_empty (λ s b. eqb s 0 || b) refl (λ s ss. refl) (λ s ss. refl) (take n sets)
+    ∙ ap any_empty (sets-from sets 0 n (omega arith))
 
 -- with an empty set it is empty
 pub deduce-empty : (board : Board) (p q : Polynomial) (s : SignSet) → any_empty board ≡ true → 0 ≡ deduce board p (record { polynomial = q; set = s })

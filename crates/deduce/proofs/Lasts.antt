@@ -17,7 +17,7 @@ use Rattle.deduction_laws.specs.Intervals.{Inside, interval-from}
 use Rattle.deduction_laws.specs.Exact.{has_at}
 use Rattle.deduction_laws.specs.Found.{Same, same_rows}
 use Rattle.deduction_laws.specs.Vanishing.{vanish_row, strict_where, strict-row, same-strict-rows, zero-by-sign, strict-at-one, strict-said, same-finding}
-use Rattle.deduction_laws.specs.Points.{point, inside-point, point-row, Root, root-rising, root-falling, root-row, sign-at-zero, asked-nought}
+use Rattle.deduction_laws.specs.Points.{inside-point, point-row, Root, root-rising, root-falling, root-row, sign-at-zero, asked-nought}
 use Rattle.deduction_laws.specs.Rows.{of-rows}
 use Rattle.interval.specs.declared.interval.End.{End as KeptEnd}
 use Rattle.interval.specs.Ends.{end_at, end_of, interval_of, vanishing_of}

@@ -6,7 +6,7 @@ use mathlib.Core.List.{List}
 use mathlib.Core.Logic.{◌⊎◌, inl, inr}
 use Prim.Native.Nat.{ℕ, ◌≤◌}
 use native.Mathlib.Omega.{arith}
-use Rattle.rules.specs.Signs.{SignSet, full, Kind, kind, mirror, intersect, open_signs}
+use Rattle.rules.specs.Signs.{SignSet, Kind, kind, mirror, intersect, open_signs}
 use Rattle.rules.specs.Deduce.{Row, no_t, allowed_l, allowed_u, has_t, finding_of}
 use Rattle.deduction_laws.specs.FractionSets.{L, U}
 use Rattle.deduction_laws.specs.Found.{nothing-found, none-comes-back}

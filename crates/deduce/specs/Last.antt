@@ -2,7 +2,7 @@
 use Rattle.std.specs.Prelude.{◌≡◌, Bool, true, false, not, ◌&&◌, ◌||◌, List, ℕ, eqb, ℤ, pos}
 use Rattle.rules.specs.Signs.{SignSet, Kind, ∅, >0, =0, ≥0, <0, ≠0, ≤0, any, kind, named, inside}
 use Rattle.rules.specs.Polynomial.{Board, Polynomial}
-use Rattle.rules.specs.Deduce.{Fraction, End, at, Interval, rows, is_strict}
+use Rattle.rules.specs.Deduce.{Fraction, at, rows, is_strict}
 use Rattle.deduction_laws.specs.FractionSets.{L, U, asked}
 use Rattle.deduction_laws.specs.Exact.{has_at}
 use Rattle.deduction_laws.specs.Vanishing.{strict_where}

@@ -12,11 +12,8 @@ pub fn meets(monomial: &[u64], m: u64, run: Run) -> bool
     requires { run.to ≤ length monomial.now }
     ensures { result ≡ met m (monomials_of monomial.now run) }
 {
-    let to = run.to;
-    let mut i = run.from;
-    while i < to {
+    for i in run.from..run.to {
         let its = monomial[i];
-        i += 1;
         if its <= m {
             return m == its;
         }
@@ -26,20 +23,14 @@ pub fn meets(monomial: &[u64], m: u64, run: Run) -> bool
 
 // Whether p is one such term.
 pub fn stands_alone(coefficient: &[i32], monomial: &[u64], sign: &[u8], p: Run, q: Run) -> bool
-    requires within { Within coefficient.now monomial.now sign.now p }
-    requires within_2 { Within coefficient.now monomial.now sign.now q }
+    requires within_p { Within coefficient.now monomial.now sign.now p }
+    requires within_q { Within coefficient.now monomial.now sign.now q }
     ensures { result ≡ stands_alone_of coefficient.now monomial.now sign.now p q }
 {
     let i = p.from;
-    if p.to - i != 1 {
-        return false;
-    }
-    if !asks_zero(sign[i]) {
+    if p.to - i != 1 || !asks_zero(sign[i]) {
         return false;
     }
     let a = coefficient[i];
-    if a == 0 {
-        return false;
-    }
-    !meets(monomial, monomial[i], q)
+    a != 0 && !meets(monomial, monomial[i], q)
 }

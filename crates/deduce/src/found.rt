@@ -21,13 +21,10 @@ pub fn found_at_zero(coefficient: &[i32], sign: &[u8], p: Run, set: u8, last: La
     requires zero { Zero last.t }
     ensures { FoundAtZero coefficient.now sign.now p set last result.0 }
 {
-    let to = p.to;
     let mut left = last;
-    let mut i = p.from;
-    while i < to {
+    for i in p.from..p.to {
         let a = coefficient[i];
         let s = sign[i];
-        i += 1;
         let value = sign_of(a);
         if rules_out(value, s) {
             return SignSet::FULL;
@@ -50,8 +47,8 @@ pub fn found_at(
     set: u8,
     last: Last,
 ) -> SignSet
-    requires within { Within coefficient.now monomial.now sign.now p }
-    requires within_2 { Within coefficient.now monomial.now sign.now q }
+    requires within_p { Within coefficient.now monomial.now sign.now p }
+    requires within_q { Within coefficient.now monomial.now sign.now q }
     requires there { There last.t }
     ensures { Found coefficient.now monomial.now sign.now p q set (last_of last) result.0 }
 {
@@ -78,8 +75,8 @@ pub fn found_at(
 }
 
 pub fn found(coefficient: &[i32], monomial: &[u64], sign: &[u8], p: Run, q: Run, set: u8) -> SignSet
-    requires within { Within coefficient.now monomial.now sign.now p }
-    requires within_2 { Within coefficient.now monomial.now sign.now q }
+    requires within_p { Within coefficient.now monomial.now sign.now p }
+    requires within_q { Within coefficient.now monomial.now sign.now q }
     ensures { Found coefficient.now monomial.now sign.now p q set nothing result.0 }
 {
     let p_to = p.to;

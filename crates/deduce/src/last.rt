@@ -25,31 +25,28 @@ pub struct Last {
 pub fn asks_zero(s: u8) -> bool
     ensures { result ≡ asks_zero_of (kind s) }
 {
-    if s == 5 { true } else { 7 <= s }
+    s == 5 || 7 <= s
 }
 
 // Whether a monomial leaves one t.
 pub fn leaves_one(b: i32, s: u8) -> bool
     ensures { result ≡ (not (is_zero b) && asks_zero_of (kind s)) }
 {
-    if b == 0 { false } else { asks_zero(s) }
+    b != 0 && asks_zero(s)
 }
 
 // Whether a monomial asks for a + tb = 0 at a t where it has another sign.
 pub fn rules_out(value: SignSet, s: u8) -> bool
     ensures { result ≡ (not (eqb value.0 2) && asks_zero_of (kind s)) }
 {
-    if value.0 == 2 { false } else { asks_zero(s) }
+    value.0 != 2 && asks_zero(s)
 }
 
 // Whether some monomial is strict at the t, with one more, where its a + tb has this sign.
 pub fn strict_with(before: bool, value: SignSet, s: u8) -> bool
     ensures { result ≡ (before || (is_strict_of (kind s) && not (eqb value.0 2))) }
 {
-    if before {
-        return true;
-    }
-    if is_strict(s) { value.0 != 2 } else { false }
+    before || is_strict(s) && value.0 != 2
 }
 
 // The signs of a + tb that a monomial with the set s asks for in L; U asks for the mirrored set.
@@ -64,10 +61,11 @@ pub fn asked(s: u8) -> SignSet
     }
 }
 
+// kept: `&&` under a name, since public functions keep theirs.
 pub fn both(x: bool, y: bool) -> bool
     ensures { result ≡ (x && y) }
 {
-    if x { y } else { false }
+    x && y
 }
 
 impl Last {
@@ -87,7 +85,7 @@ impl Last {
     pub fn is_gone(self) -> bool
         ensures { result ≡ not (self.l || self.u) }
     {
-        if self.l { false } else { !self.u }
+        !(self.l || self.u)
     }
 
     // What is found where no monomial is left.

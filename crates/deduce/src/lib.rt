@@ -29,16 +29,7 @@ pub struct Run {
 pub fn any_empty(board: Board) -> bool
     ensures { result ≡ any_empty_of (sets_of board) }
 {
-    let n = few(board.variables);
-    let mut i = 0;
-    while i < n {
-        let set = board.sets[i];
-        i += 1;
-        if set == 0 {
-            return true;
-        }
-    }
-    false
+    board.sets[..few(board.variables)].contains(&0)
 }
 
 // What the atom of q with this set says of p, where no set of the board is empty. ≠ and the full set say nothing.
@@ -50,18 +41,15 @@ pub fn deduce_from(
     q: Run,
     set: SignSet,
 ) -> SignSet
-    requires within { Within coefficient.now monomial.now sign.now p }
-    requires within_2 { Within coefficient.now monomial.now sign.now q }
+    requires within_p { Within coefficient.now monomial.now sign.now p }
+    requires within_q { Within coefficient.now monomial.now sign.now q }
     ensures { Deduced coefficient.now monomial.now sign.now p q set.0 result.0 }
 {
     let k = set.0;
     if k == 0 {
         return SignSet::EMPTY;
     }
-    if k == 5 {
-        return SignSet::FULL;
-    }
-    if 7 <= k {
+    if k == 5 || 7 <= k {
         return SignSet::FULL;
     }
     if stands_alone(coefficient, monomial, sign, p, q) {

@@ -77,9 +77,7 @@ impl Cuts {
     pub fn has_t(self) -> bool
         ensures { result ≡ (has_t_of (interval_of self.l) || has_t_of (interval_of self.u)) }
     {
-        let l = self.l;
-        let u = self.u;
-        if l.has_t() { true } else { u.has_t() }
+        self.l.has_t() || self.u.has_t()
     }
 }
 

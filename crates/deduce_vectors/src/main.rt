@@ -5,10 +5,10 @@
 
 use block::Held;
 use deduce::Run;
-use frames::Kind;
+use frames::answer_each;
 use signs::SignSet;
 use std::io;
-use std::io::{Read, Write};
+use std::io::Write;
 use terms::{Board, few};
 
 // The board: the atoms of the variables are the tokens from number 3 on.
@@ -44,41 +44,19 @@ fn finding(held: Held) -> SignSet {
 }
 
 fn tell<W: Write>(out: &mut W, block: &[u8]) -> io::Result<()> {
-    let outcome = block::read(block);
-    if outcome.refusal != 0 {
+    let Ok(held) = block::read(block) else {
         return out.write_all(b"REFUSED\n");
-    }
-    let found = finding(outcome.held).0;
+    };
+    let found = finding(held).0;
     writeln!(out, "{found}")
 }
 
-// One frame; whether there may be more.
-fn one<R: Read, W: Write>(input: &mut R, out: &mut W, space: &mut [u8]) -> io::Result<bool> {
-    let frame = frames::next(input, space)?;
-    let n = frame.length;
-    let kind = frame.kind;
-    match kind {
-        Kind::Block => {
-            tell(out, &space[..n])?;
-            Ok(true)
-        }
-        Kind::CutOff => {
-            out.write_all(b"CUT OFF\n")?;
-            Ok(false)
-        }
-        Kind::End => Ok(false),
-    }
-}
-
-// A proved loop has to end, and nothing says that standard input does: the turns are counted up to a number that no run reaches.
 fn main(rt: HostRuntime) -> io::Result<()> {
-    let mut input = rt.stdin();
-    let mut out = rt.stdout();
     let mut space = [0u8; 65536];
-    for _ in 0..u64::MAX {
-        if !one(&mut input, &mut out, &mut space)? {
-            break;
-        }
-    }
-    Ok(())
+    answer_each(
+        &mut rt.stdin(),
+        &mut rt.stdout(),
+        &mut space,
+        |out, block| tell(out, block),
+    )
 }

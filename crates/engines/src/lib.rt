@@ -26,8 +26,8 @@ pub fn deduce_from(
     set: SignSet,
 ) -> SignSet
     requires in_bounds { 80 < length terms.now }
-    requires within { Within coefficient.now monomial.now sign.now p }
-    requires within_2 { Within coefficient.now monomial.now sign.now q }
+    requires within_p { Within coefficient.now monomial.now sign.now p }
+    requires within_q { Within coefficient.now monomial.now sign.now q }
     ensures { Deduced coefficient.now monomial.now sign.now p q set.0 result.0 }
 {
     let mark = terms[PLACE];
@@ -38,8 +38,9 @@ pub fn deduce_from(
     }
 }
 
-// The same, for a deduction that stands alone. It is a function of its own so that the plain engine is called in two places: the compiler then leaves
-// that engine out of line, and takes these choices into their callers; with the plain engine inside, a choice cost half as much as a fast deduction.
+// The same, for a deduction that stands alone.
+// kept: a function of its own, so that the plain engine is called in two places: the compiler then leaves that engine out of line, and takes these
+// choices into their callers; with the plain engine inside, a choice cost half as much as a fast deduction.
 pub fn deduce_alone(
     coefficient: &[i32],
     monomial: &[u64],
@@ -50,8 +51,8 @@ pub fn deduce_alone(
     set: SignSet,
 ) -> SignSet
     requires in_bounds { 80 < length terms.now }
-    requires within { Within coefficient.now monomial.now sign.now p }
-    requires within_2 { Within coefficient.now monomial.now sign.now q }
+    requires within_p { Within coefficient.now monomial.now sign.now p }
+    requires within_q { Within coefficient.now monomial.now sign.now q }
     ensures { Deduced coefficient.now monomial.now sign.now p q set.0 result.0 }
 {
     let mark = terms[PLACE];

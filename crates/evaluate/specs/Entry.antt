@@ -1,5 +1,5 @@
 -- The entry: what was read, held in arrays that were blank, run on the readings, is the book's evaluation.
-use Rattle.std.specs.Prelude.{◌≡◌, refl, Bool, true, false, List, [], ◌∷◌, map, ℕ, zero, suc, ◌+◌, ◌-◌, ◌*◌, ◌<◌, ◌≤◌, eqb, ℤ, pos, length, get_or, set, replicate}
+use Rattle.std.specs.Prelude.{◌≡◌, refl, Bool, true, false, Option, Some, Result, Ok, Err, List, [], ◌∷◌, map, ℕ, zero, suc, ◌+◌, ◌-◌, ◌*◌, ◌<◌, ◌≤◌, eqb, ℤ, pos, length, get_or, set, replicate}
 use Rattle.std.proofs.Math.Path.{sym, ap}
 use Rattle.std.proofs.Common.{ap₂, ◌∙◌, subst, arith, eq-eqb, ne_eqb, get_or-set_other}
 use Rattle.std.proofs.Math.Option.{none, some}
@@ -19,49 +19,51 @@ use Rattle.block_laws.specs.Blocks.{accepted-within}
 use Rattle.terms.specs.View.{terms_from}
 use Rattle.block.specs.declared.Held.{Held}
 use Rattle.block.specs.declared.Contents.{Contents}
-use Rattle.block.specs.declared.Contents.TheVariants.{Refused as NoBlock, Numbers}
+use Rattle.block.specs.declared.Refusal.{Refusal as BlockRefusal}
+use Rattle.block.specs.Refusals as block
 use Rattle.block.specs.Held.{held_by, held_over}
-use Rattle.block.specs.declared.Few.{Few}
-use Rattle.block.specs.declared.Few.TheVariants.{Read as ReadFew}
 use Rattle.block.specs.Steps.{ContentsOf, ContentsFound, AtMost, HasAtMost, FewOf, FewFound}
 use Rattle.writer.specs.Written.{PartsHeld}
 use Rattle.array_laws.specs.Arrays.{AtMostSixteen, table_fits, length-slots, slot-stored}
 use Rattle.array_laws.specs.Writing.{tree-stored}
-use Rattle.evaluate.specs.declared.Evaluation.{Evaluation}
-use Rattle.evaluate.specs.declared.Evaluation.TheVariants.{Refused, Deny, Permit}
+use Rattle.evaluate.specs.declared.Verdict.{Verdict}
+use Rattle.evaluate.specs.declared.Verdict.TheVariants.{Deny, Permit}
+use Rattle.evaluate.specs.declared.Refusal.{Refusal}
+use Rattle.evaluate.specs.declared.Refusal.TheVariants.{ReadingsCount, Overflow}
+use Rattle.evaluate.specs.Refusals.{by_number}
 use Rattle.evaluate.specs.declared.Seen.{Seen}
 use Rattle.evaluate.specs.Tree.{stored, TableRoom, Says, HeldAt, SomeNode, NodeIs}
 
--- The book's evaluation as the code returns it, and as the number for C.
-unfoldable pub evaluation_of : book.Evaluation → Evaluation
-evaluation_of book.permit = Permit
-evaluation_of book.deny = Deny
-evaluation_of (book.refused_by number) = Refused number
+-- The book's evaluation as the code returns it, by the refusal's number; and as the number for C.
+unfoldable pub evaluation_of : book.Evaluation → Result Verdict ℕ
+evaluation_of book.permit = Ok Permit
+evaluation_of book.deny = Ok Deny
+evaluation_of (book.refused_by number) = Err number
 
-abbrev pub number_in : Evaluation → ℕ
-number_in (Refused number) = number
-number_in Deny = 256
-number_in Permit = 257
+abbrev pub number_told : Result Verdict ℕ → ℕ
+number_told (Err number) = number
+number_told (Ok Deny) = 256
+number_told (Ok Permit) = 257
 
-pub number-exported : (e : book.Evaluation) → number_in (evaluation_of e) ≡ book.evaluation_number e
+pub number-exported : (e : book.Evaluation) → number_told (evaluation_of e) ≡ book.evaluation_number e
 unfolding evaluation_of book.evaluation_number
 number-exported book.permit = refl
 number-exported book.deny = refl
 number-exported (book.refused_by number) = refl
 
-unfoldable pub verdict_of : Bool → Bool → Evaluation
-verdict_of true true = Permit
-verdict_of true false = Deny
-verdict_of false holds = Refused 17
+unfoldable pub verdict_of : Bool → Bool → Result Verdict Refusal
+verdict_of true true = Ok Permit
+verdict_of true false = Ok Deny
+verdict_of false holds = Err Overflow
 
-verdict-says : (fits truth told-fits told-holds : Bool) → Says fits truth told-fits told-holds → verdict_of told-fits told-holds ≡ evaluation_of (permit_if (some_if fits truth))
+verdict-says : (fits truth told-fits told-holds : Bool) → Says fits truth told-fits told-holds → by_number (verdict_of told-fits told-holds) ≡ evaluation_of (permit_if (some_if fits truth))
 unfolding verdict_of evaluation_of permit_if some_if
-verdict-says true truth told-fits told-holds says = ap₂ verdict_of says.fit (says.truth refl) ∙ by truth
+verdict-says true truth told-fits told-holds says = ap₂ (λ (f h : Bool). by_number (verdict_of f h)) says.fit (says.truth refl) ∙ by truth
   where
-    by : (b : Bool) → verdict_of true b ≡ evaluation_of (permit_if (some b))
+    by : (b : Bool) → by_number (verdict_of true b) ≡ evaluation_of (permit_if (some b))
     by true = refl
     by false = refl
-verdict-says false truth told-fits told-holds says = ap (λ (b : Bool). verdict_of b told-holds) says.fit
+verdict-says false truth told-fits told-holds says = ap (λ (b : Bool). by_number (verdict_of b told-holds)) says.fit
 
 -- ---- The arrays.
 
@@ -124,35 +126,35 @@ pub record Taken (bytes : List ℕ) (held : Held) : Type 0 where
   pub room : 16 * length given.table ≤ places
   pub is : held ≡ held_over (replicate places (pos 0)) (replicate places 0) (replicate 64 0) (replicate 255 0) given
 
-unfoldable pub StandsAs : List ℕ → List ℤ → List ℕ → List ℕ → List ℕ → Contents → Type 0
-StandsAs bytes cs ms ts token (NoBlock number) = read_block bytes ≡ refused number
-StandsAs bytes cs ms ts token (Numbers variables polynomials root count) = Taken bytes (held_by variables polynomials root count cs ms ts token)
+unfoldable pub StandsAs : List ℕ → List ℤ → List ℕ → List ℕ → List ℕ → Result Contents BlockRefusal → Type 0
+StandsAs bytes cs ms ts token (Err refusal) = read_block bytes ≡ refused (block.number_of refusal)
+StandsAs bytes cs ms ts token (Ok given) = Taken bytes (held_by given.variables given.polynomials given.root given.tokens cs ms ts token)
 
 -- What the reader says of the bytes and has stored in the arrays.
-pub record Stands (bytes : List ℕ) (cs : List ℤ) (ms ts token : List ℕ) (contents : Contents) : Type 0 where
+pub record Stands (bytes : List ℕ) (cs : List ℤ) (ms ts token : List ℕ) (contents : Result Contents BlockRefusal) : Type 0 where
   pub holds_as : StandsAs bytes cs ms ts token contents
 
-pub record SomeStand (cs : List ℤ) (ms ts token : List ℕ) (contents : Contents) : Type 0 where
+pub record SomeStand (cs : List ℤ) (ms ts token : List ℕ) (contents : Result Contents BlockRefusal) : Type 0 where
   pub bytes : List ℕ
   pub stands : Stands bytes cs ms ts token contents
 
-module _ {bytes : List ℕ} {cs : List ℤ} {ms ts token : List ℕ} {contents : Contents} (s : Stands bytes cs ms ts token contents) where
-  pub stand-refused : {number : ℕ} → contents ≡ NoBlock number → read_block bytes ≡ refused number
+module _ {bytes : List ℕ} {cs : List ℤ} {ms ts token : List ℕ} {contents : Result Contents BlockRefusal} (s : Stands bytes cs ms ts token contents) where
+  pub stand-refused : {refusal : BlockRefusal} → contents ≡ Err refusal → read_block bytes ≡ refused (block.number_of refusal)
   unfolding StandsAs
   stand-refused e = (rw e at s).holds_as
 
-  pub stand-taken : {variables polynomials root count : ℕ} → contents ≡ Numbers variables polynomials root count
-      → Taken bytes (held_by variables polynomials root count cs ms ts token)
+  pub stand-taken : {given : Contents} → contents ≡ Ok given
+      → Taken bytes (held_by given.variables given.polynomials given.root given.tokens cs ms ts token)
   unfolding StandsAs
   stand-taken e = (rw e at s).holds_as
 
 -- Where the arrays have room for every block,
-pub any-stands : {bytes : List ℕ} {cs : List ℤ} {ms ts token : List ℕ} {contents : Contents}
+pub any-stands : {bytes : List ℕ} {cs : List ℤ} {ms ts token : List ℕ} {contents : Result Contents BlockRefusal}
     → ContentsFound bytes (replicate 1024 (pos 0)) cs (replicate 1024 0) ms (replicate 64 0) ts (replicate 255 0) token contents
     → Stands bytes cs ms ts token contents
 unfolding ContentsOf StandsAs
-any-stands {contents = NoBlock number} found = record { holds_as = found.found }
-any-stands {bytes} {contents = Numbers variables polynomials root count} found =
+any-stands {contents = Err refusal} found = record { holds_as = found.found }
+any-stands {bytes} {contents = Ok given} found =
     let stored = found.found in
     record {
       holds_as = record {
@@ -166,12 +168,12 @@ any-stands {bytes} {contents = Numbers variables polynomials root count} found =
     }
 
 -- and where they have room for sixteen polynomials and there are no more.
-pub few-stands : {bytes : List ℕ} {cs : List ℤ} {ms ts token : List ℕ} {contents : Contents}
+pub few-stands : {bytes : List ℕ} {cs : List ℤ} {ms ts token : List ℕ} {contents : Result Contents BlockRefusal}
     → ContentsFound bytes (replicate 256 (pos 0)) cs (replicate 256 0) ms (replicate 64 0) ts (replicate 255 0) token contents → HasAtMost 16 contents
     → Stands bytes cs ms ts token contents
 unfolding ContentsOf StandsAs AtMost
-few-stands {contents = NoBlock number} found few = record { holds_as = found.found }
-few-stands {contents = Numbers variables polynomials root count} found few =
+few-stands {contents = Err refusal} found few = record { holds_as = found.found }
+few-stands {contents = Ok given} found few =
     let stored = found.found in
     record {
       holds_as = record {
@@ -184,15 +186,15 @@ few-stands {contents = Numbers variables polynomials root count} found few =
       };
     }
 
-pub few-read : {bytes : List ℕ} {cs : List ℤ} {ms ts token : List ℕ} {few : Few} {contents : Contents}
-    → FewFound bytes (replicate 256 (pos 0)) cs (replicate 256 0) ms (replicate 64 0) ts (replicate 255 0) token few → few ≡ ReadFew contents
+pub few-read : {bytes : List ℕ} {cs : List ℤ} {ms ts token : List ℕ} {few : Option (Result Contents BlockRefusal)} {contents : Result Contents BlockRefusal}
+    → FewFound bytes (replicate 256 (pos 0)) cs (replicate 256 0) ms (replicate 64 0) ts (replicate 255 0) token few → few ≡ Some contents
     → Stands bytes cs ms ts token contents
 unfolding FewOf
 few-read found e = let read = (rw e at found).found in few-stands read.0 read.1
 
 -- ---- The three cases.
 
-pub entry-refused : (bytes : List ℕ) (readings : List ℤ) {number : ℕ} → read_block bytes ≡ refused number → Refused number ≡ evaluation_of (evaluate bytes readings)
+pub entry-refused : (bytes : List ℕ) (readings : List ℤ) {number : ℕ} → read_block bytes ≡ refused number → Err number ≡ evaluation_of (evaluate bytes readings)
 unfolding evaluate evaluate_read evaluation_of
 entry-refused bytes readings e = sym (ap (λ (r : Reading Block). evaluation_of (evaluate_read readings r)) e)
 
@@ -209,7 +211,7 @@ module _ (bytes : List ℕ) (readings : List ℤ) {variables polynomials root co
   unfolding evaluate evaluate_read
   as_read = ap (λ (r : Reading Block). evaluation_of (evaluate_read readings r)) taken.accepted
 
-  pub entry-many : (length readings ≡ variables → ⊥) → Refused 16 ≡ evaluation_of (evaluate bytes readings)
+  pub entry-many : (length readings ≡ variables → ⊥) → by_number (Err ReadingsCount) ≡ evaluation_of (evaluate bytes readings)
   unfolding if_many evaluation_of
   entry-many h = sym (as_read ∙ ap (λ (b : Bool). evaluation_of (if_many b (permit_if (evaluate_by fits64 readings (formula_of taken.given)))))
       (ne_eqb (length readings) taken.given.variables (λ e. h (e ∙ sym its-variables))))
@@ -269,7 +271,7 @@ module _ (bytes : List ℕ) (readings : List ℤ) {variables polynomials root co
   some-node = record { tree = taken.given.tree; held = tree-held }
 
   pub entry-answer : length readings ≡ variables → {seen : Seen} → ((tree : Node NumberedAtom) → HeldAt token root 0 tree → NodeIs cs ms ts readings 0 tree seen)
-      → verdict_of seen.fits seen.holds ≡ evaluation_of (evaluate bytes readings)
+      → by_number (verdict_of seen.fits seen.holds) ≡ evaluation_of (evaluate bytes readings)
   unfolding evaluate_by holds_at formula_of if_many
   entry-answer e {seen} said =
       verdict-says (parts_fit fits64 readings (alone (formula_of taken.given))) (holds_at readings (formula_of taken.given)) seen.fits seen.holds

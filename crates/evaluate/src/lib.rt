@@ -7,11 +7,13 @@ ghost use Rattle.std.specs.Prelude.{List, ◌≡◌, ℕ, ◌<◌, ◌≤◌, �
 ghost use Rattle.rules.specs.Formula.{Node};
 ghost use Rattle.rules.specs.Block.{NumberedAtom};
 ghost use Rattle.rules.specs.Evaluate.{evaluate as evaluate_book, evaluation_number};
-ghost use Rattle.evaluate.specs.Entry.{evaluation_of, verdict_of, number_in as number_in_of, Stands, SomeStand};
+ghost use Rattle.evaluate.specs.Refusals.{number_of, by_number};
+ghost use Rattle.evaluate.specs.declared.Refusal.TheVariants.{Block as BlockRefused};
+ghost use Rattle.evaluate.specs.Entry.{evaluation_of, verdict_of, number_told, Stands, SomeStand};
 ghost use Rattle.evaluate.specs.Tree.{joined as joined_of, behind_of, stored_at, TableRoom, AtomIs, SomeNode, HeldAt, NodeIs};
 
 use arithmetic::{both, sign_in, value};
-use block::{Contents, Few, read_few_into, read_into};
+use block::{Contents, read_few_into, read_into};
 
 // A token below this is an atom's: its polynomial's number times eight and its set. Any other is that of an AND or an OR.
 const JOIN: u32 = 16777216;
@@ -56,13 +58,11 @@ fn atom(coefficient: &[i32], monomial: &[u64], terms: &[u8], readings: &[i32], t
 }
 
 // What children have said so far, with one more: all of them under an AND, some of them under an OR.
+#[tactic(auto, unfolding(crate::specs::Tree::joined))]
 fn joined(all: bool, sofar: bool, child: bool) -> bool
     ensures { result ≡ joined_of all sofar child }
 {
-    if all {
-        return if sofar { child } else { false };
-    }
-    if sofar { true } else { child }
+    if all { sofar && child } else { sofar || child }
 }
 
 // The node at a place of the tape; if it is an AND or an OR, it is of this kind (1 is AND, 2 is OR) and the nodes under it are of the other.
@@ -94,9 +94,7 @@ fn node(
     let mut next = at + 1;
     let mut fits = true;
     let mut holds = all;
-    let mut i: u32 = 0;
-    while i < children {
-        i += 1;
+    for _ in 0..children {
         let child = node(
             coefficient,
             monomial,
@@ -113,25 +111,55 @@ fn node(
     Seen { next, fits, holds }
 }
 
-// "answers permit or deny", or a refusal: the reader's 2 to 15 and 21 to 23, 16 for another number of readings, 17 for an overflow.
-#[derive(Clone, Copy)]
-pub enum Evaluation {
-    Refused(u8),
+// "answers permit or deny"
+#[derive(Clone, Copy, Debug, PartialEq, Eq)]
+pub enum Verdict {
     Deny,
     Permit,
 }
 
-fn verdict(fits: bool, holds: bool) -> Evaluation
+// Why it answers neither.
+#[derive(Clone, Copy, Debug, PartialEq, Eq)]
+pub enum Refusal {
+    // the reader's: 2 to 15 and 21 to 23
+    Block(block::Refusal),
+    // 16: "the number of readings is not n"
+    ReadingsCount,
+    // 17: "overflow"
+    Overflow,
+}
+
+impl Refusal {
+    // The number that the documents give it.
+    pub fn number(self) -> u8
+        ensures { result ≡ number_of self }
+    {
+        match self {
+            Refusal::Block(refusal) => refusal.number(),
+            Refusal::ReadingsCount => 16,
+            Refusal::Overflow => 17,
+        }
+    }
+}
+
+impl From<block::Refusal> for Refusal {
+    ghost from_gives = { λ refusal given. given ≡ BlockRefused refusal };
+
+    fn from(refusal: block::Refusal) -> Refusal {
+        Refusal::Block(refusal)
+    }
+}
+
+fn verdict_from(fits: bool, holds: bool) -> Result<Verdict, Refusal>
     ensures { result ≡ verdict_of fits holds }
 {
-    if fits {
-        return if holds {
-            Evaluation::Permit
-        } else {
-            Evaluation::Deny
-        };
+    if !fits {
+        return Err(Refusal::Overflow);
     }
-    Evaluation::Refused(17)
+    if holds {
+        return Ok(Verdict::Permit);
+    }
+    Ok(Verdict::Deny)
 }
 
 // What was read, run on the readings.
@@ -141,32 +169,23 @@ fn run(
     terms: &[u8],
     token: &[u32],
     readings: &[i32],
-    contents: Contents,
-) -> Evaluation
+    contents: Result<Contents, block::Refusal>,
+) -> Result<Verdict, Refusal>
     requires { SomeStand coefficient.now monomial.now terms.now token.now contents }
     ensures { (bytes : List ℕ) → Stands bytes coefficient.now monomial.now terms.now token.now contents
-        → result ≡ evaluation_of (evaluate_book bytes readings.now) }
+        → by_number result ≡ evaluation_of (evaluate_book bytes readings.now) }
 {
-    match contents {
-        Contents::Refused(number) => Evaluation::Refused(number),
-        Contents::Numbers {
-            variables,
-            polynomials: _,
-            root,
-            tokens: _,
-        } => {
-            if readings.len() != variables {
-                return Evaluation::Refused(16);
-            }
-            let seen = node(coefficient, monomial, terms, token, readings, 0, root);
-            verdict(seen.fits, seen.holds)
-        }
+    let held = contents?;
+    if readings.len() != held.variables {
+        return Err(Refusal::ReadingsCount);
     }
+    let seen = node(coefficient, monomial, terms, token, readings, 0, held.root);
+    verdict_from(seen.fits, seen.holds)
 }
 
 // Reads a block of any number of polynomials and runs it on the readings.
-fn evaluate_any(input: &[u8], readings: &[i32]) -> Evaluation
-    ensures { result ≡ evaluation_of (evaluate_book input.now readings.now) }
+fn evaluate_any(input: &[u8], readings: &[i32]) -> Result<Verdict, Refusal>
+    ensures { by_number result ≡ evaluation_of (evaluate_book input.now readings.now) }
 {
     let mut coefficient = [0i32; 1024];
     let mut monomial = [0u64; 1024];
@@ -184,8 +203,8 @@ fn evaluate_any(input: &[u8], readings: &[i32]) -> Evaluation
 
 // Reads a block and runs it on the readings. Every input is answered or refused.
 // Most blocks have few polynomials: for these the arrays, which are filled with zeros at each call, are a quarter as long.
-pub fn evaluate(input: &[u8], readings: &[i32]) -> Evaluation
-    ensures { result ≡ evaluation_of (evaluate_book input.now readings.now) }
+pub fn evaluate(input: &[u8], readings: &[i32]) -> Result<Verdict, Refusal>
+    ensures { by_number result ≡ evaluation_of (evaluate_book input.now readings.now) }
 {
     let mut coefficient = [0i32; 256];
     let mut monomial = [0u64; 256];
@@ -199,19 +218,19 @@ pub fn evaluate(input: &[u8], readings: &[i32]) -> Evaluation
         &mut token,
     );
     match few {
-        Few::More => evaluate_any(input, readings),
-        Few::Read(contents) => run(&coefficient, &monomial, &terms, &token, readings, contents),
+        None => evaluate_any(input, readings),
+        Some(contents) => run(&coefficient, &monomial, &terms, &token, readings, contents),
     }
 }
 
 // One number for each outcome: below 256 the refusal, 256 deny, 257 permit.
-fn number_in(evaluation: Evaluation) -> u32
-    ensures { result ≡ number_in_of evaluation }
+fn number_in(evaluation: Result<Verdict, Refusal>) -> u32
+    ensures { result ≡ number_told (by_number evaluation) }
 {
     match evaluation {
-        Evaluation::Refused(number) => number as u32,
-        Evaluation::Deny => 256,
-        Evaluation::Permit => 257,
+        Err(refusal) => refusal.number() as u32,
+        Ok(Verdict::Deny) => 256,
+        Ok(Verdict::Permit) => 257,
     }
 }
 

@@ -19,6 +19,7 @@ const MOST_ROUNDS: usize = 161;
 
 // The merged atoms, full ones among them; those that carry their sets, and the state that they carry them from; those of them that stay.
 // If the whole is false, `carried` has the atoms by which it is.
+// kept: a flag beside values, no enum: the public contracts (specs/Fated, and those of reasons) name its fields, and stay as they are.
 #[derive(Clone, Copy)]
 pub struct Fates {
     pub joined: Row,

@@ -3,7 +3,6 @@ use mathlib.Core.Path.{◌≡◌, refl, ap, ◌∙◌}
 use mathlib.Core.Bool.{Bool, true, false}
 use Prim.Native.Nat.{ℕ, zero, suc, ◌+◌, ◌-◌, ◌*◌, ◌%◌, ◌^◌, ◌<◌, ◌≤◌}
 use native.Mathlib.Nat.{mod-eq_of_lt, one-mul, pow-succ'}
-use native.Mathlib.Numerals.{add-one}
 use native.Mathlib.Omega.{arith}
 use borrow.Author.Tests.{eqb-true, eqb-false, eq-eqb, ne_eqb}
 use lib.Dec.{eqb}
@@ -34,8 +33,9 @@ power-of-four-bits (suc k) =
     let e : 4 * suc k ≡ 4 + 4 * k = omega arith in rw (e, pow-add 2 4 (4 * k), pow-succ' 16 k) (ap (λ (x : ℕ). 16 * x) (power-of-four-bits k))
 
 -- The exponent 1 at the four bits of variable i of n, by a shift.
-pub variable-shifted : (n i : ℕ) → n ≤ 16 → i < n → 1 * 2 ^ (4 * (n - (i + 1))) % 2 ^ 64 ≡ 16 ^ (n - suc i)
+pub variable-shifted : (n i : ℕ) → n ≤ 16 → i < n → 1 * 2 ^ (4 * (n - 1 - i)) % 2 ^ 64 ≡ 16 ^ (n - suc i)
 variable-shifted n i h m =
-    let few : 4 * (n - (i + 1)) < 64 = omega arith in
-    let below : 2 ^ (4 * (n - (i + 1))) < 2 ^ 64 = pow-lt few in
-    rw (one-mul (2 ^ (4 * (n - (i + 1)))), mod-eq_of_lt below) (power-of-four-bits (n - (i + 1)) ∙ ap (λ (j : ℕ). 16 ^ (n - j)) (add-one i))
+    let few : 4 * (n - 1 - i) < 64 = omega arith in
+    let below : 2 ^ (4 * (n - 1 - i)) < 2 ^ 64 = pow-lt few in
+    let later : n - 1 - i ≡ n - suc i = omega arith in
+    rw (one-mul (2 ^ (4 * (n - 1 - i))), mod-eq_of_lt below) (power-of-four-bits (n - 1 - i) ∙ ap (λ (j : ℕ). 16 ^ j) later)

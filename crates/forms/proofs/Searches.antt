@@ -53,6 +53,10 @@ other-count cs ms a b (suc k) (suc n) h = sym (and-false (same_term cs ms a b))
 
 -- ---- The first that passes.
 
+-- Whether slot j has the form of slot i.
+abbrev pub alike : List ℤ → List ℕ → List ℕ → ℕ → ℕ → Bool
+alike cs ms ts i j = same (slot_of cs ms ts j) (slot_of cs ms ts i)
+
 module _ (test : ℕ → Bool) where
   -- A number that fails is passed over.
   pub first_step : (i to : ℕ) → i < to → test i ≡ false → first_from test i (to - i) ≡ first_from test (i + 1) (to - (i + 1))

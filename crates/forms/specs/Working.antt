@@ -1,6 +1,6 @@
 -- The working table of a block's polynomials: how it comes about in four passes, and what its callers rely on.
 -- `working_of` determines every element; the record `Worked` is the promise of the function `working`.
-use Rattle.std.specs.Prelude.{◌≡◌, Bool, true, false, List, ℕ, ◌*◌, ◌<◌, ◌≤◌, ℤ, pos, eqb, length, get_or, set, replicate}
+use Rattle.std.specs.Prelude.{◌≡◌, Bool, false, List, ℕ, ◌*◌, ◌<◌, ◌≤◌, ℤ, pos, eqb, length, get_or, set, replicate}
 use Rattle.rules.specs.Signs.{SignSet, bit}
 use Rattle.rules.specs.Polynomial.{normal}
 use Rattle.rules.specs.Limits.{PolynomialWithin}

@@ -44,8 +44,8 @@ pub fn work(
         (working_by normal_coefficient.new normal_monomial.new normal_terms.new number.new turned.new) }
 {
     slots::normalize_all(coefficient, terms, normal_coefficient, turned, polynomials);
-    slots::copy_monomials(monomial, normal_monomial, 16 * polynomials);
-    slots::copy_counts(terms, normal_terms, polynomials);
+    slots::copy(monomial, normal_monomial, 16 * polynomials);
+    slots::copy(terms, normal_terms, polynomials);
     slots::number_all(
         normal_coefficient,
         normal_monomial,
@@ -124,13 +124,10 @@ pub fn normal_tokens(token: &mut [u32], count: usize, number: &[u8], turned: &[b
     requires { (count ≤ length token.old) × (length number.now ≡ 64) × (length turned.now ≡ 64) }
     ensures { token.new ≡ normal_tokens_of number.now turned.now count token.old }
 {
-    let mut i = 0;
-    while i < count {
-        let at = i;
-        i += 1;
-        let t = token[at];
+    for i in 0..count {
+        let t = token[i];
         if t < 16777216 {
-            token[at] = normal_token(t, number, turned);
+            token[i] = normal_token(t, number, turned);
         }
     }
 }

@@ -1,18 +1,12 @@
 // The slots of the working table: the normal forms of a block's polynomials, each once, fillers between them, and the variables.
 // A slot is sixteen places of the arrays of terms and one place of the array of counts.
-ghost use Rattle.std.specs.Prelude.{◌≡◌, ◌+◌, ◌*◌, ◌<◌, ◌≤◌, length, set};
+ghost use Rattle.std.specs.Prelude.{◌≡◌, ◌+◌, ◌*◌, ◌<◌, ◌≤◌, ◌++◌, length, set, take, drop};
 ghost use Rattle.rules.specs.Polynomial.{same};
 ghost use Rattle.terms.specs.View.{terms_from};
-ghost use Rattle.forms.specs.Slots.{slot_of, Readable, normal_slots, turned_slots, copied, Laid, same_term as same_term_of, number_of, numbered_slots, is_own as is_own_of};
+ghost use Rattle.forms.specs.Slots.{slot_of, Readable, normal_slots, turned_slots, Laid, same_term as same_term_of, number_of, numbered_slots, is_own as is_own_of};
 ghost use Rattle.forms.specs.Slots.{filled_coefficients, filled_monomials, filled_counts, variable_coefficients, variable_monomials, variable_counts};
 
 use normal::normalize;
-
-fn wide(x: u8) -> usize
-    ensures { result ≡ x }
-{
-    x as usize
-}
 
 // ---- the normal forms
 
@@ -28,35 +22,19 @@ pub fn normalize_all(
     ensures { (target.new ≡ normal_slots coefficient.now terms.now target.old 0 polynomials)
         × (turned.new ≡ turned_slots coefficient.now terms.now turned.old polynomials) }
 {
-    let mut i = 0;
-    while i < polynomials {
+    for i in 0..polynomials {
         let from = 16 * i;
-        let to = from + wide(terms[i]);
+        let to = from + terms[i] as usize;
         turned[i] = normalize(coefficient, target, from, to);
-        i += 1;
     }
 }
 
-pub fn copy_monomials(source: &[u64], target: &mut [u64], count: usize)
+// The first elements of an array, copied to another.
+pub fn copy<T: Copy>(source: &[T], target: &mut [T], count: usize)
     requires { (count ≤ length source.now) × (count ≤ length target.old) }
-    ensures { target.new ≡ copied source.now target.old count }
+    ensures { target.new ≡ take count source.now ++ drop count target.old }
 {
-    let mut i = 0;
-    while i < count {
-        target[i] = source[i];
-        i += 1;
-    }
-}
-
-pub fn copy_counts(source: &[u8], target: &mut [u8], count: usize)
-    requires { (count ≤ length source.now) × (count ≤ length target.old) }
-    ensures { target.new ≡ copied source.now target.old count }
-{
-    let mut i = 0;
-    while i < count {
-        target[i] = source[i];
-        i += 1;
-    }
+    target[..count].copy_from_slice(&source[..count]);
 }
 
 // ---- the numbers
@@ -66,12 +44,7 @@ fn same_term(coefficient: &[i32], monomial: &[u64], first: usize, second: usize)
     requires { (first < length coefficient.now) × (second < length coefficient.now) × (first < length monomial.now) × (second < length monomial.now) }
     ensures { result ≡ same_term_of coefficient.now monomial.now first second }
 {
-    if monomial[first] != monomial[second] {
-        return false;
-    }
-    let c = coefficient[first];
-    let d = coefficient[second];
-    c == d
+    monomial[first] == monomial[second] && coefficient[first] == coefficient[second]
 }
 
 // Whether the terms from one place on are those from another place on, so many.
@@ -87,12 +60,10 @@ fn same_terms(
     ensures { result ≡ same (terms_from coefficient.now monomial.now first count)
         (terms_from coefficient.now monomial.now second count) }
 {
-    let mut i = 0;
-    while i < count {
+    for i in 0..count {
         if !same_term(coefficient, monomial, first + i, second + i) {
             return false;
         }
-        i += 1;
     }
     true
 }
@@ -113,7 +84,13 @@ fn same_form(
     if count != terms[second] {
         return false;
     }
-    same_terms(coefficient, monomial, 16 * first, 16 * second, wide(count))
+    same_terms(
+        coefficient,
+        monomial,
+        16 * first,
+        16 * second,
+        count as usize,
+    )
 }
 
 // The first slot with the form of slot i.
@@ -121,12 +98,10 @@ fn find(coefficient: &[i32], monomial: &[u64], terms: &[u8], i: usize) -> usize
     requires { Laid coefficient.now monomial.now terms.now × (i < 80) }
     ensures { result ≡ number_of coefficient.now monomial.now terms.now i }
 {
-    let mut j = 0;
-    while j < i {
+    for j in 0..i {
         if same_form(coefficient, monomial, terms, j, i) {
             return j;
         }
-        j += 1;
     }
     i
 }
@@ -142,10 +117,8 @@ pub fn number_all(
     requires { Laid coefficient.now monomial.now terms.now × (polynomials ≤ 64) × (polynomials ≤ length number.old) }
     ensures { number.new ≡ numbered_slots coefficient.now monomial.now terms.now number.old polynomials }
 {
-    let mut i = 0;
-    while i < polynomials {
+    for i in 0..polynomials {
         number[i] = find(coefficient, monomial, terms, i) as u8;
-        i += 1;
     }
 }
 
@@ -156,10 +129,7 @@ fn is_own(number: &[u8], polynomials: usize, i: usize) -> bool
     requires { polynomials ≤ length number.now }
     ensures { result ≡ is_own_of number.now polynomials i }
 {
-    if i < polynomials {
-        return wide(number[i]) == i;
-    }
-    false
+    i < polynomials && number[i] as usize == i
 }
 
 // One term as all that a slot holds.
@@ -194,12 +164,9 @@ pub fn fill(
         × (monomial.new ≡ filled_monomials (is_own_of number.now polynomials) monomial.old)
         × (terms.new ≡ filled_counts (is_own_of number.now polynomials) terms.old) }
 {
-    let mut i: usize = 0;
-    while i < 64 {
-        let slot = i;
-        i += 1;
-        if !is_own(number, polynomials, slot) {
-            put_term(coefficient, monomial, terms, slot, 0, i as u64);
+    for i in 0..64 {
+        if !is_own(number, polynomials, i) {
+            put_term(coefficient, monomial, terms, i, 0, i as u64 + 1);
         }
     }
 }
@@ -216,17 +183,14 @@ pub fn put_variables(
         × (monomial.new ≡ variable_monomials variables monomial.old)
         × (terms.new ≡ variable_counts variables terms.old) }
 {
-    let mut i = 0;
-    while i < variables {
-        let slot = 64 + i;
-        i += 1;
+    for i in 0..variables {
         put_term(
             coefficient,
             monomial,
             terms,
-            slot,
+            64 + i,
             1,
-            1 << (4 * (variables - i)),
+            1 << (4 * (variables - 1 - i)),
         );
     }
 }

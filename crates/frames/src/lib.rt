@@ -5,46 +5,32 @@
 
 ghost use Rattle.std.specs.Prelude.{◌≤◌, ◌<◌, ◌≡◌, ◌+◌, IfOk, IfSome, length, take, drop};
 ghost use Rattle.std.specs.Io.KnownBytes.{Consumes, IsAtEnd};
+ghost use Rattle.frames.specs.Taken.{taken_of};
 
 use std::io;
-use std::io::Read;
+use std::io::{Read, Write};
 
-// What comes next: a whole block, a frame that ends too early, or nothing more.
+pub mod lines; // a stream of lines, piece by piece
+
+// What comes next: a whole block, of which so many bytes are taken, a frame that ends too early, or nothing more.
 #[derive(Clone, Copy)]
-pub enum Kind {
-    Block,
+pub enum Frame {
+    Block(usize),
     CutOff,
     End,
 }
 
-#[derive(Clone, Copy)]
-pub struct Frame {
-    pub kind: Kind,
-    // how many bytes are taken of the block; 0 if there is none
-    pub length: usize,
-}
-
-fn none(kind: Kind) -> Frame
-    ensures { result.length ≡ 0 }
-{
-    Frame { kind, length: 0 }
-}
-
-fn wide(byte: u8) -> usize
-    ensures { result ≤ 255 }
-{
-    byte as usize
-}
-
-// "It reads at most 32,768 bytes of a block": how many of so many.
-fn taken(length: usize) -> usize
-    ensures within { result ≤ length }
-    ensures most { result ≤ 32768 }
-{
-    if length < 32768 {
-        return length;
+impl Frame {
+    // How many bytes are taken of its block; 0 if there is none.
+    pub fn length(self) -> usize
+        ensures { result ≡ taken_of self }
+    {
+        match self {
+            Frame::Block(length) => length,
+            Frame::CutOff => 0,
+            Frame::End => 0,
+        }
     }
-    32768
 }
 
 // One read behind the first bytes of the space, which stay as they are.
@@ -66,6 +52,7 @@ pub fn fill<R: Read>(input: &mut R, space: &mut [u8]) -> io::Result<usize>
     ensures first { IfOk result (λ n. IfSome (R.remaining input.old) (λ xs. take n space.new ≡ take (length space.new) xs)) }
 {
     let mut filled = 0;
+    // kept: no index loop, since a read gives as many bytes as it has; std's loops over reads say too little of what was read
     while filled < space.len() {
         let n = more(input, space, filled)?;
         if n == 0 {
@@ -77,28 +64,46 @@ pub fn fill<R: Read>(input: &mut R, space: &mut [u8]) -> io::Result<usize>
 }
 
 // Reads the next frame into the start of `block`. A block that `block` has no room for counts as cut off.
+// "It reads at most 32,768 bytes of a block": of a longer one so many are taken.
 pub fn next<R: Read>(input: &mut R, block: &mut [u8]) -> io::Result<Frame>
-    ensures within { IfOk result (λ frame. frame.length ≤ length block.new) }
-    ensures most { IfOk result (λ frame. frame.length ≤ 32768) }
+    ensures within { IfOk result (λ frame. taken_of frame ≤ length block.new) }
+    ensures most { IfOk result (λ frame. taken_of frame ≤ 32768) }
 {
     let mut head = [0u8; 2];
     let got = fill(input, &mut head)?;
     if got == 0 {
-        return Ok(none(Kind::End));
+        return Ok(Frame::End);
     }
     if got < 2 {
-        return Ok(none(Kind::CutOff));
+        return Ok(Frame::CutOff);
     }
-    let length = wide(head[0]) * 256 + wide(head[1]);
+    let length = usize::from(u16::from_be_bytes(head));
     if block.len() < length {
-        return Ok(none(Kind::CutOff));
+        return Ok(Frame::CutOff);
     }
     let had = fill(input, &mut block[..length])?;
     if had < length {
-        return Ok(none(Kind::CutOff));
+        return Ok(Frame::CutOff);
     }
-    Ok(Frame {
-        kind: Kind::Block,
-        length: taken(length),
-    })
+    Ok(Frame::Block(length.min(32768)))
+}
+
+// Answers each block of a stream, in order; a frame that is cut off ends it with a line that says so. The space is what blocks are read into.
+// A proved loop has to end, and nothing says that the input does: the turns are counted up to a number that no run reaches.
+pub fn answer_each<R: Read, W: Write, F: FnMut(&mut W, &[u8]) -> io::Result<()>>(
+    input: &mut R,
+    out: &mut W,
+    space: &mut [u8],
+    mut answer: F,
+) -> io::Result<()>
+    requires { F.IsAlwaysCallable answer }
+{
+    for _ in 0..u64::MAX {
+        match next(input, space)? {
+            Frame::Block(length) => answer(out, &space[..length])?,
+            Frame::CutOff => return out.write_all(b"CUT OFF\n"),
+            Frame::End => return Ok(()),
+        }
+    }
+    Ok(())
 }

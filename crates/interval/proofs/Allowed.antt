@@ -6,7 +6,7 @@ use mathlib.Core.Logic.{inl, inr}
 use Prim.Native.Nat.{ℕ}
 use types.Run.{OneOf}
 use lib.IntN.{pos, negsuc}
-use Rattle.rules.specs.Signs.{Kind, kind, open_signs}
+use Rattle.rules.specs.Signs.{kind, open_signs}
 use Rattle.rules.specs.Deduce.{Interval, cut_not_negative, no_t, has_t, found}
 use Rattle.deduction_laws.specs.FractionSets.{L, U}
 use Rattle.deduction_laws.specs.Vanishing.{Vanishing, only_allowed, found_by, finding_by}

@@ -13,10 +13,7 @@ use signs::SignSet;
 pub fn strictly(q: bool, other: bool, monomial: bool) -> bool
     ensures { result ≡ ((q && other) || monomial) }
 {
-    if monomial {
-        return true;
-    }
-    if q { other } else { false }
+    q && other || monomial
 }
 
 // What the t of L give, all of which are allowed.

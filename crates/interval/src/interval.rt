@@ -37,10 +37,7 @@ pub fn cross(a: i32, b: i32) -> i64
 pub fn at_most(a: i32, b: i32, c: i32, d: i32) -> bool
     ensures { result ≡ end_at_most (end_at a b) (end_at c d) }
 {
-    if b == 0 {
-        return true;
-    }
-    if d == 0 {
+    if b == 0 || d == 0 {
         return true;
     }
     let ad = cross(a, d);
@@ -56,10 +53,7 @@ pub fn at_most(a: i32, b: i32, c: i32, d: i32) -> bool
 pub fn below(a: i32, b: i32, c: i32, d: i32) -> bool
     ensures { result ≡ end_below (end_at a b) (end_at c d) }
 {
-    if b == 0 {
-        return true;
-    }
-    if d == 0 {
+    if b == 0 || d == 0 {
         return true;
     }
     !at_most(c, d, a, b)
@@ -97,11 +91,7 @@ impl End {
         ensures { result ≡ not_zero_at_of (end_of self) a b }
     {
         let d = self.b;
-        if d == 0 {
-            return false;
-        }
-        let value = self.sign_at(a, b);
-        value.0 != 2
+        d != 0 && self.sign_at(a, b).0 != 2
     }
 
     pub fn at_most(self, other: End) -> bool
@@ -172,6 +162,7 @@ impl Interval {
     }
 
     // Cut by a + tb ≤ 0.
+    // kept: no cut by -a and -b through the function above, since -2^31 has no negation in 32 bits, and no `requires` leaves it out.
     pub fn cut_not_positive(self, a: i32, b: i32) -> Interval
         ensures { interval_of result ≡ cut_not_positive_of a b (interval_of self) }
     {
@@ -208,46 +199,27 @@ impl Interval {
     pub fn holds(self, t: End) -> bool
         ensures { (f : Fraction) → end_of t ≡ at f → result ≡ has_at f (interval_of self) }
     {
-        let low = self.low;
-        let high = self.high;
-        if self.void {
-            return false;
-        }
-        if low.at_most(t) {
-            t.at_most(high)
-        } else {
-            false
-        }
+        !self.void && self.low.at_most(t) && t.at_most(self.high)
     }
 
     // Whether it has a t.
     pub fn has_t(self) -> bool
         ensures { result ≡ has_t_of (interval_of self) }
     {
-        let low = self.low;
-        let high = self.high;
-        if self.void { false } else { low.at_most(high) }
+        !self.void && self.low.at_most(self.high)
     }
 
     // Whether it has more than one.
     pub fn has_more(self) -> bool
         ensures { result ≡ has_more_of (interval_of self) }
     {
-        let low = self.low;
-        let high = self.high;
-        if self.void { false } else { low.below(high) }
+        !self.void && self.low.below(self.high)
     }
 
     // Whether a t of it, if it has any, is not 0.
     pub fn has_other(self) -> bool
         ensures { result ≡ has_other_of (interval_of self) }
     {
-        let low = self.low;
-        let high = self.high;
-        if low.below(End::ZERO) {
-            true
-        } else {
-            End::ZERO.below(high)
-        }
+        self.low.below(End::ZERO) || End::ZERO.below(self.high)
     }
 }

@@ -20,17 +20,14 @@ pub struct Vanishing {
 pub fn is_strict(s: u8) -> bool
     ensures { result ≡ is_strict_of (kind s) }
 {
-    match s {
-        1 | 4 => true,
-        _ => false,
-    }
+    matches!(s, 1 | 4)
 }
 
 // Whether a + tb is 0 at every t.
 pub fn both_zero(a: i32, b: i32) -> bool
     ensures { result ≡ (is_zero a && is_zero b) }
 {
-    if a == 0 { b == 0 } else { false }
+    a == 0 && b == 0
 }
 
 // Whether a + tb and c + td, neither of which is 0 at every t, are 0 at no t together: by cross products.
@@ -56,10 +53,7 @@ impl Vanishing {
     {
         let c = self.a;
         let d = self.b;
-        if self.never {
-            return self;
-        }
-        if !is_strict(s) {
+        if self.never || !is_strict(s) {
             return self;
         }
         if both_zero(c, d) {
@@ -75,13 +69,7 @@ impl Vanishing {
     {
         let a = self.a;
         let b = self.b;
-        if self.never {
-            return true;
-        }
-        if both_zero(a, b) {
-            return false;
-        }
-        t.not_zero_at(a, b)
+        self.never || !both_zero(a, b) && t.not_zero_at(a, b)
     }
 
     // Whether one of them does not vanish at some t of an interval, if that has any: at its lowest, or at one of several.
@@ -90,17 +78,6 @@ impl Vanishing {
     {
         let a = self.a;
         let b = self.b;
-        let low = r.low;
-        if self.never {
-            return true;
-        }
-        if low.not_zero_at(a, b) {
-            return true;
-        }
-        if r.has_more() {
-            !both_zero(a, b)
-        } else {
-            false
-        }
+        self.never || r.low.not_zero_at(a, b) || r.has_more() && !both_zero(a, b)
     }
 }

@@ -24,6 +24,7 @@ use tape::rows::{Row, append, empty, push};
 use tape::tokens::{set_of, slot_of};
 
 // What the atoms are to be enough for: a contradiction, or that what they say of an atom lies inside its set, where they carry the sets of a state.
+// kept: a flag beside values, no enum: the public contracts (specs/Enough, and those of reasons) name its fields, and stay as they are.
 #[derive(Clone, Copy)]
 pub struct Question {
     pub state: State,
@@ -209,6 +210,7 @@ pub fn leave_out(
     let end = list.count;
     let mut kept = empty();
     let mut i = 0;
+    // kept: the step is not one: the walk goes on behind the token that is kept.
     while i < end {
         let at = last_enough(
             coefficient,

@@ -8,7 +8,7 @@ use native.Mathlib.Nat.{add-zero}
 use native.Mathlib.Omega.{arith}
 use lib.ListN.{length, drop, get_or, length-append, length-drop}
 use lib.Seq.{get_or-drop, drop-drop, drop_at}
-use Rattle.rules.specs.Formula.{end, atom, or}
+use Rattle.rules.specs.Formula.{atom, or}
 use Rattle.rules.specs.Level.{Placed, Formula, dual, atoms_of, ors_of, Entry, fails, joins, stays, enter, Walk, falls, still, moved, add, gather, after_gather, and_rule, or_rule}
 use Rattle.rules.specs.Count.{unless_fails, gather_count, gathered_count, rule_count}
 use Rattle.table.specs.Table.{Table}

@@ -1,8 +1,8 @@
 -- Step 6 at the root: a level's parts as the tree that they are, and the tree that a tape holds as the rules read it.
 use mathlib.Core.Path.{◌≡◌, refl, sym, ◌∙◌, ap, ap₂, subst}
 use mathlib.Core.Bool.{Bool, true, false, not}
-use mathlib.Core.List.{List, [], ◌∷◌, ◌++◌, map, append_assoc, append-nil}
-use Prim.Native.Nat.{ℕ, zero, suc, ◌+◌, ◌-◌, ◌*◌, ◌/◌, ◌%◌, ◌<◌, ◌≤◌, max}
+use mathlib.Core.List.{List, [], ◌∷◌, ◌++◌, map, append-nil}
+use Prim.Native.Nat.{ℕ, suc, ◌+◌, ◌-◌, ◌*◌, ◌/◌, ◌%◌, ◌<◌, ◌≤◌, max}
 use native.Mathlib.Omega.{arith}
 use borrow.Author.Tests.{ne_eqb}
 use lib.Dec.{eqb}
@@ -12,16 +12,15 @@ use Rattle.rules.specs.Formula as formula
 use Rattle.rules.specs.Level.{Formula, complemented, dual, dual_node, Walk, atoms_of, ors_of, still, gather, or_parts, parts, node_if, as_node, and_rule, simplify}
 use Rattle.rules.specs.Count.{gather_count, rule_count, most_rounds}
 use Rattle.table.specs.Table.{Table}
-use Rattle.tape.specs.declared.rows.Row.{Row}
 use Rattle.tape.specs.declared.walks.Level.{Level}
 use Rattle.level.specs.declared.writing.Tree.{Tree}
 use Rattle.level.specs.declared.nesting.Found.{Found}
 use Rattle.level.specs.declared.settling.Finished.{Finished}
 use Rattle.tape.specs.Row.{Lists}
-use Rattle.tape.specs.Token.{slot, place, atom_of, atoms_in, opposite}
+use Rattle.tape.specs.Token.{place, atom_of, atoms_in, opposite}
 use Rattle.tape.specs.Tape.{Children, none, child, laid, ors_in}
 use Rattle.tape.specs.Walked.{Shows, size_of}
-use Rattle.level.specs.Source.{Forest, nothing, leaf, branch, count, size, flat, named, meant, taken, seen, Shaped, Below, Holds, Done}
+use Rattle.level.specs.Source.{Forest, nothing, leaf, branch, count, size, flat, named, meant, seen, Shaped, Below, Holds, Done}
 use Rattle.level.specs.Settled.{FinishIs}
 use Rattle.level.specs.Tree.{tokens, kind_number, kind_of, TokensWithin, TreeHeld, root_parts, RootIs, ShortenedIs}
 use Rattle.level.specs.Written.{told, leaves, forest, how_many, Between, opening, root_of, turned, TreeIs}
@@ -306,17 +305,12 @@ root_node token b p rest tree here within few e = record {
 }
 
 module _ {token : List ℕ} {root : ℕ} where
-  pub held-and : (tree : Node ℕ) → TreeHeld token root tree → root ≡ 1 → RootNode token true tree
+  -- a root that is no atom is a node of its kind
+  pub held-node : (tree : Node ℕ) → TreeHeld token root tree → (root ≡ 0 → ⊥) → RootNode token (eqb root 1) tree
   unfolding open_formula tokens TokensWithin back root_parts
-  held-and (formula.leaf x) h e = absurd (omega (arith, h.root_is))
-  held-and (all_of kids) h e = root_node token true kids h.rest (all_of kids) h.here h.within.2 (omega (arith, h.few)) (λ t. refl)
-  held-and (any_of kids) h e = absurd (omega (arith, h.root_is))
-
-  pub held-or : (tree : Node ℕ) → TreeHeld token root tree → (root ≡ 0 → ⊥) → (root ≡ 1 → ⊥) → RootNode token false tree
-  unfolding open_formula tokens TokensWithin back root_parts
-  held-or (formula.leaf x) h m n = absurd (m h.root_is)
-  held-or (all_of kids) h m n = absurd (n h.root_is)
-  held-or (any_of kids) h m n = root_node token false kids h.rest (any_of kids) h.here h.within.2 (omega (arith, h.few)) (λ t. refl)
+  held-node (formula.leaf x) h m = absurd (m h.root_is)
+  held-node (all_of kids) h m = rw h.root_is (root_node token true kids h.rest (all_of kids) h.here h.within.2 (omega (arith, h.few)) (λ t. refl))
+  held-node (any_of kids) h m = rw h.root_is (root_node token false kids h.rest (any_of kids) h.here h.within.2 (omega (arith, h.few)) (λ t. refl))
 
 -- ---- the whole
 

@@ -1,13 +1,13 @@
 -- Steps 2 to 6: one turn of them, the turns of the way back to step 2, and what step 1 hands over.
 use mathlib.Core.Path.{◌≡◌, refl, sym, ◌∙◌, ap}
 use mathlib.Core.Bool.{Bool, true, false}
-use mathlib.Core.List.{List, [], ◌∷◌, ◌++◌, append-nil}
-use Prim.Native.Nat.{ℕ, suc, ◌+◌, ◌-◌, ◌<◌, ◌≤◌, max}
+use mathlib.Core.List.{List, [], ◌++◌, append-nil}
+use Prim.Native.Nat.{ℕ, ◌+◌, ◌-◌, ◌<◌, ◌≤◌, max}
 use native.Mathlib.Omega.{arith}
 use lib.ListN.{length, take, drop, length-append}
 use Rattle.rules.specs.Rounds.{State, settled, run}
-use Rattle.rules.specs.Level.{Placed, plains, Formula, dual, or_parts, parts, never, Walk, falls, still, moved, sweep, after_sweep, after_rounds, after_tidy, settled_down, after_gather}
-use Rattle.rules.specs.Count.{run_count, removal_count, sweep_count, outcome_count, tidy_count, settled_count, gathered_count}
+use Rattle.rules.specs.Level.{Placed, plains, Formula, dual, or_parts, parts, never, Walk, still, sweep, after_sweep, after_rounds, after_tidy, settled_down, after_gather}
+use Rattle.rules.specs.Count.{run_count, sweep_count, outcome_count, tidy_count, settled_count, gathered_count}
 use Rattle.ending_laws.specs.Turns.{no-turn-missing}
 use Rattle.ending_laws.specs.Counts.{no-count-missing}
 use Rattle.level_laws.specs.Carried.{carried-plain}
@@ -21,7 +21,7 @@ use Rattle.level.specs.declared.settling.Stage.{Stage}
 use Rattle.tape.specs.Row.{row_of, Lists}
 use Rattle.tape.specs.Token.{atom_of, atoms_in}
 use Rattle.tape.specs.Tape.{Children, none, child, laid, ors_in}
-use Rattle.tape.specs.Walked.{walk_of, Shows, Stands, one_if, room, load, size_of}
+use Rattle.tape.specs.Walked.{walk_of, Stands, one_if, room}
 use Rattle.steps.specs.Tidied.{tidied_of, Tidies}
 use Rattle.round.specs.Views.{state_of}
 use Rattle.steps.specs.Carried.{Carries, LeftBy, Remains}

@@ -1,32 +1,29 @@
 -- The working tape written out, from left to right: atoms, the marks of nodes, and the children one after the other.
 use mathlib.Core.Path.{◌≡◌, refl, sym, ◌∙◌, ap}
-use mathlib.Core.Bool.{Bool, true, false, not}
+use mathlib.Core.Bool.{Bool, false, not}
 use mathlib.Core.List.{List, [], ◌∷◌, ◌++◌, map, append_assoc, append-nil}
-use Prim.Native.Nat.{ℕ, zero, suc, ◌+◌, ◌-◌, ◌*◌, ◌/◌, ◌%◌, ◌<◌, ◌≤◌}
+use Prim.Native.Nat.{ℕ, suc, ◌+◌, ◌-◌, ◌*◌, ◌/◌, ◌%◌, ◌<◌, ◌≤◌}
 use native.Mathlib.Nat.{add-zero}
+use native.Mathlib.Numerals.{add-one}
 use native.Mathlib.Omega.{arith}
 use lib.ListN.{length, take, drop, get_or, set, length-append, length-drop}
-use lib.Seq.{get_or-drop, get_or-set_same, get_or-set_other}
+use lib.Seq.{take-suc, get_or-drop, get_or-set_same, get_or-set_other}
 use Rattle.tape.specs.declared.rows.Row.{Row}
 use Rattle.tape.specs.Row.{Lists}
 use Rattle.tape.specs.Tape.{Children, none, child, laid, ChildAt}
 use Rattle.level.specs.Source.{Forest, count, flat}
 use Rattle.level.specs.Written.{told, leaves, forest, how_many, Between, Heads, MarksIs}
-use Rattle.tape.specs.Listing.{held_at, part-more}
+use Rattle.tape.specs.Listing.{held_at}
 use Rattle.tape.specs.Entering.{map-append, head_of}
-use Rattle.tape.specs.Placed.{its-atoms, past-atoms, past-child, child-ends}
+use Rattle.tape.specs.Placed.{past-atoms, past-child, child-ends}
 
 -- ---- atoms
 
-pub tell-start : {row : Row} (b : Bool) {l : List ℕ} (m : List ℕ) (from : ℕ) → Lists row l → Lists row (l ++ map (told b) (take (from - from) (drop from m)))
-tell-start b {l} m from w = let e : from - from ≡ 0 = omega arith in rw (e, append-nil l) w
-
-pub tell-turn : {row other : Row} (b : Bool) (l : List ℕ) {m : List ℕ} (from i v : ℕ) → v ≡ told b (get_or other.token i 0) → Lists other m → from ≤ i → i < length m
-    → Lists row ((l ++ map (told b) (take (i - from) (drop from m))) ++ (v ∷ [])) → Lists row (l ++ map (told b) (take (i + 1 - from) (drop from m)))
-tell-turn {row} {other} b l {m} from i v e q h k w =
-    let x : v ≡ told b (get_or m i 0) = e ∙ ap (told b) (held_at q i k) in
-    let y : take (i + 1 - from) (drop from m) ≡ take (i - from) (drop from m) ++ (get_or m i 0 ∷ []) = sym (part-more [] m from i h k) in
-    rw (y, map-append (told b) (take (i - from) (drop from m)) (get_or m i 0 ∷ []), sym x, sym (append_assoc l (map (told b) (take (i - from) (drop from m))) (v ∷ []))) w
+-- one atom more is told
+pub tell-turn : {row : Row} (b : Bool) (l m : List ℕ) (i v : ℕ) → v ≡ told b (get_or m i 0) → i < length m
+    → Lists row ((l ++ map (told b) (take i m)) ++ (v ∷ [])) → Lists row (l ++ map (told b) (take (i + 1) m))
+tell-turn b l m i v e k w =
+    rw (add-one, take-suc m i 0 k, map-append (told b) (take i m) (get_or m i 0 ∷ []), sym e, sym (append_assoc l (map (told b) (take i m)) (v ∷ []))) w
 
 pub flat-leaves : (b : Bool) (l : List ℕ) (f : Forest) → flat (leaves b l f) ≡ map (told b) l ++ flat f
 flat-leaves b [] f = refl

@@ -1,5 +1,5 @@
 -- The working tape written out again in the order of the source tape, with the book's kinds of nodes.
-use Rattle.std.specs.Prelude.{◌≡◌, Bool, true, false, not, List, [], ◌∷◌, ◌++◌, ℕ, suc, ◌+◌, ◌%◌, ◌<◌, ◌≤◌, eqb, length, drop, get_or}
+use Rattle.std.specs.Prelude.{◌≡◌, Bool, true, false, not, List, [], ◌∷◌, ◌++◌, ℕ, suc, ◌+◌, ◌%◌, ◌≤◌, eqb, length, drop, get_or}
 use Rattle.rules.specs.Formula.{Node, each_atom_of, alone, nodes}
 use Rattle.rules.specs.Level.{Placed, Formula, dual_node, as_node}
 use Rattle.table.specs.Table.{Table}

@@ -193,37 +193,25 @@ pub fn finish(
     let n = atoms.count;
     let stay = walked.ors;
     let mut ors = stay.token;
-    if walked.falls {
-        let stage = never(&mut ors, largest);
-        return Finished {
-            level: Level {
-                atoms: Row {
-                    token: list,
-                    count: stage.atoms,
-                },
-                ors: Row {
-                    token: ors,
-                    count: stage.ors,
-                },
-            },
-            rounds: stage.rounds,
-        };
-    }
-    let join = walked.new;
-    let new = join.token;
-    let more = join.count;
-    lay(&mut list, n, &new, 0, more);
-    let stage = settle(
-        coefficient,
-        monomial,
-        terms,
-        variables,
-        &mut list,
-        n + more,
-        &mut ors,
-        stay.count,
-        largest,
-    );
+    let stage = if walked.falls {
+        never(&mut ors, largest)
+    } else {
+        let join = walked.new;
+        let new = join.token;
+        let more = join.count;
+        lay(&mut list, n, &new, 0, more);
+        settle(
+            coefficient,
+            monomial,
+            terms,
+            variables,
+            &mut list,
+            n + more,
+            &mut ors,
+            stay.count,
+            largest,
+        )
+    };
     Finished {
         level: Level {
             atoms: Row {

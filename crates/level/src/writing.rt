@@ -36,11 +36,9 @@ fn tell_atoms(out: &mut [u32], n: usize, row: &[u32], from: usize, to: usize, co
     ensures { (k : ℕ) (l m : List ℕ) → Lists (row_of out.old n) l → Lists (row_of row.now k) m → to ≤ length m → Lists (row_of out.new (n + (to - from))) (l ++ map (told_of conjunction) (take (to - from) (drop from m))) }
 {
     let mut place = n;
-    let mut i = from;
-    while i < to {
-        out[place] = told(row[i], conjunction);
+    for &token in &row[from..to] {
+        out[place] = told(token, conjunction);
         place += 1;
-        i += 1;
     }
 }
 
@@ -52,6 +50,7 @@ fn mark(row: &[u32], from: usize, to: usize, conjunction: bool, marks: &mut [boo
 {
     let mut count: u32 = 0;
     let mut place = from;
+    // kept: a step of this walk goes past a whole child
     while place < to {
         let head = row[place];
         let atoms = atoms_of(head);
@@ -70,6 +69,7 @@ fn tell_children(out: &mut [u32], at: usize, row: &[u32], n: usize, marks: &mut 
 {
     let mut end = at;
     let mut place = 0;
+    // kept: a step of this walk goes to the child's own children, or past a child that has none
     while place < n {
         let head = row[place];
         let atoms = atoms_of(head);

@@ -1,6 +1,6 @@
 -- What the functions for C return: one number for each case of the book's answer, with document 01's numbers and values.
 -- The laws say that the number tells the case, and that the case's values can be taken out of it again.
-use Rattle.std.specs.Prelude.{◌≡◌, refl, false, List, ℕ, ◌+◌, ◌*◌, ◌/◌, ◌%◌, ◌<◌, ◌≤◌, ltb, length}
+use Rattle.std.specs.Prelude.{◌≡◌, refl, false, Result, Ok, Err, List, ℕ, ◌+◌, ◌*◌, ◌/◌, ◌%◌, ◌<◌, ◌≤◌, ltb, length}
 use Rattle.std.proofs.Common.{ap, ◌∙◌, true≢false, arith, lit≤, lt-ltb, le-ltb}
 use Rattle.rules.specs.Answer as book
 use Rattle.rules.specs.Block.{read_block}
@@ -9,7 +9,8 @@ use Rattle.answer.specs.declared.Verdict.{Verdict}
 use Rattle.answer.specs.declared.Verdict.TheVariants.{Formula, Always, Unsatisfiable}
 use Rattle.answer.specs.declared.Counts.{Counts}
 use Rattle.answer.specs.declared.Answer.{Answer}
-use Rattle.answer.specs.declared.Answer.TheVariants.{Refused, Answered}
+use Rattle.answer.specs.declared.Refusal.{Refusal}
+use Rattle.answer.specs.Refusals.{by_number as numbered}
 use Rattle.answer.specs.Answered.{verdict_of, counts_of, answer_of, length_in}
 use Rattle.lift.specs.Refusals.{to-twenty-three}
 use Rattle.lift.specs.Bounds.{Bounded, by_number, by_block, answer-bounded}
@@ -65,13 +66,13 @@ packed_of Formula size = 65536 + size
 packed_of Always size = 131072 + size
 packed_of Unsatisfiable size = 196608 + size
 
-abbrev pub number_in : Answer → ℕ
-number_in (Refused number) = number
-number_in (Answered verdict size counts) = packed_of verdict size
+abbrev pub number_in : Result Answer ℕ → ℕ
+number_in (Err number) = number
+number_in (Ok answer) = packed_of answer.verdict answer.length
 
-abbrev pub counts_or_zero : Answer → Counts
-counts_or_zero (Refused number) = record { atoms_in = 0; atoms_out = 0; polynomials_in = 0; polynomials_out = 0 }
-counts_or_zero (Answered verdict size counts) = counts
+abbrev pub counts_or_zero : Result Answer ℕ → Counts
+counts_or_zero (Err number) = record { atoms_in = 0; atoms_out = 0; polynomials_in = 0; polynomials_out = 0 }
+counts_or_zero (Ok answer) = answer.counts
 
 packed-verdict : (verdict : book.Verdict) (size : ℕ) → packed_of (verdict_of verdict) size ≡ verdict_number verdict * 65536 + size
 unfolding verdict_of verdict_number
@@ -94,16 +95,16 @@ unfolding filled_part
 part-short (book.refusal number) bounded = omega arith
 part-short (book.answered verdict bytes counts) (by_block head longest) = omega arith
 
-module _ {bytes before after : List ℕ} {returned : Answer} (answers : Answers bytes before after returned) where
+module _ {bytes before after : List ℕ} {returned : Result Answer Refusal} (answers : Answers bytes before after returned) where
   -- The length of what is returned has room below the verdict's number.
-  pub length-short : length_in returned < 65536
+  pub length-short : length_in (numbered returned) < 65536
   length-short = omega (arith, part_length answers, part-short (answer (length before) bytes) (answer-bounded (length before) bytes))
 
   -- The number and the counts are the answer's.
-  pub number-exported : number_in returned ≡ exported (answer (length before) bytes)
+  pub number-exported : number_in (numbered returned) ≡ exported (answer (length before) bytes)
   number-exported = ap number_in answers.returns ∙ number-answer (answer (length before) bytes)
 
-  pub counts-counted : counts_or_zero returned ≡ counts_of (counted (answer (length before) bytes))
+  pub counts-counted : counts_or_zero (numbered returned) ≡ counts_of (counted (answer (length before) bytes))
   counts-counted = ap counts_or_zero answers.returns ∙ counts-answer (answer (length before) bytes)
 
 -- The same of the entry with places.
@@ -112,15 +113,15 @@ unfolding answer_of
 length-bounded (book.refusal number) bounded = omega arith
 length-bounded (book.answered verdict bytes counts) (by_block head longest) = omega arith
 
-module _ {bytes before after slice told : List ℕ} {returned : Answer} (answers : PlacedAnswers bytes before after slice told returned) where
-  pub placed-length-short : length_in returned < 65536
+module _ {bytes before after slice told : List ℕ} {returned : Result Answer Refusal} (answers : PlacedAnswers bytes before after slice told returned) where
+  pub placed-length-short : length_in (numbered returned) < 65536
   unfolding answer_of
   placed-length-short =
       rw answers.returns
       (by-places (λ (a : book.Answer). length_in (answer_of a) < 65536) (length before) (length slice) bytes (λ number. omega arith)
       (length-bounded (answer (length before) bytes) (answer-bounded (length before) bytes)))
 
-  pub placed-number : number_in returned ≡ exported (placed_answer (length before) (length slice) bytes)
+  pub placed-number : number_in (numbered returned) ≡ exported (placed_answer (length before) (length slice) bytes)
   placed-number = ap number_in answers.returns ∙ number-answer (placed_answer (length before) (length slice) bytes)
 
 -- ---- what can be told from the number

@@ -1,6 +1,6 @@
 -- What `report` says: the program's lines in the lent text if they fit, and the text as it was if they do not. The result, the output's bytes and the
 -- text's bytes are determined by the input and by what was lent.
-use Rattle.std.specs.Prelude.{◌≡◌, List, ◌++◌, ℕ, ◌+◌, ◌*◌, ◌<◌, ◌≤◌}
+use Rattle.std.specs.Prelude.{◌≡◌, Result, Ok, Err, List, ◌++◌, ℕ, ◌+◌, ◌*◌, ◌<◌, ◌≤◌}
 use Rattle.std.proofs.Common.{sym, ◌∙◌, arith, length-append, length-take-le, le-leb}
 use Rattle.std.proofs.Math.Path.{ap, subst}
 use Rattle.std.proofs.Math.ListN.{length, take, drop}
@@ -14,7 +14,8 @@ use Rattle.lines.specs.Parts.{refusal-long, line-long, lines_long}
 use Rattle.answer.specs.declared.Verdict.{Verdict}
 use Rattle.answer.specs.declared.Counts.{Counts}
 use Rattle.answer.specs.declared.Answer.{Answer}
-use Rattle.answer.specs.declared.Answer.TheVariants.{Refused, Answered}
+use Rattle.answer.specs.declared.Refusal.{Refusal}
+use Rattle.answer.specs.Refusals.{number_of, by_number}
 use Rattle.answer.specs.Answered.{verdict_of, counts_of, answer_of, length_in}
 use Rattle.answer.specs.Entry.{Answers}
 use Rattle.telling.specs.Told.{told, told_length, Told, verdict_in, counts_in, verdict-again, counts-again}
@@ -70,19 +71,19 @@ module _ {bytes before after text text-after : List ℕ} {n : ℕ} (r : Reports 
 
 -- ---- the answer by cases
 
-is-refusal : (a : book.Answer) {number : ℕ} → answer_of a ≡ Refused number → a ≡ book.refusal number
+is-refusal : (a : book.Answer) {number : ℕ} → answer_of a ≡ Err number → a ≡ book.refusal number
 unfolding answer_of
 is-refusal (book.refusal number) e = cc
 is-refusal (book.answered verdict bytes counts) e = absurd (let z : ◌≡◌ {A = ℕ} 0 1 = cc in omega arith)
 
 -- What is returned as an answer is the book's answer, with the filled part for its bytes.
-pub is-answer : (a : book.Answer) {verdict : Verdict} {size : ℕ} {counts : Counts} → answer_of a ≡ Answered verdict size counts
-    → a ≡ book.answered (verdict_in verdict) (filled_part a) (counts_in counts)
+pub is-answer : (a : book.Answer) {answer : Answer} → answer_of a ≡ Ok answer
+    → a ≡ book.answered (verdict_in answer.verdict) (filled_part a) (counts_in answer.counts)
 unfolding answer_of filled_part
 is-answer (book.refusal number) e = absurd (let z : ◌≡◌ {A = ℕ} 0 1 = cc in omega arith)
-is-answer (book.answered book-verdict bytes book-counts) {verdict} {size} {counts} e =
-    let verdict-is : verdict_of book-verdict ≡ verdict = cc in
-    let counts-are : counts_of book-counts ≡ counts = cc in
+is-answer (book.answered book-verdict bytes book-counts) {answer} e =
+    let verdict-is : verdict_of book-verdict ≡ answer.verdict = cc in
+    let counts-are : counts_of book-counts ≡ answer.counts = cc in
     rw (← verdict-is, ← counts-are, verdict-again book-verdict, counts-again book-counts)
 
 part-inside : (a : book.Answer) (before : List ℕ) → length (filled_part a) ≤ length (written a before)
@@ -90,39 +91,39 @@ unfolding filled_part written
 part-inside (book.refusal number) before = omega arith
 part-inside (book.answered verdict bytes counts) before = rw (length-append bytes (drop (length bytes) before)) (omega arith)
 
-module _ {bytes before after : List ℕ} {returned : Answer} (answers : Answers bytes before after returned) where
+module _ {bytes before after : List ℕ} {returned : Result Answer Refusal} (answers : Answers bytes before after returned) where
   given : book.Answer
   given = book.answer (length before) bytes
 
   -- The line of a refusal is told.
-  pub reports-refusal : {number : ℕ} → returned ≡ Refused number → {text text-after : List ℕ} {n : ℕ}
-      → Told (report (book.refusal number)) text text-after n → Reports bytes before after text text-after n
+  pub reports-refusal : {refusal : Refusal} → returned ≡ Err refusal → {text text-after : List ℕ} {n : ℕ}
+      → Told (report (book.refusal (number_of refusal))) text text-after n → Reports bytes before after text text-after n
   unfolding given
   reports-refusal is {text} {text-after} {n} told_Line =
-      let same : given ≡ book.refusal _ = is-refusal given (sym answers.returns ∙ is) in
+      let same : given ≡ book.refusal _ = is-refusal given (sym answers.returns ∙ ap by_number is) in
       record { output = answers.output; lines = subst (λ (a : book.Answer). Told (report a) text text-after n) (sym same) told_Line }
 
-  module _ {verdict : Verdict} {size : ℕ} {counts : Counts} (is : returned ≡ Answered verdict size counts) where
-    size_is : size ≡ length_in returned
-    size_is = sym (ap length_in is)
+  module _ {answer : Answer} (is : returned ≡ Ok answer) where
+    size_is : answer.length ≡ length_in (by_number returned)
+    size_is = sym (ap (λ (r : Result Answer Refusal). length_in (by_number r)) is)
 
     -- The new block stands in the output's first bytes,
-    pub answer-inside : size ≤ length after
+    pub answer-inside : answer.length ≤ length after
     unfolding given
     answer-inside = omega (arith, size_is, part_length answers, part-inside given before, ap length answers.output)
 
     -- there are few of them,
-    pub answer-small : length (take size after) < 65536
-    answer-small = omega (arith, length-take-le size after answer-inside, size_is, length-short answers)
+    pub answer-small : length (take answer.length after) < 65536
+    answer-small = omega (arith, length-take-le answer.length after answer-inside, size_is, length-short answers)
 
     -- and both lines are told.
     pub reports-answer : {text text-after : List ℕ} {n : ℕ}
-        → Told (report (book.answered (verdict_in verdict) (take size after) (counts_in counts))) text text-after n
+        → Told (report (book.answered (verdict_in answer.verdict) (take answer.length after) (counts_in answer.counts))) text text-after n
         → Reports bytes before after text text-after n
     unfolding given
     reports-answer {text} {text-after} {n} told-lines =
-        let same : given ≡ book.answered (verdict_in verdict) (filled_part given) (counts_in counts) = is-answer given (sym answers.returns ∙ is) in
-        let block : take size after ≡ filled_part given = part-first answers size size_is in
+        let same : given ≡ book.answered (verdict_in answer.verdict) (filled_part given) (counts_in answer.counts) = is-answer given (sym answers.returns ∙ ap by_number is) in
+        let block : take answer.length after ≡ filled_part given = part-first answers answer.length size_is in
         record {
           output = answers.output;
           lines = subst (λ (a : book.Answer). Told (report a) text text-after n) (sym same) (rw block at told-lines);

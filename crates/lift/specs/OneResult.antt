@@ -1,11 +1,14 @@
 -- 01, "How tight the statements are": "any two results allowed for one input are proved equal". For each public function one record of what a call
 -- of it leaves, and the law that its contract allows only one for what was lent.
-use Rattle.std.specs.Prelude.{◌≡◌, List, ℕ}
+use Rattle.std.specs.Prelude.{◌≡◌, Result, List, ℕ}
 use Rattle.std.proofs.Common.{sym, ◌∙◌}
 use Rattle.rules.specs.Block.{read_block}
-use Rattle.block.specs.declared.Outcome.{Outcome}
-use Rattle.block.specs.Held.{outcome_of}
+use Rattle.block.specs.declared.Held.{Held}
+use Rattle.block.specs.declared.Refusal.{Refusal as BlockRefusal}
+use Rattle.block.specs.Held.{HeldFound, held-found-once}
 use Rattle.answer.specs.declared.Answer.{Answer}
+use Rattle.answer.specs.declared.Refusal.{Refusal}
+use Rattle.answer.specs.Refusals.{one_returned}
 use Rattle.answer.specs.declared.WithRounds.{WithRounds}
 use Rattle.answer.specs.Entry.{Answers}
 use Rattle.lift.specs.Part.{Fills}
@@ -22,19 +25,19 @@ both e f = e ∙ sym f
 
 -- `lift::simplify`: the answer and the output.
 pub record LeftBySimplify : Type 0 where
-  pub returned : Answer
+  pub returned : Result Answer Refusal
   pub output : List ℕ
 
 pub one_answer : (bytes before : List ℕ) (left other : LeftBySimplify)
     → Answers bytes before left.output left.returned → Answers bytes before other.output other.returned → left ≡ other
 one_answer bytes before left other a b =
-    let returned = both a.returns b.returns in
+    let returned = one_returned left.returned other.returned (both a.returns b.returns) in
     let output = both a.output b.output in
     λ i. record { returned = returned i; output = output i }
 
 -- `lift::placed`: the answer, the output and the slice of places.
 pub record LeftByPlaced : Type 0 where
-  pub returned : Answer
+  pub returned : Result Answer Refusal
   pub output : List ℕ
   pub places : List ℕ
 
@@ -42,7 +45,7 @@ pub one_placed : (bytes before slice : List ℕ) (left other : LeftByPlaced)
     → PlacedAnswers bytes before left.output slice left.places left.returned
     → PlacedAnswers bytes before other.output slice other.places other.returned → left ≡ other
 one_placed bytes before slice left other a b =
-    let returned = both a.returns b.returns in
+    let returned = one_returned left.returned other.returned (both a.returns b.returns) in
     let output = both a.output b.output in
     let places = both a.places b.places in
     λ i. record { returned = returned i; output = output i; places = places i }
@@ -55,7 +58,7 @@ pub record LeftByRounds : Type 0 where
 pub one-number-of-rounds : (bytes before : List ℕ) (left other : LeftByRounds)
     → RoundsAnswers bytes before left.output left.returned → RoundsAnswers bytes before other.output other.returned → left ≡ other
 one-number-of-rounds bytes before left other a b =
-    let answer = both a.answers.returns b.answers.returns in
+    let answer = one_returned left.returned.answer other.returned.answer (both a.answers.returns b.answers.returns) in
     let rounds = both a.rounds b.rounds in
     let output = both a.answers.output b.answers.output in
     λ i. record { returned = record { answer = answer i; rounds = rounds i }; output = output i }
@@ -170,6 +173,6 @@ one-exported-rounds bytes before left other a b =
 
 -- ---- the reader
 
--- `block::read` leaves what it returns: the refusal's number and the arrays.
-pub one-outcome : (bytes : List ℕ) (left other : Outcome) → left ≡ outcome_of (read_block bytes) → other ≡ outcome_of (read_block bytes) → left ≡ other
-one-outcome bytes left other a b = both a b
+-- `block::read` leaves what it returns: the refusal or the arrays.
+pub one-outcome : (bytes : List ℕ) (left other : Result Held BlockRefusal) → HeldFound bytes left → HeldFound bytes other → left ≡ other
+one-outcome bytes left other a b = held-found-once bytes a b

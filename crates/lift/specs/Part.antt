@@ -1,10 +1,12 @@
 -- 01, "Refusal numbers": "A second entry gives back the filled part of the lent output itself, empty exactly on refusal."
 -- The first bytes of the output are the part, and the length that is returned is its length.
-use Rattle.std.specs.Prelude.{◌≡◌, refl, List, ℕ, eqb, length, take}
+use Rattle.std.specs.Prelude.{◌≡◌, refl, Result, List, ℕ, eqb, length, take}
 use Rattle.std.proofs.Common.{ap, ◌∙◌, arith, take_at, ne_eqb}
 use Rattle.rules.specs.Answer as book
 use Rattle.rules.specs.Answer.{written, filled_part, is_refusal, answer}
 use Rattle.answer.specs.declared.Answer.{Answer}
+use Rattle.answer.specs.declared.Refusal.{Refusal}
+use Rattle.answer.specs.Refusals.{by_number}
 use Rattle.answer.specs.Answered.{answer_of, length_in}
 use Rattle.lift.specs.Bounds.{Bounded, by_block, answer-bounded}
 use Rattle.answer.specs.Entry.{Answers}
@@ -35,10 +37,10 @@ unfolding filled_part written
 first-written (book.refusal number) output = refl
 first-written (book.answered verdict bytes counts) output = take_at bytes _ (length bytes) refl
 
-module _ {bytes before after : List ℕ} {returned : Answer} (answers : Answers bytes before after returned) where
+module _ {bytes before after : List ℕ} {returned : Result Answer Refusal} (answers : Answers bytes before after returned) where
   -- So what is returned has the part's length, and the first bytes of that length are the part.
-  pub part_length : length_in returned ≡ length (filled_part (answer (length before) bytes))
+  pub part_length : length_in (by_number returned) ≡ length (filled_part (answer (length before) bytes))
   part_length = ap length_in answers.returns ∙ length-filled (answer (length before) bytes)
 
-  pub part-first : (filled : ℕ) → filled ≡ length_in returned → take filled after ≡ filled_part (answer (length before) bytes)
+  pub part-first : (filled : ℕ) → filled ≡ length_in (by_number returned) → take filled after ≡ filled_part (answer (length before) bytes)
   part-first filled is = rw (is, part_length, answers.output) (first-written (answer (length before) bytes) before)

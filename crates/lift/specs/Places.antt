@@ -1,5 +1,5 @@
 -- 02, #105: the entry with places, by cases. "Refusals: 18 if that slice is shorter than 255, tried directly after 1"; "on refusal all are" unchanged.
-use Rattle.std.specs.Prelude.{◌≡◌, refl, Bool, true, false, List, ℕ, ◌<◌, ◌≤◌, leb, length}
+use Rattle.std.specs.Prelude.{◌≡◌, refl, Bool, true, false, Result, Err, List, ℕ, ◌<◌, ◌≤◌, leb, length}
 use Rattle.std.proofs.Math.Path.{sym}
 use Rattle.std.proofs.Common.{ap, ◌∙◌, subst}
 use borrow.Author.Tests.{le-leb, lt-leb}
@@ -9,7 +9,9 @@ use Rattle.rules.specs.Answer.{written, unless_short, unless_few, answer_to, pla
 use Rattle.rules.specs.Demands.{SameLifts, NeverLonger}
 use Rattle.laws.specs.Answers.{same-lifts, never-longer-answer}
 use Rattle.answer.specs.declared.Answer.{Answer}
-use Rattle.answer.specs.declared.Answer.TheVariants.{Refused}
+use Rattle.answer.specs.declared.Refusal.{Refusal}
+use Rattle.answer.specs.declared.Refusal.TheVariants.{OutputShort, PlacesShort}
+use Rattle.answer.specs.Refusals.{number_of, by_number}
 use Rattle.answer.specs.Answered.{answer_of, answer-refused, answer-accepted}
 use Rattle.answer.specs.Entry.{Answers, TellsPlaces}
 
@@ -18,8 +20,8 @@ pub record Places (bytes : List ℕ) (room : ℕ) (before after : List ℕ) : Ty
   pub is : after ≡ places_written (book.answer room bytes) (read_block bytes) before
 
 -- What is returned, what the output and what the slice of places hold afterwards.
-pub record PlacedAnswers (bytes before after slice told : List ℕ) (returned : Answer) : Type 0 where
-  pub returns : returned ≡ answer_of (placed_answer (length before) (length slice) bytes)
+pub record PlacedAnswers (bytes before after slice told : List ℕ) (returned : Result Answer Refusal) : Type 0 where
+  pub returns : by_number returned ≡ answer_of (placed_answer (length before) (length slice) bytes)
   pub output : after ≡ written (placed_answer (length before) (length slice) bytes) before
   pub places : told ≡ places_written (placed_answer (length before) (length slice) bytes) (read_block bytes) slice
 
@@ -54,22 +56,22 @@ module _ (room few : ℕ) (bytes : List ℕ) where
   placed-enough k = rw (le-leb 255 few k)
 
 module _ (bytes before slice : List ℕ) where
-  refused-with : (number : ℕ) → placed_answer (length before) (length slice) bytes ≡ book.refusal number
-      → PlacedAnswers bytes before before slice slice (Refused number)
+  refused-with : (refusal : Refusal) → placed_answer (length before) (length slice) bytes ≡ book.refusal (number_of refusal)
+      → PlacedAnswers bytes before before slice slice (Err refusal)
   unfolding answer_of written places_written
-  refused-with number e = record {
+  refused-with refusal e = record {
     returns = sym (ap answer_of e);
     output = sym (ap (λ (a : book.Answer). written a before) e);
     places = sym (ap (λ (a : book.Answer). places_written a (read_block bytes) slice) e);
   }
 
-  pub placed-refused-1 : length before < length bytes → PlacedAnswers bytes before before slice slice (Refused 1)
-  placed-refused-1 h = refused-with 1 (placed-short (length before) (length slice) bytes h)
+  pub placed-refused-1 : length before < length bytes → PlacedAnswers bytes before before slice slice (Err OutputShort)
+  placed-refused-1 h = refused-with OutputShort (placed-short (length before) (length slice) bytes h)
 
-  pub placed-refused-18 : length bytes ≤ length before → length slice < 255 → PlacedAnswers bytes before before slice slice (Refused 18)
-  placed-refused-18 h k = refused-with 18 (placed-few (length before) (length slice) bytes h k)
+  pub placed-refused-18 : length bytes ≤ length before → length slice < 255 → PlacedAnswers bytes before before slice slice (Err PlacesShort)
+  placed-refused-18 h k = refused-with PlacesShort (placed-few (length before) (length slice) bytes h k)
 
-  pub placed-answers : {after told : List ℕ} {returned : Answer} → 255 ≤ length slice → Answers bytes before after returned
+  pub placed-answers : {after told : List ℕ} {returned : Result Answer Refusal} → 255 ≤ length slice → Answers bytes before after returned
       → Places bytes (length before) slice told → PlacedAnswers bytes before after slice told returned
   placed-answers k answers places =
       let same = sym (placed-enough (length before) (length slice) bytes k) in

@@ -1,13 +1,12 @@
 -- 02, #108: the largest number of rounds that one run took, beside the answer; a refusal has none. And it is at most 161, whatever the bytes.
-use Rattle.std.specs.Prelude.{◌≡◌, refl, List, ℕ, ◌<◌, ◌≤◌, max, length}
+use Rattle.std.specs.Prelude.{◌≡◌, refl, Err, List, ℕ, ◌<◌, ◌≤◌, max, length}
 use Rattle.std.proofs.Common.{sym, ap, ◌∙◌, zero-le}
 use Rattle.std.proofs.Math.Nat.{max-zero, max-eq_right}
 use Rattle.rules.specs.Block.{Block, Reading, refused, read, read_block}
 use Rattle.rules.specs.Answer as book
 use Rattle.rules.specs.Answer.{rounds_of, answer}
 use Rattle.laws.specs.Rounds.{few-rounds}
-use Rattle.answer.specs.declared.Answer.{Answer}
-use Rattle.answer.specs.declared.Answer.TheVariants.{Refused}
+use Rattle.answer.specs.declared.Refusal.TheVariants.{OutputShort}
 use Rattle.answer.specs.declared.WithRounds.{WithRounds}
 use Rattle.answer.specs.Answered.{answer-short, answer-refused, answer-accepted}
 use Rattle.answer.specs.Entry.{Answers, CountsRounds}
@@ -44,7 +43,7 @@ rounds-enough room bytes h = by-reading (read_block bytes) refl
 
 -- Too little room.
 pub rounds-answer-short : (bytes before : List ℕ) → length before < length bytes
-    → RoundsAnswers bytes before before (record { answer = Refused 1; rounds = 0 })
+    → RoundsAnswers bytes before before (record { answer = Err OutputShort; rounds = 0 })
 rounds-answer-short bytes before h = record { answers = answers-short bytes before h; rounds = sym (rounds-short (length before) bytes h) }
 
 -- What the reader refuses has no run.

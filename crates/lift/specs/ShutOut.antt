@@ -1,7 +1,7 @@
 -- 01, "How tight the statements are": "These must be shut out". What the entry's contract says at a block of document 01 shuts out each of these
 -- programs, whatever else it does. (One real round, the others idle: `rules/Cases: known-results`, case N.)
 use Rattle.std.proofs.Math.Path.{◌≡◌, sym, ap}
-use Rattle.std.specs.Prelude.{refl, ℕ, pos, length}
+use Rattle.std.specs.Prelude.{refl, Result, Ok, Err, ℕ, pos, length}
 use Rattle.std.proofs.Common.{◌∙◌, subst, true≢false}
 use mathlib.Core.List.{List, [], ◌∷◌, ◌++◌}
 use native.Mathlib.Omega.{arith}
@@ -23,7 +23,8 @@ use Rattle.answer.specs.declared.Verdict.{Verdict}
 use Rattle.answer.specs.declared.Verdict.TheVariants.{Always}
 use Rattle.answer.specs.declared.Counts.{Counts}
 use Rattle.answer.specs.declared.Answer.{Answer}
-use Rattle.answer.specs.declared.Answer.TheVariants.{Refused, Answered}
+use Rattle.answer.specs.declared.Refusal.{Refusal}
+use Rattle.answer.specs.Refusals.{number_of, by_number}
 use Rattle.answer.specs.Answered.{answer_of, verdict_of, counts_of}
 use Rattle.answer.specs.Entry.{Answers}
 use Rattle.telling.specs.Told.{verdict_in, counts_in}
@@ -35,18 +36,18 @@ use Rattle.lift.specs.Lines.{is-answer}
 abbrev pub counts_of_a : book.Counts
 counts_of_a = record { atoms-in = 2; atoms-out = 1; polynomials-in = 2; polynomials-out = 1 }
 
-module _ {before after : List ℕ} {returned : Answer} (room : length before ≡ 36) (answers : Answers case_a before after returned) where
+module _ {before after : List ℕ} {returned : Result Answer Refusal} (room : length before ≡ 36) (answers : Answers case_a before after returned) where
   answer-is : answer (length before) case_a ≡ book.answered book.formula short_a counts_of_a
   answer-is = ap (λ (n : ℕ). answer n case_a) room ∙ bytes-of-A
 
-  returned-is : returned ≡ answer_of (book.answered book.formula short_a counts_of_a)
+  returned-is : by_number returned ≡ answer_of (book.answered book.formula short_a counts_of_a)
   returned-is = answers.returns ∙ ap answer_of answer-is
 
   -- Refusing all: it is no refusal.
-  pub no-refusing-all : {number : ℕ} → returned ≡ Refused number → ⊥
+  pub no-refusing-all : {refusal : Refusal} → returned ≡ Err refusal → ⊥
   unfolding answer_of
-  no-refusing-all {number} is =
-      let same : Refused number ≡ Answered (verdict_of book.formula) (length short_a) (counts_of counts_of_a) = sym is ∙ returned-is in
+  no-refusing-all {refusal} is =
+      let same : Err (number_of refusal) ≡ answer_of (book.answered book.formula short_a counts_of_a) = sym (ap by_number is) ∙ returned-is in
       let z : ◌≡◌ {A = ℕ} 0 1 = cc in omega arith
 
   -- Copying the input: the output is not the input.
@@ -57,10 +58,10 @@ module _ {before after : List ℕ} {returned : Answer} (room : length before ≡
       let second : ◌≡◌ {A = ℕ} 1 2 = ap (λ (l : List ℕ). get_or l 1 0) (sym left ∙ copied) in omega arith
 
   -- Invented atom counts: they are 2, 1, 2 and 1.
-  pub no-invented-counts : {verdict : Verdict} {size : ℕ} {counts : Counts} → returned ≡ Answered verdict size counts → counts ≡ counts_of counts_of_a
+  pub no-invented-counts : {answer : Answer} → returned ≡ Ok answer → answer.counts ≡ counts_of counts_of_a
   unfolding answer_of
-  no-invented-counts {verdict} {size} {counts} is =
-      let same : Answered verdict size counts ≡ Answered (verdict_of book.formula) (length short_a) (counts_of counts_of_a) = sym is ∙ returned-is in cc
+  no-invented-counts {answer} is =
+      let same : Ok answer ≡ answer_of (book.answered book.formula short_a counts_of_a) = sym (ap by_number is) ∙ returned-is in cc
 
 -- ---- demand 3, case E: x²+1 ≤ 0
 
@@ -74,10 +75,11 @@ not-always bytes counts same =
     true≢false (sym ((at-whole-numbers (read_block case_e) (book.answered book.always bytes counts) same (pos 0 ∷ []) refl).1 refl))
 
 -- Always "ALWAYS": demand 3 alone does not allow it here.
-pub no-always : {before after : List ℕ} {returned : Answer} → Answers case_e before after returned
-    → SameLifts (read_block case_e) (answer (length before) case_e) → {size : ℕ} {counts : Counts} → returned ≡ Answered Always size counts → ⊥
+pub no-always : {before after : List ℕ} {returned : Result Answer Refusal} → Answers case_e before after returned
+    → SameLifts (read_block case_e) (answer (length before) case_e) → {told : Answer} → told.verdict ≡ Always → returned ≡ Ok told → ⊥
 unfolding verdict_in
-no-always {before} answers same {size} {counts} is =
+no-always {before} answers same {told} always is =
     let a = answer (length before) case_e in
-    let said : a ≡ book.answered book.always (filled_part a) (counts_in counts) = is-answer a (sym answers.returns ∙ is) in
-    not-always (filled_part a) (counts_in counts) (subst (SameLifts (read_block case_e)) said same)
+    let said : a ≡ book.answered book.always (filled_part a) (counts_in told.counts)
+    = rw (ap verdict_in always) at (is-answer a (sym answers.returns ∙ ap by_number is)) in
+    not-always (filled_part a) (counts_in told.counts) (subst (SameLifts (read_block case_e)) said same)

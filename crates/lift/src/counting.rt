@@ -6,7 +6,7 @@ ghost use Rattle.rules.specs.Answer.{answer};
 ghost use Rattle.rules.specs.Demands.{SameLifts, NeverLonger};
 ghost use Rattle.lift.specs.Rounds.{RoundsAnswers};
 
-use crate::{Answer, WithRounds, answered};
+use crate::{Refusal, WithRounds, answered};
 
 // As `simplify`, and the largest number of rounds that one run took; on refusal 0.
 pub fn with_rounds(input: &[u8], output: &mut [u8]) -> WithRounds
@@ -16,7 +16,7 @@ pub fn with_rounds(input: &[u8], output: &mut [u8]) -> WithRounds
 {
     if output.len() < input.len() {
         return WithRounds {
-            answer: Answer::Refused(1),
+            answer: Err(Refusal::OutputShort),
             rounds: 0,
         };
     }

@@ -2,13 +2,14 @@
 // To C a slice is a pointer and a length, and each outcome is one number.
 // `specs/Exported.antt` has the number for each case of the book's answer.
 ghost use Rattle.std.specs.Prelude.{◌≡◌, ◌<◌};
+ghost use Rattle.answer.specs.Refusals.{by_number};
 ghost use Rattle.answer.specs.Answered.{length_in as length_in_of};
 ghost use Rattle.lift.specs.Exported.{packed_of, number_in as number_in_of, counts_or_zero as counts_or_zero_of, ExportsAnswer, ExportsLength, ExportsCounts, ExportsPlaces, ExportsRounds};
 ghost use Rattle.lift.specs.Lines.{Reports};
 
 use crate::counting::with_rounds;
 use crate::placing::placed;
-use crate::{Answer, Counts, Verdict, length_in, report, simplify, simplify_by};
+use crate::{Answer, Counts, Refusal, Verdict, length_in, report, simplify, simplify_by};
 
 // The verdict's number and the length in one; a block has at most 21,516 bytes.
 fn packed(verdict: Verdict, size: usize) -> u32
@@ -23,36 +24,28 @@ fn packed(verdict: Verdict, size: usize) -> u32
 }
 
 // A refusal's own number, or that of the verdict and the length.
-fn number_in(answer: Answer) -> u32
-    requires { length_in_of answer < 65536 }
-    ensures { result ≡ number_in_of answer }
+fn number_in(answer: Result<Answer, Refusal>) -> u32
+    requires { length_in_of (by_number answer) < 65536 }
+    ensures { result ≡ number_in_of (by_number answer) }
 {
     match answer {
-        Answer::Refused(number) => number as u32,
-        Answer::Answered {
-            verdict,
-            length,
-            counts: _,
-        } => packed(verdict, length),
+        Err(refusal) => refusal.number() as u32,
+        Ok(answer) => packed(answer.verdict, answer.length),
     }
 }
 
 // An answer has its counts, a refusal none: 0.
-fn counts_or_zero(answer: Answer) -> Counts
-    ensures { result ≡ counts_or_zero_of answer }
+fn counts_or_zero(answer: Result<Answer, Refusal>) -> Counts
+    ensures { result ≡ counts_or_zero_of (by_number answer) }
 {
     match answer {
-        Answer::Refused(_) => Counts {
+        Err(_) => Counts {
             atoms_in: 0,
             atoms_out: 0,
             polynomials_in: 0,
             polynomials_out: 0,
         },
-        Answer::Answered {
-            verdict: _,
-            length: _,
-            counts,
-        } => counts,
+        Ok(answer) => answer.counts,
     }
 }
 

@@ -7,6 +7,7 @@ ghost use Rattle.std.specs.Prelude.{◌≡◌, ◌≤◌, length};
 ghost use Rattle.rules.specs.Block.{read_block};
 ghost use Rattle.rules.specs.Answer.{answer};
 ghost use Rattle.rules.specs.Demands.{SameLifts, NeverLonger};
+ghost use Rattle.answer.specs.Refusals.{by_number};
 ghost use Rattle.answer.specs.Answered.{length_in as length_in_of};
 ghost use Rattle.answer.specs.Entry.{Answers, CountsRounds};
 ghost use Rattle.lift.specs.Part.{Fills};
@@ -18,8 +19,8 @@ pub mod exported; // the entries for C
 mod placing; // the entry with the places of the atoms
 
 use answer::answer_to;
-pub use answer::{Answer, Counts, Verdict, WithRounds};
-use block::{Contents, edition, read_into};
+pub use answer::{Answer, Counts, Refusal, Verdict, WithRounds};
+use block::{edition, read_into};
 pub use counting::with_rounds;
 pub use placing::{placed, placed_by};
 use telling::{tell_answer, tell_refusal};
@@ -52,24 +53,19 @@ fn answered(
         &mut token,
     );
     match contents {
-        Contents::Refused(number) => WithRounds {
-            answer: Answer::Refused(number),
+        Err(refusal) => WithRounds {
+            answer: Err(Refusal::Block(refusal)),
             rounds: largest,
         },
-        Contents::Numbers {
-            variables,
-            polynomials,
-            root,
-            tokens,
-        } => {
+        Ok(held) => {
             let number = edition(input);
             answer_to(
                 plain,
                 number,
-                variables,
-                polynomials,
-                root,
-                tokens,
+                held.variables,
+                held.polynomials,
+                held.root,
+                held.tokens,
                 &mut coefficient,
                 &mut monomial,
                 &mut terms,
@@ -84,13 +80,13 @@ fn answered(
 
 // Reads a block, simplifies it and writes the new block to the output's first bytes. Every input is answered or refused.
 // 02, #110: the user chooses the engine that deduces, the plain one or the fast one; both give the same answer.
-pub fn simplify_by(plain: bool, input: &[u8], output: &mut [u8]) -> Answer
+pub fn simplify_by(plain: bool, input: &[u8], output: &mut [u8]) -> Result<Answer, Refusal>
     ensures { Answers input.now output.old output.new result
         × SameLifts (read_block input.now) (answer (length output.old) input.now)
         × NeverLonger input.now (answer (length output.old) input.now) }
 {
     if output.len() < input.len() {
-        return Answer::Refused(1);
+        return Err(Refusal::OutputShort);
     }
     let mut places = [0u8; 255];
     let known = answered(plain, input, output, &mut places, MOST_ROUNDS);
@@ -98,7 +94,7 @@ pub fn simplify_by(plain: bool, input: &[u8], output: &mut [u8]) -> Answer
 }
 
 // The same by the fast engine.
-pub fn simplify(input: &[u8], output: &mut [u8]) -> Answer
+pub fn simplify(input: &[u8], output: &mut [u8]) -> Result<Answer, Refusal>
     ensures { Answers input.now output.old output.new result
         × SameLifts (read_block input.now) (answer (length output.old) input.now)
         × NeverLonger input.now (answer (length output.old) input.now) }
@@ -107,16 +103,12 @@ pub fn simplify(input: &[u8], output: &mut [u8]) -> Answer
 }
 
 // "A refusal returns its number and length 0"; an answer has its length.
-fn length_in(answer: Answer) -> usize
-    ensures { result ≡ length_in_of answer }
+fn length_in(answer: Result<Answer, Refusal>) -> usize
+    ensures { result ≡ length_in_of (by_number answer) }
 {
     match answer {
-        Answer::Refused(_) => 0,
-        Answer::Answered {
-            verdict: _,
-            length,
-            counts: _,
-        } => length,
+        Err(_) => 0,
+        Ok(answer) => answer.length,
     }
 }
 
@@ -135,12 +127,13 @@ pub fn report_by(plain: bool, input: &[u8], output: &mut [u8], text: &mut [u8]) 
 {
     let answer = simplify_by(plain, input, output);
     match answer {
-        Answer::Refused(number) => tell_refusal(number, text),
-        Answer::Answered {
-            verdict,
-            length,
-            counts,
-        } => tell_answer(verdict, counts, &output[..length], text),
+        Err(refusal) => tell_refusal(refusal.number(), text),
+        Ok(answer) => tell_answer(
+            answer.verdict,
+            answer.counts,
+            &output[..answer.length],
+            text,
+        ),
     }
 }
 

@@ -21,13 +21,10 @@ pub fn put_bytes(text: &mut [u8], at: usize, bytes: &[u8]) -> usize
     requires { at + length bytes.now ≤ length text.old }
     ensures { Wrote text.old text.new at bytes.now result }
 {
-    let mut i = 0;
-    while i < bytes.len() {
-        let byte = bytes[i];
-        text[at + i] = byte;
-        i += 1;
+    for i in 0..bytes.len() {
+        text[at + i] = bytes[i];
     }
-    at + i
+    at + bytes.len()
 }
 
 // ---- numbers in decimal digits
@@ -88,12 +85,9 @@ fn put_rest(text: &mut [u8], at: usize, block: &[u8]) -> usize
     ensures { Wrote text.old text.new at (hex_rest block.now) result }
 {
     let mut next = at;
-    let mut i = 0;
-    while i < block.len() {
-        let byte = block[i];
-        i += 1;
+    for byte in block {
         let pair = put_byte(text, next, 32);
-        next = put_pair(text, pair, byte);
+        next = put_pair(text, pair, *byte);
     }
     next
 }

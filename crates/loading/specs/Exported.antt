@@ -1,27 +1,25 @@
 -- What the entries for C give: a refusal's own number, below 256, or 65,536 more than the length of the block's bytes.
 -- A block is shorter than 32,768 bytes, so that the lower 16 bits are its length.
-use Rattle.std.specs.Prelude.{Bool, true, false, List, ◌≡◌, refl, ℕ, ◌+◌, ◌≤◌, ◌<◌, leb, length}
+use Rattle.std.specs.Prelude.{Bool, true, false, Result, Ok, Err, List, ◌≡◌, refl, ℕ, ◌+◌, ◌≤◌, ◌<◌, leb, length}
 use Rattle.std.proofs.Common.{sym, ap, ◌∙◌, subst, arith}
 use Rattle.rules.specs.Block.{Block, Reading, refused, read, read_block}
 use Rattle.block_laws.specs.Blocks.{accepted-below-32768}
 use Rattle.loading_laws.specs.Loading.{lent, Start, refusal, starts, start_from, start_of, if_room, load_answer}
-use Rattle.loading.specs.declared.Loaded.{Loaded}
-use Rattle.loading.specs.declared.Loaded.TheVariants.{Refused, Starts}
 use Rattle.loading.specs.Started.{found}
 
-abbrev pub number_of : Loaded → ℕ
-number_of (Refused number) = number
-number_of (Starts size) = 65536 + size
+abbrev pub number_told : Result ℕ ℕ → ℕ
+number_told (Err number) = number
+number_told (Ok size) = 65536 + size
 
 unfoldable pub number_in : Start → ℕ
 number_in (refusal number) = number
 number_in (starts bytes) = 65536 + length bytes
 
-abbrev pub Short : Loaded → Type 0
-Short (Refused number) = Unit {0}
-Short (Starts size) = size < 32768
+abbrev pub Short : Result ℕ ℕ → Type 0
+Short (Err number) = Unit {0}
+Short (Ok size) = size < 32768
 
-pub number-found : (start : Start) → number_of (found start) ≡ number_in start
+pub number-found : (start : Start) → number_told (found start) ≡ number_in start
 unfolding found number_in
 number-found (refusal number) = refl
 number-found (starts bytes) = refl
@@ -48,8 +46,8 @@ unfolding load_answer
 short-load block area =
     short-room (leb (length block) (length area)) (start_from block (read_block block)) (short-reading block (read_block block) refl)
 
-pub short-found : {answer : Loaded} (start : Start) → answer ≡ found start → Short (found start) → Short answer
+pub short-found : {answer : Result ℕ ℕ} (start : Start) → answer ≡ found start → Short (found start) → Short answer
 short-found start is short = subst Short (sym is) short
 
-pub number-told : {answer : Loaded} {number : ℕ} (start : Start) → answer ≡ found start → number ≡ number_of answer → number ≡ number_in start
-number-told start is told = told ∙ ap number_of is ∙ number-found start
+pub number-told : {answer : Result ℕ ℕ} {number : ℕ} (start : Start) → answer ≡ found start → number ≡ number_told answer → number ≡ number_in start
+number-told start is told = told ∙ ap number_told is ∙ number-found start

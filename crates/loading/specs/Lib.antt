@@ -1,3 +1,4 @@
+pub mod Refusals
 pub mod Started
 pub mod Writing
 pub mod Exported

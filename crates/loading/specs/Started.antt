@@ -1,44 +1,44 @@
 -- What starts, as the entries tell it: the refusal's number, or the length of the block's bytes.
 -- The part of an area that is read is its first bytes, as many as `lent_length` gives.
-use Rattle.std.specs.Prelude.{Bool, true, false, ◌&&◌, List, [], ◌≡◌, refl, ℕ, ◌+◌, ◌*◌, ◌%◌, ◌≤◌, ◌<◌, eqb, leb, ℤ, length, take, get_or}
+use Rattle.std.specs.Prelude.{Bool, true, false, Result, Ok, Err, ◌&&◌, List, [], ◌≡◌, refl, ℕ, ◌+◌, ◌*◌, ◌%◌, ◌≤◌, ◌<◌, eqb, leb, ℤ, length, take, get_or}
 use Rattle.std.proofs.Common.{sym, ap, ◌∙◌, subst, mod-eq_of_lt, arith, le-leb, leb-true, ne_eqb}
 use Rattle.std.proofs.Math.Seq.{take-length}
 use Rattle.std.proofs.lemmas.Bool.{lt-leb}
 use Rattle.rules.specs.Block.{Block, Stream, Reading, refused, read, head_field, read_block}
 use Rattle.block.specs.declared.Contents.{Contents}
-use Rattle.block.specs.declared.Contents.TheVariants.{Refused as NoBlock, Numbers}
+use Rattle.block.specs.declared.Refusal.{Refusal as BlockRefusal}
+use Rattle.block.specs.Refusals.{number_of}
 use Rattle.block.specs.Steps.{ContentsOf, ContentsFound}
 use Rattle.loading_laws.specs.Loading.{front_if, lent, Start, refusal, starts, start_from, start_of, started_part}
 use Rattle.loading_laws.specs.Lengths.{length-said}
 use Rattle.loading_laws.proofs.Starts.{started}
-use Rattle.loading.specs.declared.Loaded.{Loaded}
-use Rattle.loading.specs.declared.Loaded.TheVariants.{Refused, Starts}
 
-unfoldable pub found : Start → Loaded
-found (refusal number) = Refused number
-found (starts bytes) = Starts (length bytes)
+unfoldable pub found : Start → Result ℕ ℕ
+found (refusal number) = Err number
+found (starts bytes) = Ok (length bytes)
 
-abbrev pub length_in : Loaded → ℕ
-length_in (Refused number) = 0
-length_in (Starts size) = size
+-- A refusal has no length.
+abbrev pub length_in : Result ℕ ℕ → ℕ
+length_in (Err number) = 0
+length_in (Ok size) = size
 
-abbrev pub number_in : Loaded → ℕ
-number_in (Refused number) = number
-number_in (Starts size) = 0
+abbrev pub number_in : Result ℕ ℕ → ℕ
+number_in (Err number) = number
+number_in (Ok size) = 0
 
 unfoldable pub is_refusal : Start → Bool
 is_refusal (refusal number) = true
 is_refusal (starts bytes) = false
 
 -- What is read into lent arrays is found: a refusal, or the length of the bytes.
-module _ {bytes : List ℕ} {cs cs' : List ℤ} {ms ms' ts ts' token token' : List ℕ} {contents : Contents}
+module _ {bytes : List ℕ} {cs cs' : List ℤ} {ms ms' ts ts' token token' : List ℕ} {contents : Result Contents BlockRefusal}
     (reading : ContentsFound bytes cs cs' ms ms' ts ts' token token' contents) where
-  pub found-refused : {number : ℕ} → contents ≡ NoBlock number → Refused number ≡ found (start_from bytes (read_block bytes))
+  pub found-refused : {refusal : BlockRefusal} → contents ≡ Err refusal → Err (number_of refusal) ≡ found (start_from bytes (read_block bytes))
   unfolding ContentsOf found start_from
   found-refused e = let is : read_block bytes ≡ refused _ = (rw e at reading).found in rw is
 
-  pub found-accepted : {variables polynomials root count : ℕ} → contents ≡ Numbers variables polynomials root count
-      → Starts (length bytes) ≡ found (start_from bytes (read_block bytes))
+  pub found-accepted : {given : Contents} → contents ≡ Ok given
+      → Ok (length bytes) ≡ found (start_from bytes (read_block bytes))
   unfolding ContentsOf found start_from
   found-accepted e = let stored = (rw e at reading).found in rw stored.reading
 

@@ -1,6 +1,6 @@
 -- The order of the writes by cases, as the code tells them apart; and a whole load from its answer.
 -- A write past the area's end changes nothing.
-use Rattle.std.specs.Prelude.{Bool, true, false, List, [], ◌≡◌, ℕ, suc, ◌+◌, ◌-◌, ◌≤◌, ◌<◌, eqb, leb, get_or, set}
+use Rattle.std.specs.Prelude.{Bool, true, false, Result, Ok, Err, List, [], ◌≡◌, ℕ, suc, ◌+◌, ◌-◌, ◌≤◌, ◌<◌, eqb, leb, get_or, set}
 use Rattle.std.proofs.Common.{true≢false, ◌∙◌, add-one, arith, length-set}
 use Rattle.std.proofs.Math.Path.{refl, sym, ap, subst}
 use Rattle.std.proofs.Math.Decide.{ℕ_discrete}
@@ -11,8 +11,6 @@ use Rattle.rules.specs.Block.{Block, Stream, Reading, refused, read, read_block}
 use Rattle.loading_laws.specs.Loading.{either, place, value, first_write, step, image_after, Start, refusal, starts, start_from, if_room, load_answer, area_after, load}
 use Rattle.block_laws.specs.Head.{head-accepted}
 use Rattle.loading_laws.proofs.Load.{load-refused, load-short, load-unchanged}
-use Rattle.loading.specs.declared.Loaded.{Loaded}
-use Rattle.loading.specs.declared.Loaded.TheVariants.{Refused, Starts}
 use Rattle.loading.specs.Started.{found, length_in, number_in}
 
 -- ---- Which byte.
@@ -82,9 +80,9 @@ unfolding step
 length-step block area k = length-set area (place (length block) k) (value block k)
 
 -- ---- A whole load, from what was found of the block.
-is_starts : Loaded → Bool
-is_starts (Refused number) = false
-is_starts (Starts size) = true
+is_starts : Result ℕ ℕ → Bool
+is_starts (Err number) = false
+is_starts (Ok size) = true
 
 record Read (block : List ℕ) (size : ℕ) : Type 0 where
   pub holds : Block
@@ -93,46 +91,46 @@ record Read (block : List ℕ) (size : ℕ) : Type 0 where
   pub size_is : size ≡ length block
 
 -- A refusal that was found is the block's own;
-refusal-found : (block : List ℕ) (number : ℕ) (reading : Reading Block) → read_block block ≡ reading → Refused number ≡ found (start_from block reading)
+refusal-found : (block : List ℕ) (number : ℕ) (reading : Reading Block) → read_block block ≡ reading → Err number ≡ found (start_from block reading)
     → read_block block ≡ refused number
 unfolding found start_from is_starts
 refusal-found block number (refused other) is same = is ∙ ap refused (sym (ap number_in same))
 refusal-found block number (read holds stream) is same = absurd (true≢false (sym (ap is_starts same)))
 
 -- a length that was found is that of a block.
-length_found : (block : List ℕ) (size : ℕ) (reading : Reading Block) → read_block block ≡ reading → Starts size ≡ found (start_from block reading)
+length_found : (block : List ℕ) (size : ℕ) (reading : Reading Block) → read_block block ≡ reading → Ok size ≡ found (start_from block reading)
     → Read block size
 unfolding found start_from is_starts
 length_found block size (refused other) is same = absurd (true≢false (ap is_starts same))
 length_found block size (read holds stream) is same = record { holds = holds; stream = stream; accepted = is; size_is = ap length_in same }
 
 module _ (block area : List ℕ) where
-  pub refused-load : (number : ℕ) → Refused number ≡ found (start_from block (read_block block))
-      → (Refused number ≡ found (load_answer block area)) × (area ≡ load block area)
+  pub refused-load : (number : ℕ) → Err number ≡ found (start_from block (read_block block))
+      → (Err number ≡ found (load_answer block area)) × (area ≡ load block area)
   unfolding found
   refused-load number same =
       let answer = load-refused block area number (refusal-found block number (read_block block) refl same) in
       (sym (ap found answer), sym (load-unchanged block area number answer))
 
-  pub short-load : (size : ℕ) → Starts size ≡ found (start_from block (read_block block)) → length area < size
-      → (Refused 1 ≡ found (load_answer block area)) × (area ≡ load block area)
+  pub short-load : (size : ℕ) → Ok size ≡ found (start_from block (read_block block)) → length area < size
+      → (Err 1 ≡ found (load_answer block area)) × (area ≡ load block area)
   unfolding found
   short-load size same short =
       let known = length_found block size (read_block block) refl same in
       let answer = load-short block area known.accepted (subst (λ (n : ℕ). length area < n) known.size_is short) in
       (sym (ap found answer), sym (load-unchanged block area 1 answer))
 
-  pub head-found : (size : ℕ) → Starts size ≡ found (start_from block (read_block block)) → 5 ≤ length block
+  pub head-found : (size : ℕ) → Ok size ≡ found (start_from block (read_block block)) → 5 ≤ length block
   head-found size same = (head-accepted block (length_found block size (read_block block) refl same).accepted).0.five
 
-  pub whole-load : (size : ℕ) → Starts size ≡ found (start_from block (read_block block)) → size ≤ length area
-      → (Starts size ≡ found (load_answer block area)) × (image_after block area (length block + 1) ≡ load block area)
+  pub whole-load : (size : ℕ) → Ok size ≡ found (start_from block (read_block block)) → size ≤ length area
+      → (Ok size ≡ found (load_answer block area)) × (image_after block area (length block + 1) ≡ load block area)
   unfolding found load area_after load_answer if_room start_from
   whole-load size same room =
       let known = length_found block size (read_block block) refl same in
       let enough : length block ≤ length area = subst (λ (n : ℕ). n ≤ length area) known.size_is room in
       let answer : load_answer block area ≡ starts block = rw (known.accepted, le-leb (length block) (length area) enough) in (
-        ap Starts known.size_is ∙ sym (ap found answer),
+        ap Ok known.size_is ∙ sym (ap found answer),
         ap (image_after block area) (add-one (length block))
             ∙ sym (ap (λ (start : Start). area_after start area) answer),
       )

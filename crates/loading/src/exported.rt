@@ -4,9 +4,10 @@
 ghost use Rattle.std.specs.Prelude.{◌≡◌, ◌+◌, ◌<◌};
 ghost use Rattle.loading_laws.specs.Loading.{start_of, first_write, load_answer};
 ghost use Rattle.loading_laws.specs.Loading.{place as place_of, value as value_of, step as step_of, load as load_of};
-ghost use Rattle.loading.specs.Exported.{number_in as number_in_of, number_of, Short};
+ghost use Rattle.loading.specs.Refusals.{by_number};
+ghost use Rattle.loading.specs.Exported.{number_in as number_in_of, number_told, Short};
 
-use crate::{Loaded, first_write, load, place, start, step, value};
+use crate::{Refusal, first_write, load, place, start, step, value};
 
 // A block has fewer than 32,768 bytes.
 fn above(size: usize) -> u32
@@ -17,13 +18,13 @@ fn above(size: usize) -> u32
 }
 
 // A refusal's own number, or 65,536 more than the length.
-fn number_in(answer: Loaded) -> u32
-    requires { Short answer }
-    ensures { result ≡ number_of answer }
+fn number_in(answer: Result<usize, Refusal>) -> u32
+    requires { Short (by_number answer) }
+    ensures { result ≡ number_told (by_number answer) }
 {
     match answer {
-        Loaded::Refused(number) => number as u32,
-        Loaded::Starts(size) => above(size),
+        Err(refusal) => refusal.number() as u32,
+        Ok(size) => above(size),
     }
 }
 

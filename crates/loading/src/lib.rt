@@ -7,17 +7,41 @@ ghost use Rattle.std.specs.Prelude.{◌≡◌, eqb, length, ◌+◌, ◌≤◌, 
 ghost use Rattle.rules.specs.Block.{read_block};
 ghost use Rattle.loading_laws.specs.Loading.{start_from, start_of, started_part, load_answer, first_write, image_after};
 ghost use Rattle.loading_laws.specs.Loading.{place as place_of, value as value_of, step as step_of, load as load_of};
-ghost use Rattle.loading.specs.Started.{found, length_in as length_in_of, is_refusal, LentLength};
+ghost use Rattle.loading.specs.Refusals.{number_of, by_number};
+ghost use Rattle.loading.specs.declared.Refusal.TheVariants.{Block as BlockRefused};
+ghost use Rattle.loading.specs.Started.{found, is_refusal, LentLength};
 
-use block::{Contents, read_into};
+use block::read_into;
 
 pub mod exported; // the entries for C
 
-// What the check at the start finds, or what a load comes to: a refusal's number, or the length of the block.
-#[derive(Clone, Copy)]
-pub enum Loaded {
-    Refused(u8),
-    Starts(usize),
+// Why nothing starts, or why nothing is loaded.
+#[derive(Clone, Copy, Debug, PartialEq, Eq)]
+pub enum Refusal {
+    // 1: the area is shorter than the block
+    AreaShort,
+    // the block's own refusal
+    Block(block::Refusal),
+}
+
+impl Refusal {
+    // The number that the documents give it.
+    pub fn number(self) -> u8
+        ensures { result ≡ number_of self }
+    {
+        match self {
+            Refusal::AreaShort => 1,
+            Refusal::Block(refusal) => refusal.number(),
+        }
+    }
+}
+
+impl From<block::Refusal> for Refusal {
+    ghost from_gives = { λ refusal given. given ≡ BlockRefused refusal };
+
+    fn from(refusal: block::Refusal) -> Refusal {
+        Refusal::Block(refusal)
+    }
 }
 
 fn wide(byte: u8) -> usize
@@ -27,8 +51,8 @@ fn wide(byte: u8) -> usize
 }
 
 // Whether these bytes are a block: its length, or the first refusal.
-fn accepted(bytes: &[u8]) -> Loaded
-    ensures { result ≡ found (start_from bytes.now (read_block bytes.now)) }
+fn accepted(bytes: &[u8]) -> Result<usize, Refusal>
+    ensures { by_number result ≡ found (start_from bytes.now (read_block bytes.now)) }
 {
     let mut coefficient = [0i32; 1024];
     let mut monomial = [0u64; 1024];
@@ -42,13 +66,8 @@ fn accepted(bytes: &[u8]) -> Loaded
         &mut token,
     );
     match contents {
-        Contents::Refused(number) => Loaded::Refused(number),
-        Contents::Numbers {
-            variables: _,
-            polynomials: _,
-            root: _,
-            tokens: _,
-        } => Loaded::Starts(bytes.len()),
+        Err(refusal) => Err(Refusal::Block(refusal)),
+        Ok(_) => Ok(bytes.len()),
     }
 }
 
@@ -71,21 +90,11 @@ fn lent_length(area: &[u8]) -> usize
 }
 
 // The check at the start: the length of the block that starts, or the refusal's number. It looks at every bit of the block.
-pub fn start(area: &[u8]) -> Loaded
-    ensures { result ≡ found (start_of area.now) }
+pub fn start(area: &[u8]) -> Result<usize, Refusal>
+    ensures { by_number result ≡ found (start_of area.now) }
 {
     let size = lent_length(area);
     accepted(&area[..size])
-}
-
-// A refusal has no length.
-fn length_in(answer: Loaded) -> usize
-    ensures { result ≡ length_in_of answer }
-{
-    match answer {
-        Loaded::Refused(_) => 0,
-        Loaded::Starts(size) => size,
-    }
 }
 
 // The filled part of the area itself, empty exactly on refusal.
@@ -93,7 +102,7 @@ pub fn started<'a>(area: &'a [u8]) -> &'a [u8]
     ensures { let start = start_of area.now in
         (result.now ≡ started_part start) × (result.ref_ptr ≡ area.entry.ref_ptr) × (eqb (length result.now) 0 ≡ is_refusal start) }
 {
-    let size = length_in(start(area));
+    let size = start(area).unwrap_or(0);
     &area[..size]
 }
 
@@ -158,29 +167,22 @@ fn write_all(area: &mut [u8], block: &[u8])
     ensures { area.new ≡ image_after block.now area.old (length block.now + 1) }
 {
     let size = block.len();
-    let mut k = first_write(area);
-    while k < size {
+    for k in first_write(area)..size {
         step(area, block, k);
-        k += 1;
     }
     step(area, block, size);
 }
 
 // Loads a block into an area: the block's own refusal, then 1 if the area is shorter than the block, and the area is unchanged; else the block is
 // written in the order of the writes, and stands in the area's first bytes.
-pub fn load(block: &[u8], area: &mut [u8]) -> Loaded
-    ensures { (result ≡ found (load_answer block.now area.old))
+pub fn load(block: &[u8], area: &mut [u8]) -> Result<usize, Refusal>
+    ensures { (by_number result ≡ found (load_answer block.now area.old))
         × (area.new ≡ load_of block.now area.old) }
 {
-    let answer = accepted(block);
-    match answer {
-        Loaded::Refused(number) => Loaded::Refused(number),
-        Loaded::Starts(size) => {
-            if area.len() < size {
-                return Loaded::Refused(1);
-            }
-            write_all(area, block);
-            Loaded::Starts(size)
-        }
+    let size = accepted(block)?;
+    if area.len() < size {
+        return Err(Refusal::AreaShort);
     }
+    write_all(area, block);
+    Ok(size)
 }

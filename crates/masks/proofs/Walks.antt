@@ -3,10 +3,11 @@
 use mathlib.Core.Path.{◌≡◌, refl, sym, ap, ◌∙◌}
 use mathlib.Core.Bool.{Bool, true, false, true≢false}
 use mathlib.Core.List.{List}
-use Prim.Native.Nat.{ℕ, zero, suc, ◌+◌, ◌/◌, ◌%◌, ◌<◌, ◌≤◌}
+use Prim.Native.Nat.{ℕ, zero, suc, ◌+◌, ◌/◌, ◌%◌, ◌^◌, ◌<◌, ◌≤◌}
 use native.Mathlib.Omega.{arith}
-use borrow.Author.Tests.{eq-eqb, ne_eqb, ltb-true, ltb-false}
+use borrow.Author.Tests.{ltb-true, ltb-false}
 use lib.Bits.{bit_or, or_zero_r}
+use lib.Dec.{eqb}
 use lib.IntN.{ℤ, pos, negsuc}
 use lib.ListN.{get_or}
 use lib.Signed.{lt_z}
@@ -26,25 +27,15 @@ pub when-there : {b : Bool} {w r : ℕ} → b ≡ true → r ≡ w → r ≡ whe
 unfolding when
 when-there e f = rw e f
 
-pub when-absent : {b : Bool} (w : ℕ) → b ≡ false → 0 ≡ when b w
-unfolding when
-when-absent w e = rw e
+-- a set has the sign where its bit is set
+pub bit-positive : (m : ℕ) (s : SignSet) {r : ℕ} → r ≡ when (eqb (s % 2) 1) (2 ^ (m % 125 % 64)) → r ≡ when (has positive s) (weight_of positive m)
+unfolding has only weight_of
+bit-positive m s e = let same : s % 2 ≡ s / 1 % 2 = omega arith in e ∙ ap (λ (n : ℕ). when (eqb n 1) (2 ^ (m % 125 % 64))) same
 
-pub is_positive : (s : SignSet) → s % 2 ≡ 1 → has positive s ≡ true
-unfolding has only
-is_positive s e = eq-eqb (s / 1 % 2) 1 (omega arith)
-
-pub not-positive : (s : SignSet) → (s % 2 ≡ 1 → ⊥) → has positive s ≡ false
-unfolding has only
-not-positive s f = ne_eqb (s / 1 % 2) 1 (λ e. f (omega arith))
-
-pub is_negative : (s : SignSet) → s / 4 % 2 ≡ 1 → has negative s ≡ true
-unfolding has only
-is_negative s e = eq-eqb (s / 4 % 2) 1 e
-
-pub not_negative : (s : SignSet) → (s / 4 % 2 ≡ 1 → ⊥) → has negative s ≡ false
-unfolding has only
-not_negative s f = ne_eqb (s / 4 % 2) 1 f
+pub bit-negative : (m : ℕ) (s : SignSet) {r : ℕ} → r ≡ when (eqb (s / 4 % 2) 1) (2 ^ ((m % 125 + 22) % 64))
+    → r ≡ when (has negative s) (weight_of negative m)
+unfolding has only weight_of
+bit-negative m s e = e
 
 -- ---- the sign of a coefficient
 

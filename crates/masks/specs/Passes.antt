@@ -1,10 +1,10 @@
 -- If no words of factors of either sign pass, no try cuts: the test ≥, and the mirrored one.
 -- Law `none-cut`; what it rests on is `passing` (Weights).
-use Rattle.std.specs.Prelude.{◌≡◌, refl, Bool, true, false, not, ◌&&◌, ◌||◌, List, ◌++◌, ℕ, zero, suc, ◌<◌, ℤ, pos, negsuc}
+use Rattle.std.specs.Prelude.{◌≡◌, refl, Bool, true, false, ◌&&◌, ◌||◌, List, ◌++◌, ℕ, zero, suc, ◌<◌, ℤ, pos, negsuc}
 use Rattle.std.proofs.Math.Path.{sym}
 use Rattle.std.proofs.Common.{ap, ap₂, ◌∙◌, subst, true≢false, arith, eq-eqb, leb-false}
 use Rattle.std.specs.Int.Bits.{bit_or}
-use Rattle.rules.specs.Signs.{Sign, negative, positive, SignSet, full, Kind, kind, has, mirror, mirror_of_sign, inside}
+use Rattle.rules.specs.Signs.{Sign, negative, positive, SignSet, full, Kind, kind, mirror, mirror_of_sign, inside}
 use Rattle.rules.specs.Signs.{open_signs}
 use Rattle.rules.specs.Polynomial.{Polynomial, Board, by_terms}
 use Rattle.rules.specs.Deduce.{found}

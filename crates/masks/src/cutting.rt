@@ -2,11 +2,9 @@
 // the mirrored one, which is the test ≥ of p times a number below 0. Where no words pass, no try of these signs does.
 ghost use Rattle.std.specs.Prelude.{◌≡◌, ◌&&◌};
 ghost use Rattle.rules.specs.Signs.{kind};
-ghost use Rattle.rules.specs.TwoAtoms.{non_positive as non_positive_of, non_negative as non_negative_of};
-ghost use Rattle.deduction_laws.specs.FractionSets.{L, U};
 ghost use Rattle.two_atoms.specs.Tries.{PlacesOf, CutByPair};
 ghost use Rattle.masks.specs.Masks.{joined as joined_of, swapped as swapped_of, covered as covered_of, some_second as some_second_of, some_both as some_both_of};
-ghost use Rattle.masks.specs.Masks.{cuts, MasksOf, MayCut};
+ghost use Rattle.masks.specs.Masks.{MasksOf, MayCut};
 
 use crate::{Mask, joined};
 use signs::SignSet;
@@ -31,6 +29,7 @@ fn covered(a: Mask) -> bool
 }
 
 // Whether words pass with a v for which v·q2 is never positive; a has those of p + u·q1.
+#[tactic(auto, unfolding(crate::specs::Masks::some_second, crate::specs::Masks::some_way))]
 fn some_second(a: Mask, q2: Mask, set2: u8) -> bool
     ensures { result ≡ some_second_of a q2 (kind set2) }
 {
@@ -40,66 +39,41 @@ fn some_second(a: Mask, q2: Mask, set2: u8) -> bool
     both(non_negative(set2), covered(joined(a, swapped(q2))))
 }
 
-// Whether words pass with a u above 0, if u·q1 is never positive for it.
-fn some_above(p: Mask, q1: Mask, set1: u8, q2: Mask, set2: u8) -> bool
-    ensures { result ≡ (non_positive_of (kind set1) && some_second_of (joined_of p q1) q2 (kind set2)) }
+// And with a u of one sign, if u·q1 is never positive for it; q has the words of u·q1.
+fn some_with(allowed: bool, p: Mask, q: Mask, q2: Mask, set2: u8) -> bool
+    ensures { result ≡ (allowed && some_second_of (joined_of p q) q2 (kind set2)) }
 {
-    if non_positive(set1) {
-        return some_second(joined(p, q1), q2, set2);
+    if allowed {
+        return some_second(joined(p, q), q2, set2);
     }
     false
 }
 
-// And with a u below 0.
-fn some_below(p: Mask, q1: Mask, set1: u8, q2: Mask, set2: u8) -> bool
-    ensures { result ≡ (non_negative_of (kind set1) && some_second_of (joined_of p (swapped_of q1)) q2 (kind set2)) }
+// And with a u of either sign, for a test that can cut the set.
+#[tactic(auto, unfolding(crate::specs::Masks::some_both, crate::specs::Masks::some_way))]
+fn some_both(cuts: bool, p: Mask, q1: Mask, set1: u8, q2: Mask, set2: u8) -> bool
+    ensures { result ≡ (cuts && some_both_of p q1 (kind set1) q2 (kind set2)) }
 {
-    if non_negative(set1) {
-        return some_second(joined(p, swapped(q1)), q2, set2);
-    }
-    false
-}
-
-fn some_both(p: Mask, q1: Mask, set1: u8, q2: Mask, set2: u8) -> bool
-    ensures { result ≡ some_both_of p q1 (kind set1) q2 (kind set2) }
-{
-    if some_above(p, q1, set1, q2, set2) {
-        return true;
-    }
-    some_below(p, q1, set1, q2, set2)
-}
-
-// Whether the test ≥ may cut a set: not if it is > already.
-fn may_raise(p: Mask, q1: Mask, set1: u8, q2: Mask, set2: u8, set: u8) -> bool
-    ensures { result ≡ (cuts L set && some_both_of p q1 (kind set1) q2 (kind set2)) }
-{
-    if 2 <= set {
-        return some_both(p, q1, set1, q2, set2);
-    }
-    false
-}
-
-// Whether the mirrored one may: not if it is < already.
-fn may_lower(p: Mask, q1: Mask, set1: u8, q2: Mask, set2: u8, set: u8) -> bool
-    ensures { result ≡ (cuts U set && some_both_of (swapped_of p) q1 (kind set1) q2 (kind set2)) }
-{
-    if set % 4 == 0 {
+    if !cuts {
         return false;
     }
-    some_both(swapped(p), q1, set1, q2, set2)
+    if some_with(non_positive(set1), p, q1, q2, set2) {
+        return true;
+    }
+    some_with(non_negative(set1), p, swapped(q1), q2, set2)
 }
 
-// Whether the tries of a pair may cut a set of p.
+// Whether the tries of a pair may cut a set of p: the test ≥ does not if it is > already, nor the mirrored one if it is <.
 pub fn may_cut(p: Mask, q1: Mask, set1: u8, q2: Mask, set2: u8, set: u8) -> bool
     ensures { MayCut p q1 q2 set1 set2 set result }
 {
     if 8 <= set {
         return true;
     }
-    if may_raise(p, q1, set1, q2, set2, set) {
+    if some_both(2 <= set, p, q1, set1, q2, set2) {
         return true;
     }
-    may_lower(p, q1, set1, q2, set2, set)
+    some_both(set % 4 != 0, swapped(p), q1, set1, q2, set2)
 }
 
 // A set, cut by the tries of a pair with all u and v, which are left out where none of them may cut it.

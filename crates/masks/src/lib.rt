@@ -3,10 +3,9 @@
 
 #![tactic(auto)]
 
-ghost use Rattle.std.specs.Prelude.{◌≡◌, ◌^◌, ◌<◌};
-ghost use Rattle.rules.specs.Signs.{negative, positive, sign_of, has};
+ghost use Rattle.std.specs.Prelude.{◌≡◌, ◌%◌, ◌^◌};
 ghost use Rattle.deduce.specs.Runs.{Within};
-ghost use Rattle.masks.specs.Weights.{weight_of, when, weigh};
+ghost use Rattle.masks.specs.Weights.{when};
 ghost use Rattle.masks.specs.Masks.{joined as joined_of, Weighed, MaskOf};
 
 use deduce::Run;
@@ -20,41 +19,21 @@ pub struct Mask {
     pub positive: u64,
 }
 
-fn power(k: usize) -> u64
-    requires { k < 64 }
-    ensures { result ≡ 2 ^ k }
+// The bit at a place, counted round a word, if a sign is there.
+#[tactic(auto, unfolding(crate::specs::Weights::when))]
+fn bit_if(there: bool, place: u64) -> u64
+    ensures { result ≡ when there (2 ^ (place % 64)) }
 {
-    1u64 << k
+    if there { 1 << (place % 64) } else { 0 }
 }
 
-// The bit of a monomial with the set s where it is positive, if it can be.
-fn when_positive(m: u64, s: u8) -> u64
-    ensures { result ≡ when (has positive s) (weight_of positive m) }
-{
-    if s % 2 == 1 {
-        power((m % 125 % 64) as usize)
-    } else {
-        0
-    }
-}
-
-// And where it is negative: another one.
-fn when_negative(m: u64, s: u8) -> u64
-    ensures { result ≡ when (has negative s) (weight_of negative m) }
-{
-    if s / 4 % 2 == 1 {
-        power(((m % 125 + 22) % 64) as usize)
-    } else {
-        0
-    }
-}
-
-// The words of one term.
+// The words of one term: a monomial has one bit for where it is positive, and another one for where it is negative.
 fn mask_of_term(c: i32, m: u64, s: u8) -> Mask
     ensures { Weighed c m s result }
 {
-    let above = when_positive(m, s);
-    let below = when_negative(m, s);
+    let place = m % 125;
+    let above = bit_if(s % 2 == 1, place);
+    let below = bit_if(s / 4 % 2 == 1, place + 22);
     if c < 0 {
         return Mask {
             negative: above,
@@ -87,18 +66,13 @@ pub fn mask_of(coefficient: &[i32], monomial: &[u64], sign: &[u8], run: Run) -> 
     requires { Within coefficient.now monomial.now sign.now run }
     ensures { MaskOf coefficient.now monomial.now sign.now run result }
 {
-    let to = run.to;
     let mut sofar = Mask {
         negative: 0,
         positive: 0,
     };
-    let mut i = run.from;
-    while i < to {
+    for i in run.from..run.to {
         let c = coefficient[i];
-        let m = monomial[i];
-        let s = sign[i];
-        i += 1;
-        sofar = joined(sofar, mask_of_term(c, m, s));
+        sofar = joined(sofar, mask_of_term(c, monomial[i], sign[i]));
     }
     sofar
 }

@@ -8,7 +8,7 @@ use native.Mathlib.Omega.{arith}
 use borrow.Author.Tests.{eq-eqb, ne_eqb}
 use lib.Dec.{eqb}
 use lib.ListN.{length, take, drop, get_or, set, length-append, length-set}
-use lib.Seq.{take-suc, set_split, take-set-lt, take_all}
+use lib.Seq.{take-suc, drop-cons, set_split, take-set-lt, take_all}
 use Rattle.rules.specs.Signs.{SignSet, intersect, open_signs}
 use Rattle.rules.specs.Polynomial.{same}
 use Rattle.rules.specs.Level.{Placed, with_set, merged_if, merge_into}
@@ -24,6 +24,15 @@ use Rattle.merging.specs.declared.Truth.{Truth}
 use Rattle.merging.specs.declared.Truth.TheVariants.{Open, True, False}
 use Rattle.merging.specs.Merged.{after_truth, TruthIs, Sparse, MergesInto, Joins, JoinsAll, NotFull}
 use Rattle.merging.specs.Slots.{Fits, fits-empty, fits_more, sparse-more, sparse-set, sparse-without}
+
+-- ---- The tokens of a row, one after the other.
+
+module _ {row : Row} {l : List ℕ} {i : ℕ} (h : Lists row l) where
+  pub rest-token : i < length (take row.count row.token) → drop i l ≡ get_or (take row.count row.token) i 0 ∷ drop (i + 1) l
+  rest-token k = rw (h.is, add-one i) (drop-cons l i 0 (rw h.is at k))
+
+  pub tokens-done : length (take row.count row.token) ≤ i → drop i l ≡ []
+  tokens-done k = rest-none l i (rw h.is at k)
 
 -- ---- One atom into a list.
 

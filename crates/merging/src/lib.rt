@@ -16,6 +16,7 @@ use tape::tokens::{set_of, slot_of, with_set};
 use terms::sign_of;
 
 // "A constant polynomial makes its atom true or false"; every other polynomial leaves it open.
+// Crate steps has `if_constant` too, with an `Option<bool>` in place of this; neither crate stands on the other.
 #[derive(Clone, Copy)]
 enum Truth {
     Open,
@@ -65,9 +66,7 @@ fn merge_into(list: Row, token: u32) -> Row
     ensures { (result.count ≤ list.count + 1) × ((t : Table) (l : List ℕ) → Forms t → Lists list l → MergesInto t token l result) }
 {
     let number = slot_of(token);
-    let end = list.count;
-    let mut i = 0;
-    while i < end {
+    for i in 0..list.count {
         let other = list.token[i];
         if slot_of(other) == number {
             let set = set_of(other).intersect(set_of(token));
@@ -75,7 +74,6 @@ fn merge_into(list: Row, token: u32) -> Row
             merged.token[i] = with_set(other, set);
             return merged;
         }
-        i += 1;
     }
     push(list, token)
 }
@@ -113,13 +111,9 @@ pub fn join_all(
     ensures { let t = lent_table coefficient.entry monomial.entry terms.entry variables in
         (result.count ≤ given.count) × ((l : List ℕ) → Lists given l → JoinsAll t l result) }
 {
-    let end = given.count;
     let mut list = empty();
-    let mut i = 0;
-    while i < end {
-        let token = given.token[i];
-        i += 1;
-        list = join(coefficient, monomial, terms, variables, list, token);
+    for token in &given.token[..given.count] {
+        list = join(coefficient, monomial, terms, variables, list, *token);
     }
     list
 }
@@ -129,15 +123,10 @@ pub fn not_full(list: Row) -> Row
     requires { list.count ≤ 255 }
     ensures { (result.count ≤ list.count) × ((t : Table) (l : List ℕ) → Lists list l → NotFull t l result) }
 {
-    let end = list.count;
     let mut kept = empty();
-    let mut i = 0;
-    while i < end {
-        let token = list.token[i];
-        i += 1;
-        let set = set_of(token);
-        if set.0 != SignSet::FULL.0 {
-            kept = push(kept, token);
+    for token in &list.token[..list.count] {
+        if set_of(*token).0 != SignSet::FULL.0 {
+            kept = push(kept, *token);
         }
     }
     kept
@@ -148,15 +137,12 @@ pub fn behind_empty(list: Row) -> usize
     requires { list.count ≤ 256 }
     ensures { (l : List ℕ) → Lists list l → BehindEmpty l result }
 {
-    let end = list.count;
     let mut behind = 0;
-    let mut i = 0;
-    while i < end {
+    for i in 0..list.count {
         let token = list.token[i];
-        i += 1;
         let set = set_of(token);
         if set.0 == SignSet::EMPTY.0 {
-            behind = i;
+            behind = i + 1;
         }
     }
     behind

@@ -1,17 +1,15 @@
 -- Coefficients in 32 signed bits: what fits there, and what is read back.
 -- A number goes through its bits at each operation; under the bounds here it comes back.
-use mathlib.Core.Path.{◌≡◌, ◌∙◌}
-use mathlib.Core.Bool.{true, false, true≢false}
-use Prim.Native.Nat.{ℕ, zero, suc, ◌/◌, ◌^◌, ◌<◌, ◌≤◌}
+use mathlib.Core.Path.{◌≡◌, refl, ◌∙◌}
+use Prim.Native.Nat.{ℕ, zero, suc, ◌/◌, ◌^◌, ◌<◌, ◌≤◌, max}
 use native.Mathlib.Nat.{div-le_self, lt_of_le_of_lt}
 use native.Mathlib.Omega.{arith}
-use borrow.Author.Tests.{ltb-true}
-use lib.Dec.{T}
 use lib.IntN.{ℤ, pos, negsuc, neg_ℤ, nat_abs, ◌-ℤ◌, +ℤ_idl}
-use lib.Signed.{mag, lt_z, quot_z, non_neg}
+use lib.Signed.{mag, quot_z}
 use mir.Syntax.{w32}
 use mir.Val.{SFits, to_z, of_z}
 use mir.ValLaws.{to_z-of_z}
+use Rattle.rules.specs.Polynomial.{or_one}
 use Rattle.normal_laws.specs.Twice.{magnitude-negated}
 
 magnitude-fits : (z : ℤ) → nat_abs z < 2 ^ 31 → SFits w32 z
@@ -38,15 +36,11 @@ module _ (z : ℤ) (small : nat_abs z < 2 ^ 31) where
   pub minus-back : to_z w32 (of_z w32 (pos 0 -ℤ to_z w32 (of_z w32 z))) ≡ neg_ℤ z
   minus-back = to_z-of_z w32 (pos 0 -ℤ to_z w32 (of_z w32 z)) minus-fits ∙ rw bounded-back (minus z)
 
--- The negation of a negative number is not negative.
-pub negative-turns : (z : ℤ) → lt_z z (pos 0) ≡ true → T (non_neg (neg_ℤ z))
-negative-turns (pos n) h = absurd (omega (arith, ltb-true n 0 h))
-negative-turns (negsuc n) h = tt
-
--- A number that is not below 0 is not negative.
-pub left-whole : (z : ℤ) → lt_z z (pos 0) ≡ false → T (non_neg z)
-left-whole (pos n) h = tt
-left-whole (negsuc n) h = absurd (true≢false h)
+-- 0 read as 1.
+pub at-least-one : (g : ℕ) → max g 1 ≡ or_one g
+unfolding or_one
+at-least-one zero = refl
+at-least-one (suc k) = omega arith
 
 -- ---- Quotients.
 

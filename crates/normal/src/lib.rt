@@ -3,7 +3,7 @@
 
 #![tactic(auto)]
 
-ghost use Rattle.std.specs.Prelude.{◌≡◌, ◌^◌, ◌<◌, ◌≤◌, nat_abs, length};
+ghost use Rattle.std.specs.Prelude.{◌≡◌, ◌^◌, ◌<◌, ◌≤◌, length};
 ghost use Rattle.rules.specs.Polynomial.{gcd as gcd_of, content as content_of, first_is_negative as first_is_negative_of};
 ghost use Rattle.normal.specs.Normal.{Bounded, coefficients, divided_run, negated_run, is_turned, normal_run};
 
@@ -21,33 +21,17 @@ fn gcd(first: u32, second: u32) -> u32
     a
 }
 
-// A coefficient without its sign. The bound leaves out -2^31, whose negation has no place in 32 bits.
-fn magnitude(c: i32) -> u32
-    requires { nat_abs c < 2 ^ 31 }
-    ensures { result ≡ nat_abs c }
-{
-    if c < 0 {
-        return (0 - c) as u32;
-    }
-    c as u32
-}
-
 // The greatest common divisor of the coefficients at the places from..to; 0, which no polynomial of a block has, is read as 1.
 fn content(coefficient: &[i32], from: usize, to: usize) -> u32
     requires { Bounded coefficient.now from to }
     ensures { result ≡ content_of (coefficients coefficient.now from to) }
 {
     let mut common = 0;
-    let mut i = from;
-    while i < to {
+    for i in from..to {
         let c = coefficient[i];
-        i += 1;
-        common = gcd(magnitude(c), common);
+        common = gcd(c.unsigned_abs(), common);
     }
-    if common == 0 {
-        return 1;
-    }
-    common
+    common.max(1)
 }
 
 // The quotients of the coefficients at the places from..to, stored at the same places of target.
@@ -56,11 +40,9 @@ fn divide(coefficient: &[i32], target: &mut [i32], from: usize, to: usize, by: u
     ensures { target.new ≡ divided_run by coefficient.now target.old from to }
 {
     let divisor = by as i32;
-    let mut i = from;
-    while i < to {
+    for i in from..to {
         let c = coefficient[i];
         target[i] = c / divisor;
-        i += 1;
     }
 }
 
@@ -69,11 +51,9 @@ fn negate(coefficient: &mut [i32], from: usize, to: usize)
     requires { Bounded coefficient.old from to }
     ensures { coefficient.new ≡ negated_run coefficient.old from to }
 {
-    let mut i = from;
-    while i < to {
+    for i in from..to {
         let c = coefficient[i];
         coefficient[i] = 0 - c;
-        i += 1;
     }
 }
 
@@ -82,11 +62,7 @@ fn first_is_negative(coefficient: &[i32], from: usize, to: usize) -> bool
     requires { to ≤ length coefficient.now }
     ensures { result ≡ first_is_negative_of (coefficients coefficient.now from to) }
 {
-    if from < to {
-        let c = coefficient[from];
-        return c < 0;
-    }
-    false
+    from < to && coefficient[from] < 0
 }
 
 // The normal form of the coefficients at the places from..to, stored at the same places of target; whether it was negated.

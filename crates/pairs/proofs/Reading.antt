@@ -1,24 +1,25 @@
 -- Pairs in a run of bytes are a first pair and the others. What the book's tests say of the pairs that are left, and what is known of those before,
 -- give what they say of all.
-use mathlib.Core.Path.{◌≡◌, refl, sym, ap, ◌∙◌}
+use mathlib.Core.Path.{◌≡◌, refl, sym, ◌∙◌}
 use mathlib.Core.Bool.{Bool, true, false, ◌&&◌}
 use mathlib.Core.List.{List, [], ◌∷◌}
 use Prim.Native.Nat.{ℕ, zero, suc, ◌+◌, ◌-◌, ◌*◌, ◌/◌, ◌%◌, ◌^◌, ◌≤◌, ◌<◌}
 use native.Mathlib.Nat.{add_assoc, add-zero, pow-suc, mul-le-mul_right}
 use native.Mathlib.Numerals.{add-one}
 use native.Mathlib.Omega.{arith}
+use Rattle.std.specs.Prelude.{Ok, Err}
 use lib.Dec.{ltb}
 use lib.ListN.{length, take, drop}
 use lib.Pow.{pow_pos, pow_mono, high, low}
 use lib.Seq.{drop-drop}
 use borrow.Author.Tests.{lt-ltb, le-ltb, le-leb, lt-leb}
 use Rattle.rules.specs.Bits.{value, unpack}
-use Rattle.rules.specs.Pairs.{Pair, read_pairs, rising, above_zero, monomial_of}
+use Rattle.rules.specs.Pairs.{read_pairs, rising, above_zero, monomial_of}
 use Rattle.block_laws.specs.Pairs.{four-bits-each}
 use Rattle.bits.proofs.Bytes.{length-unpack, value-take-add}
 use Rattle.bits.proofs.Fields.{value-take-lt}
 use Rattle.pairs.specs.Pairs.{pairs_at, PairsInside, told_of, pairs_told}
-use Rattle.pairs.specs.declared.Told.TheVariants.{NotRising, SomeZero, Exponents}
+use Rattle.pairs.specs.declared.PairsFault.TheVariants.{NotRising, SomeZero}
 
 -- The field of k bits from a bit on.
 abbrev pub field_at : List ℕ → ℕ → ℕ → ℕ
@@ -112,12 +113,12 @@ module _ {n : ℕ} {bytes : List ℕ} {at count i least : ℕ} {above : Bool} {e
   exponent_small : pair % 16 < 16
   exponent_small = omega arith
 
-  pub first_below : pair / 16 < least → NotRising ≡ pairs_told n (pairs_at bytes at count)
+  pub first_below : pair / 16 < least → Err NotRising ≡ pairs_told n (pairs_at bytes at count)
   unfolding rising told_of
   first_below less = rw (← rises-now, lt-leb least (pair / 16) less)
 
   module _ (enough : least ≤ pair / 16) where
-    pub first-beyond : n ≤ pair / 16 → NotRising ≡ pairs_told n (pairs_at bytes at count)
+    pub first-beyond : n ≤ pair / 16 → Err NotRising ≡ pairs_told n (pairs_at bytes at count)
     unfolding rising told_of
     first-beyond beyond = rw (← rises-now, le-leb least (pair / 16) enough, le-ltb (pair / 16) n beyond)
 
@@ -158,10 +159,10 @@ module _ {n : ℕ} {bytes : List ℕ} {at count i least : ℕ} {above : Bool} {e
   unfolding above_zero
   all_above = sym (rw (none_left, and-true above) at l.not_zero)
 
-  pub pairs_end : above ≡ true → Exponents exponents ≡ pairs_told n (pairs_at bytes at count)
+  pub pairs_end : above ≡ true → Ok exponents ≡ pairs_told n (pairs_at bytes at count)
   unfolding monomial_of told_of
   pairs_end all = rw (all-rise, all_above, all, ← (rw (none_left, add-zero) at l.sum))
 
-  pub pairs-end-zero : above ≡ false → SomeZero ≡ pairs_told n (pairs_at bytes at count)
+  pub pairs-end-zero : above ≡ false → Err SomeZero ≡ pairs_told n (pairs_at bytes at count)
   unfolding told_of
   pairs-end-zero some = rw (all-rise, all_above, some)

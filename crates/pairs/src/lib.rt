@@ -8,12 +8,11 @@ ghost use Rattle.pairs.specs.Pairs.{pairs_at, PairsInside, pairs_told};
 
 use bits::get;
 
-// What the pairs of a term are: numbers that do not rise or are not below n, else an exponent 0, else the exponents of all n variables as one number.
-#[derive(Clone, Copy)]
-pub enum Told {
+// What is wrong with the pairs of a term: numbers that do not rise or are not below n, else an exponent 0.
+#[derive(Clone, Copy, Debug, PartialEq, Eq)]
+pub enum PairsFault {
     NotRising,
     SomeZero,
-    Exponents(u64),
 }
 
 // Whether each exponent so far is above 0, with one more.
@@ -31,24 +30,22 @@ fn placed(exponent: u64, followers: usize) -> u64
     exponent << (4 * followers)
 }
 
-// What `count` pairs from the bit `at` on are, by the book's tests of the pairs that are read there.
-pub fn tell(src: &[u8], at: usize, n: usize, count: usize) -> Told
+// What `count` pairs from the bit `at` on are, by the book's tests of the pairs that are read there: the exponents of all n variables as one number.
+pub fn tell(src: &[u8], at: usize, n: usize, count: usize) -> Result<u64, PairsFault>
     requires { PairsInside src.now at count × (n ≤ 16) }
     ensures { result ≡ pairs_told n (pairs_at src.now at count) }
 {
     let mut least = 0;
     let mut above = true;
     let mut exponents: u64 = 0;
-    let mut i = 0;
-    while i < count {
+    for i in 0..count {
         let pair = get(src, at + 8 * i, 8);
-        i += 1;
         let variable = (pair / 16) as usize;
         if variable < least {
-            return Told::NotRising;
+            return Err(PairsFault::NotRising);
         }
         if n <= variable {
-            return Told::NotRising;
+            return Err(PairsFault::NotRising);
         }
         let exponent = pair % 16;
         above = still_above(above, exponent);
@@ -56,7 +53,7 @@ pub fn tell(src: &[u8], at: usize, n: usize, count: usize) -> Told
         least = variable + 1;
     }
     if above {
-        return Told::Exponents(exponents);
+        return Ok(exponents);
     }
-    Told::SomeZero
+    Err(PairsFault::SomeZero)
 }

@@ -4,7 +4,7 @@
 #![tactic(auto)]
 
 use block::edition;
-use convert::{Converted, to_edition1, to_edition2};
+use convert::{Refusal, to_edition1, to_edition2};
 use files::argument;
 use frames::fill;
 use std::env::Env;
@@ -29,7 +29,7 @@ fn asked<E: Env>(env: &E, input: &[u8]) -> u64 {
     1
 }
 
-fn converted<E: Env>(env: &E, input: &[u8], output: &mut [u8]) -> Converted {
+fn converted<E: Env>(env: &E, input: &[u8], output: &mut [u8]) -> Result<usize, Refusal> {
     if asked(env, input) == 1 {
         return to_edition1(input, output);
     }
@@ -40,13 +40,16 @@ fn converted<E: Env>(env: &E, input: &[u8], output: &mut [u8]) -> Converted {
 fn print<W: Write, V: Write>(
     out: &mut W,
     said: &mut V,
-    outcome: Converted,
+    outcome: Result<usize, Refusal>,
     length: usize,
     output: &[u8],
 ) -> io::Result<()> {
     match outcome {
-        Converted::Refused(number) => writeln!(said, "REFUSED {number}"),
-        Converted::Finished(size) => {
+        Err(refusal) => {
+            let number = refusal.number();
+            writeln!(said, "REFUSED {number}")
+        }
+        Ok(size) => {
             if size <= output.len() {
                 out.write_all(&output[..size])?;
             }

@@ -6,6 +6,7 @@
 
 use files::{argument, is_given, tell};
 use frames::fill;
+use frames::lines::{Lines, answer_all};
 use readings::{Line, begin, is_whole, over, taken, word_taken};
 use std::env::Env;
 use std::io;
@@ -45,81 +46,29 @@ fn once(rt: &HostRuntime, word: &mut [u8]) -> io::Result<()> {
     answer(&mut rt.stdout(), &space[..length], &numbers, count)
 }
 
-// One byte of the stream of readings: at the end of a line the line is answered.
-fn heard<W: Write>(
-    out: &mut W,
-    block: &[u8],
-    byte: u8,
+// Live readings: each line is answered for the block.
+#[derive(Drop)]
+struct LiveReadings<'a> {
+    block: &'a [u8],
     line: Line,
-    numbers: &mut [i32],
-) -> io::Result<Line> {
-    if byte == b'\n' {
-        let count = over(line, numbers);
-        answer(out, block, numbers, count)?;
-        return Ok(begin());
-    }
-    Ok(taken(line, byte, numbers))
+    numbers: [i32; 16],
 }
 
-// Some bytes of it.
-fn lines<W: Write>(
-    out: &mut W,
-    block: &[u8],
-    bytes: &[u8],
-    line: Line,
-    numbers: &mut [i32],
-) -> io::Result<Line> {
-    let mut next = line;
-    for byte in bytes {
-        next = heard(out, block, *byte, next, numbers)?;
+impl<W: Write> Lines<W> for LiveReadings<'_> {
+    fn take(&mut self, byte: u8) {
+        self.line = taken(self.line, byte, &mut self.numbers);
     }
-    Ok(next)
-}
 
-// What a part of it leaves: whether there may be more, and how far the line is.
-#[derive(Clone, Copy)]
-struct Part {
-    more: bool,
-    line: Line,
-}
-
-fn some_lines<R: Read, W: Write>(
-    input: &mut R,
-    out: &mut W,
-    block: &[u8],
-    bytes: &mut [u8],
-    line: Line,
-    numbers: &mut [i32],
-) -> io::Result<Part> {
-    let got = input.read(bytes)?;
-    let next = lines(out, block, &bytes[..got], line, numbers)?;
-    Ok(Part {
-        more: got > 0,
-        line: next,
-    })
-}
-
-// Live readings: what the input has is answered as soon as it is there. A last line without its end counts if it has a byte.
-// A proved loop has to end, and nothing says that the input does: the turns are counted up to a number that no run reaches.
-fn stream<R: Read, W: Write>(
-    input: &mut R,
-    out: &mut W,
-    block: &[u8],
-    bytes: &mut [u8],
-    numbers: &mut [i32],
-) -> io::Result<()> {
-    let mut line = begin();
-    for _ in 0..u64::MAX {
-        let now = some_lines(input, out, block, bytes, line, numbers)?;
-        line = now.line;
-        if !now.more {
-            break;
-        }
+    fn has_begun(&self) -> bool {
+        self.line.begun
     }
-    if line.begun {
-        heard(out, block, b'\n', line, numbers)?;
+
+    fn answer(&mut self, out: &mut W) -> io::Result<()> {
+        let count = over(self.line, &mut self.numbers);
+        answer(out, self.block, &self.numbers, count)?;
+        self.line = begin();
+        Ok(())
     }
-    Ok(())
 }
 
 // The block from a file.
@@ -135,14 +84,12 @@ fn live_on<F: Read + Drop>(rt: &HostRuntime, mut file: F) -> io::Result<()> {
     let mut space = [0u8; 32768];
     let length = fill(&mut file, &mut space)?;
     let mut bytes = [0u8; 4096];
-    let mut numbers = [0i32; 16];
-    stream(
-        &mut rt.stdin(),
-        &mut rt.stdout(),
-        &space[..length],
-        &mut bytes,
-        &mut numbers,
-    )
+    let mut live = LiveReadings {
+        block: &space[..length],
+        line: begin(),
+        numbers: [0; 16],
+    };
+    answer_all(&mut rt.stdin(), &mut bytes, &mut live, &mut rt.stdout())
 }
 
 // Whether the one argument is no whole number: then it names a file, and the readings are live.

@@ -6,7 +6,7 @@
 use areas::{open, print_answer, put_all};
 use files::{is_given, tell};
 use frames::fill;
-use loading::{Loaded, first_write, load};
+use loading::{first_write, load};
 use std::env::Env;
 use std::io;
 
@@ -27,8 +27,8 @@ fn main(rt: HostRuntime) -> io::Result<()> {
     let first = first_write(&area[..n]);
     let answer = load(block, &mut area[..n]);
     match answer {
-        Loaded::Refused(_) => print_answer(&mut rt.stdout(), answer, b""),
-        Loaded::Starts(_) => match put_all(&file, block, first, asks_sync(&rt)) {
+        Err(_) => print_answer(&mut rt.stdout(), answer, b""),
+        Ok(_) => match put_all(&file, block, first, asks_sync(&rt)) {
             Ok(()) => print_answer(&mut rt.stdout(), answer, b"LOADED "),
             Err(error) => tell(&mut rt.stderr(), b"placardpan_load", &error),
         },

@@ -6,74 +6,32 @@
 ghost use Rattle.std.specs.Prelude.{◌≤◌, length};
 
 use frames::fill;
+use frames::lines::{Lines, answer_all};
 use std::fs::Files;
 use std::io;
 use std::io::{Read, Write};
 
-// How far a line is: so many of its bytes are held; whether there were more than there is room for; whether there was a byte.
-#[derive(Clone, Copy)]
-struct Line {
-    length: usize,
-    long: bool,
-    begun: bool,
-}
-
-fn begin() -> Line {
-    Line {
-        length: 0,
-        long: false,
-        begun: false,
-    }
-}
-
 // ---- the words of a line
-
-// Whether a line begins with a word.
-fn begins(line: &[u8], word: &[u8]) -> bool {
-    if line.len() < word.len() {
-        return false;
-    }
-    &line[..word.len()] == word
-}
-
-// A decimal digit; 10 if it is none.
-fn digit(byte: u8) -> usize
-    ensures { result ≤ 10 }
-{
-    if byte < 48 {
-        return 10;
-    }
-    if byte > 57 {
-        return 10;
-    }
-    (byte - 48) as usize
-}
 
 // Where the digits that a line begins with end.
 fn digits_end(line: &[u8]) -> usize
     ensures { result ≤ length line.now }
 {
-    for i in 0..line.len() {
-        if digit(line[i]) == 10 {
+    for (i, byte) in line.iter().enumerate() {
+        if !byte.is_ascii_digit() {
             return i;
         }
     }
     line.len()
 }
 
-// A digit more; from 100 on the number stays, above all numbers of blocks.
-fn one_more(number: usize, byte: u8) -> usize {
-    if number < 100 {
-        return number * 10 + digit(byte);
-    }
-    number
-}
-
-// The number of some digits.
+// The number of some digits; from 100 on it stays, above all numbers of blocks.
 fn number_of(digits: &[u8]) -> usize {
     let mut number = 0;
     for byte in digits {
-        number = one_more(number, *byte);
+        if number < 100 {
+            number = number * 10 + usize::from(byte.saturating_sub(b'0'));
+        }
     }
     number
 }
@@ -122,174 +80,80 @@ fn add_named<R: Files, W: Write>(
     words: &mut [u64],
     line: &[u8],
 ) -> io::Result<()> {
-    let end = digits_end(line);
-    if end > 0 {
-        if end < line.len() {
-            if line[end] == b' ' {
-                let number = number_of(&line[..end]);
-                return add_file(rt, out, words, number, &line[end + 1..]);
-            }
+    let (digits, rest) = line.split_at(digits_end(line));
+    match rest.split_first() {
+        Some((byte, path)) if *byte == b' ' && !digits.is_empty() => {
+            add_file(rt, out, words, number_of(digits), path)
         }
+        _ => no_call(out),
     }
-    no_call(out)
 }
 
 // Behind `withdraw `: a number and nothing else.
 fn withdraw_named<W: Write>(out: &mut W, words: &mut [u64], line: &[u8]) -> io::Result<()> {
-    if line.len() > 0 {
-        if digits_end(line) == line.len() {
-            return pool_telling::withdraw(out, words, number_of(line));
-        }
+    if line.is_empty() || digits_end(line) < line.len() {
+        return no_call(out);
     }
-    no_call(out)
-}
-
-// A line that is neither `add ..` nor `withdraw ..`.
-fn show<W: Write>(out: &mut W, words: &[u64], line: &[u8]) -> io::Result<()> {
-    if line.len() == 4 {
-        if begins(line, b"show") {
-            return pool_telling::show(out, words);
-        }
-    }
-    no_call(out)
+    pool_telling::withdraw(out, words, number_of(line))
 }
 
 // A line.
 fn call<R: Files, W: Write>(rt: &R, out: &mut W, words: &mut [u64], line: &[u8]) -> io::Result<()> {
-    if line.len() > 4 {
-        if begins(line, b"add ") {
-            return add_named(rt, out, words, &line[4..]);
-        }
+    if let Some(rest) = line.strip_prefix(b"add ") {
+        return add_named(rt, out, words, rest);
     }
-    if line.len() > 9 {
-        if begins(line, b"withdraw ") {
-            return withdraw_named(out, words, &line[9..]);
-        }
+    if let Some(rest) = line.strip_prefix(b"withdraw ") {
+        return withdraw_named(out, words, rest);
     }
-    show(out, words, line)
-}
-
-// ---- the lines of standard input, byte by byte
-
-// The line is over: one that there was no room for is none of the calls.
-fn over<R: Files, W: Write>(
-    rt: &R,
-    out: &mut W,
-    words: &mut [u64],
-    line: Line,
-    text: &[u8],
-) -> io::Result<()> {
-    let n = line.length;
-    if !line.long {
-        if n <= text.len() {
-            return call(rt, out, words, &text[..n]);
-        }
+    if line == b"show".as_slice() {
+        return pool_telling::show(out, words);
     }
     no_call(out)
 }
 
-// A byte more of a line.
-fn taken(line: Line, byte: u8, text: &mut [u8]) -> Line {
-    let at = line.length;
-    if at < text.len() {
-        text[at] = byte;
-        return Line {
-            length: at + 1,
-            long: line.long,
-            begun: true,
+// ---- the lines of standard input
+
+// A script: the pool, and of the line at hand how many bytes are held; none if there were more than there is room for.
+#[derive(Drop)]
+struct Script<'a> {
+    rt: &'a HostRuntime,
+    words: [u64; 4354],
+    text: [u8; 8192],
+    held: Option<usize>,
+}
+
+impl<W: Write> Lines<W> for Script<'_> {
+    fn take(&mut self, byte: u8) {
+        self.held = match self.held {
+            Some(n) if n < 8192 => {
+                self.text[n] = byte;
+                Some(n + 1)
+            }
+            _ => None,
         };
     }
-    Line {
-        length: at,
-        long: true,
-        begun: true,
+
+    fn has_begun(&self) -> bool {
+        self.held != Some(0)
     }
-}
 
-fn heard<R: Files, W: Write>(
-    rt: &R,
-    out: &mut W,
-    words: &mut [u64],
-    byte: u8,
-    line: Line,
-    text: &mut [u8],
-) -> io::Result<Line> {
-    if byte == b'\n' {
-        over(rt, out, words, line, text)?;
-        return Ok(begin());
-    }
-    Ok(taken(line, byte, text))
-}
-
-// Some bytes.
-fn lines<R: Files, W: Write>(
-    rt: &R,
-    out: &mut W,
-    words: &mut [u64],
-    bytes: &[u8],
-    line: Line,
-    text: &mut [u8],
-) -> io::Result<Line> {
-    let mut next = line;
-    for byte in bytes {
-        next = heard(rt, out, words, *byte, next, text)?;
-    }
-    Ok(next)
-}
-
-// What a part of standard input leaves: whether there may be more, and how far the line is.
-#[derive(Clone, Copy)]
-struct Part {
-    more: bool,
-    line: Line,
-}
-
-fn some_lines<R: Files, I: Read, W: Write>(
-    rt: &R,
-    input: &mut I,
-    out: &mut W,
-    words: &mut [u64],
-    bytes: &mut [u8],
-    line: Line,
-    text: &mut [u8],
-) -> io::Result<Part> {
-    let got = input.read(bytes)?;
-    let next = lines(rt, out, words, &bytes[..got], line, text)?;
-    Ok(Part {
-        more: got > 0,
-        line: next,
-    })
-}
-
-// What the input has is answered as soon as it is there. A last line without its end counts if it has a byte.
-// A proved loop has to end, and nothing says that the input does: the turns are counted up to a number that no run reaches.
-fn stream<R: Files, I: Read, W: Write>(
-    rt: &R,
-    input: &mut I,
-    out: &mut W,
-    words: &mut [u64],
-    bytes: &mut [u8],
-    text: &mut [u8],
-) -> io::Result<()> {
-    let mut line = begin();
-    for _ in 0..u64::MAX {
-        let now = some_lines(rt, input, out, words, bytes, line, text)?;
-        line = now.line;
-        if !now.more {
-            break;
+    fn answer(&mut self, out: &mut W) -> io::Result<()> {
+        match self.held {
+            Some(n) if n <= 8192 => call(self.rt, out, &mut self.words, &self.text[..n])?,
+            _ => no_call(out)?,
         }
+        self.held = Some(0);
+        Ok(())
     }
-    if line.begun {
-        heard(rt, out, words, b'\n', line, text)?;
-    }
-    Ok(())
 }
 
 fn main(rt: HostRuntime) -> io::Result<()> {
-    let mut pool = [0u64; 4354];
     let mut bytes = [0u8; 4096];
-    let mut text = [0u8; 8192];
-    let mut input = rt.stdin();
-    let mut out = rt.stdout();
-    stream(&rt, &mut input, &mut out, &mut pool, &mut bytes, &mut text)
+    let mut script = Script {
+        rt: &rt,
+        words: [0; 4354],
+        text: [0; 8192],
+        held: Some(0),
+    };
+    answer_all(&mut rt.stdin(), &mut bytes, &mut script, &mut rt.stdout())
 }

@@ -7,7 +7,7 @@ ghost use Rattle.std.specs.Prelude.{◌≡◌, length};
 
 use files::argument;
 use frames::fill;
-use script::{Outcome, script};
+use script::script;
 use script_telling::tell;
 use std::env::Env;
 use std::io;
@@ -43,8 +43,11 @@ fn forth(rt: &HostRuntime) -> io::Result<()> {
     let outcome = script(&space[..length], &mut text);
     let mut out = rt.stdout();
     match outcome {
-        Outcome::Refused(number) => writeln!(out, "REFUSED {number}"),
-        Outcome::Written(size) => print_first(&mut out, &text, size),
+        Err(refusal) => {
+            let number = refusal.number();
+            writeln!(out, "REFUSED {number}")
+        }
+        Ok(size) => print_first(&mut out, &text, size),
     }
 }
 

@@ -8,7 +8,8 @@ use native.Mathlib.Omega.{arith}
 use lib.ListN.{length, get_or, set, take, drop, length-append, length-set}
 use lib.Seq.{take-suc, drop-cons, append_snoc, get_or-append_seam, set-append_seam, length-take-le}
 use borrow.Author.Tests.{lt-ltb, le-ltb}
-use Rattle.places.specs.Places.{is_atom, with_place, next_place, place_from, place_after, placed_tokens, told_if, place_bytes, places_over}
+use Rattle.std.proofs.lemmas.List.{take_all, drop_all}
+use Rattle.places.specs.Places.{is_atom, with_place, next_place, place_from, place_after, told_if, place_bytes, places_over}
 
 -- ---- one token more
 
@@ -97,6 +98,10 @@ module _ {before token : List ℕ} {i place : ℕ} (g : Giving before token i pl
   giving-node h =
       next false (le-ltb x 16777216 (rw here at h)) token (split ∙ sym (append_snoc (place_from 0 (take i before)) x (drop (i + 1) before))) refl (omega (arith, g.small))
 
+-- All places given.
+pub given-all : {before token : List ℕ} {i place : ℕ} → Giving before token i place → length before ≤ i → token ≡ place_from 0 before
+given-all {before} {token} {i} g h = g.is ∙ rw (take_all i before h, drop_all i before h) (append-nil (place_from 0 before))
+
 -- ---- places told
 
 pub record Telling (tokens before places : List ℕ) (i told : ℕ) : Type 0 where
@@ -145,3 +150,7 @@ module _ {tokens before places : List ℕ} {i told : ℕ} (g : Telling tokens be
         small = omega (arith, g.small);
         same = g.same;
       }
+
+-- All places told.
+pub told-all : {tokens before places : List ℕ} {i told : ℕ} → Telling tokens before places i told → length tokens ≤ i → places ≡ places_over tokens before
+told-all {tokens} {before} {places} {i} g h = g.is ∙ ap (λ (l : List ℕ). places_over l before) (take_all i tokens h)

@@ -1,5 +1,5 @@
 -- Tokens with the places of their atoms, and the places that tokens tell. A token below 2 ^ 24 is an atom's, any other a node's.
-use Rattle.std.specs.Prelude.{◌≡◌, Bool, true, false, List, [], ◌∷◌, ◌++◌, ℕ, ◌+◌, ◌*◌, ◌/◌, ◌%◌, ltb, length, take, drop}
+use Rattle.std.specs.Prelude.{Bool, true, false, List, [], ◌∷◌, ◌++◌, ℕ, ◌+◌, ◌*◌, ◌/◌, ◌%◌, ltb, length, take, drop}
 
 abbrev pub is_atom : ℕ → Bool
 is_atom t = ltb t 16777216

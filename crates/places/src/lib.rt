@@ -12,13 +12,9 @@ pub fn give(token: &mut [u32], count: usize)
     ensures { token.new ≡ placed_tokens count token.old }
 {
     let mut place: u32 = 0;
-    let mut i = 0;
-    while i < count {
-        let at = i;
-        i += 1;
-        let t = token[at];
-        if t < 16777216 {
-            token[at] = place * 512 + t % 512;
+    for t in &mut token[..count] {
+        if *t < 16777216 {
+            *t = place * 512 + *t % 512;
             place += 1;
         }
     }
@@ -30,10 +26,7 @@ pub fn tell(token: &[u32], count: usize, places: &mut [u8])
     ensures { places.new ≡ places_over (take count token.now) places.old }
 {
     let mut told = 0;
-    let mut at = 0;
-    while at < count {
-        let t = token[at];
-        at += 1;
+    for &t in &token[..count] {
         if t < 16777216 {
             places[told] = (t / 512 % 256) as u8;
             told += 1;

@@ -2,9 +2,8 @@
 use mathlib.Core.Path.{◌≡◌, refl, sym, ap, ◌∙◌, subst}
 use mathlib.Core.Bool.{Bool, true, false}
 use mathlib.Core.List.{List, ◌∷◌}
-use Prim.Native.Nat.{ℕ, zero, suc, ◌≤◌}
-use native.Mathlib.Omega.{arith}
-use lib.IntN.{ℤ, pos, negsuc, nat_abs}
+use Prim.Native.Nat.{zero, suc}
+use lib.IntN.{ℤ, pos, negsuc}
 use Rattle.rules.specs.Deduce.{Fraction, End, free, at, Row, at_zero, end_at_most, end_below}
 use Rattle.plain_laws.specs.Bounds.{largest, Small, magnitude-negated}
 use Rattle.interval.specs.declared.interval.End.{End as KeptEnd}

@@ -1,13 +1,13 @@
 -- Numbers of 64 signed bits: what fits, what is read back from its bits, and the terms of a listed fraction.
 use mathlib.Core.Path.{◌≡◌, refl, sym, ap, ◌∙◌, subst}
-use mathlib.Core.Bool.{Bool, true, false, true≢false, false≢true}
+use mathlib.Core.Bool.{true, false, true≢false, false≢true}
 use Prim.Native.Nat.{ℕ, zero, suc, ◌+◌, ◌*◌, ◌≤◌, ◌<◌}
 use native.Mathlib.Nat.{eq-or-lt_of_le}
 use native.Mathlib.Omega.{arith}
 use borrow.Author.Tests.{ltb-true, ltb-false}
 use mathlib.Core.List.{List, [], ◌∷◌}
 use mathlib.Core.Logic.{◌⊎◌, inl, inr}
-use lib.IntN.{ℤ, pos, negsuc, neg_ℤ, nat_abs, ◌+ℤ◌, ◌-ℤ◌, ◌*ℤ◌, +ℤ_idl, +ℤ_idr}
+use lib.IntN.{ℤ, pos, negsuc, neg_ℤ, nat_abs, ◌+ℤ◌, ◌-ℤ◌, ◌*ℤ◌, +ℤ_idl}
 use lib.ListN.{get_or}
 use lib.Signed.{lt_z}
 use mir.Syntax.{w32, w64}
@@ -20,7 +20,6 @@ use Rattle.plain.specs.Met.{beside}
 use Rattle.whole.specs.Solver.{#, con, ◌:+◌, ◌:-◌, ◌:*◌, solve}
 use Rattle.rules.specs.Signs.{sign_of, only}
 use Rattle.rules.specs.Plain.{sign_at, one_less, one_more, between}
-use Rattle.deduction_laws.specs.Fractions.{combined}
 use Rattle.plain_laws.specs.Bounds.{largest, Small, magnitude-sum, magnitude-negated, product-fits}
 use Rattle.plain_laws.specs.Same.{sign-at}
 use Rattle.deduce.specs.Merge.{AtMost}

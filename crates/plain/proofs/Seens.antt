@@ -1,17 +1,14 @@
 -- What is seen of value after value, and what is found from it.
 use mathlib.Core.Path.{◌≡◌, refl, sym, ap, ap₂, ◌∙◌, subst}
-use mathlib.Core.Bool.{Bool, true, false, not, ◌&&◌, ◌||◌}
+use mathlib.Core.Bool.{Bool, true, false, ◌&&◌, ◌||◌}
 use mathlib.Core.List.{List, [], ◌∷◌}
-use Prim.Native.Nat.{ℕ}
 use borrow.Author.Tests.{ne_eqb}
-use lib.Dec.{eqb}
-use lib.IntN.{ℤ}
 use Rattle.sign_laws.specs.Booleans.{and_assoc, or-false}
-use Rattle.rules.specs.Signs.{Sign, sign_of, SignSet, only, Kind, kind, has, intersect, mirror}
+use Rattle.rules.specs.Signs.{sign_of, SignSet, only, Kind, kind, has}
 use Rattle.rules.specs.Polynomial.{Board, Polynomial}
-use Rattle.rules.specs.Deduce.{Fraction, End, free, at, Row, rows, is_strict, found, finding_of, any_empty, unless_empty, deduce, at_zero}
+use Rattle.rules.specs.Deduce.{Fraction, End, free, at, Row, rows, is_strict, finding_of, any_empty, unless_empty, deduce, at_zero}
 use Rattle.rules.specs.Plain.{sign_at, asks_l, asks_u, wanted_l, wanted_u, passes, is_not0, strict_at, weak_at, strictly_at, some}
-use Rattle.plain_laws.specs.Same.{found_over, same-finding}
+use Rattle.plain_laws.specs.Same.{same-finding}
 use Rattle.interval.specs.Ends.{end_at}
 use Rattle.plain.specs.declared.tests.Passed.{Passed}
 use Rattle.plain.specs.declared.tests.Seen.{Seen}

@@ -1,8 +1,8 @@
 -- A walk over the rows of two runs: what it has come to, with the rows that are left, stays what all rows give.
 -- The three loops of this crate are such walks; what they keep is P, of all rows and those that are left.
-use mathlib.Core.Path.{◌≡◌, sym, subst}
+use mathlib.Core.Path.{subst}
 use mathlib.Core.List.{List, [], ◌∷◌}
-use Prim.Native.Nat.{ℕ, ◌≤◌, ◌<◌}
+use Prim.Native.Nat.{ℕ, ◌≤◌}
 use native.Mathlib.Nat.{le_refl}
 use native.Mathlib.Omega.{arith}
 use lib.IntN.{ℤ}

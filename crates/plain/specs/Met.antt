@@ -1,15 +1,15 @@
 -- The values in the order in which the code meets them: each -a/b and 0, behind each the one between it and its neighbour above, or the greatest plus 1;
 -- last the least less 1. Equal fractions are met again, with the same value behind them, which changes nothing; so nothing is stored.
-use Rattle.std.specs.Prelude.{◌≡◌, refl, Bool, true, false, not, ◌⊎◌, List, [], ◌∷◌, ℕ, zero, suc, ℤ, pos, negsuc, neg_ℤ}
+use Rattle.std.specs.Prelude.{◌≡◌, refl, Bool, true, false, not, ◌⊎◌, List, [], ◌∷◌, zero, suc, ℤ, pos, negsuc}
 use Rattle.std.proofs.Common.{sym, ap, ◌∙◌, subst, true≢false, inl, inr, ⊎_elim}
 use Rattle.std.proofs.lemmas.Bool.{false≢true}
 use mathlib.Core.List.Memᴰ.{head as here}
 use mathlib.Core.List.Memᴰ.{tail as later}
 use mathlib.Core.List.{Memᴰ as Member}
-use Rattle.rules.specs.Signs.{Sign, nought, sign_of, open_signs}
+use Rattle.rules.specs.Signs.{nought, sign_of, open_signs}
 use Rattle.rules.specs.Deduce.{Fraction, End, free, at, Row, at_most, end_at_most, end_below, at_zero}
 use Rattle.rules.specs.Plain.{zero_fraction, between, one_less, one_more}
-use Rattle.sign_laws.specs.Whole.{◌∈◌, by_sign, by_equal, wider}
+use Rattle.sign_laws.specs.Whole.{◌∈◌, by_sign, by_equal}
 use Rattle.deduction_laws.specs.Fractions.{combined, gap, no_gap, gap-through, gap-from-zero, at-most, not-at-most, one-back, one-more, one-less, gap-to-between, gap-from-between}
 use Rattle.deduction_laws.specs.Intervals.{rising, falling}
 use Rattle.plain_laws.specs.StandIn.{Order, before, level, behind, order, Twin, level-alike, lt-lt, lt-le, le-lt, not-both, weak, weak-level, both_below, both-above}

@@ -1,5 +1,5 @@
 -- A value of the code as the book's fraction, and how large its terms are.
-use Rattle.std.specs.Prelude.{◌≡◌, ℕ, ◌*◌, ◌≤◌, ℤ, nat_abs}
+use Rattle.std.specs.Prelude.{◌≡◌, ℕ, ◌≤◌, ℤ, nat_abs}
 use Rattle.rules.specs.Deduce.{Fraction, denominator, at}
 use Rattle.plain_laws.specs.Bounds.{largest, Small}
 use Rattle.interval.specs.declared.interval.End.{End as KeptEnd}

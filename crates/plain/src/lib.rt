@@ -20,11 +20,8 @@ fn small(coefficient: &[i32], run: Run) -> bool
     requires { run.to ≤ length coefficient.now }
     ensures { SmallIf coefficient.now run result }
 {
-    let to = run.to;
-    let mut i = run.from;
-    while i < to {
+    for i in run.from..run.to {
         let c = coefficient[i];
-        i += 1;
         if c < -2147483647 {
             return false;
         }
@@ -40,18 +37,15 @@ pub fn deduce_from(
     q: Run,
     set: SignSet,
 ) -> SignSet
-    requires within { Within coefficient.now monomial.now sign.now p }
-    requires within_2 { Within coefficient.now monomial.now sign.now q }
+    requires within_p { Within coefficient.now monomial.now sign.now p }
+    requires within_q { Within coefficient.now monomial.now sign.now q }
     ensures { Deduced coefficient.now monomial.now sign.now p q set.0 result.0 }
 {
     let k = set.0;
     if k == 0 {
         return SignSet::EMPTY;
     }
-    if !small(coefficient, p) {
-        return deduce::deduce_from(coefficient, monomial, sign, p, q, set);
-    }
-    if !small(coefficient, q) {
+    if !small(coefficient, p) || !small(coefficient, q) {
         return deduce::deduce_from(coefficient, monomial, sign, p, q, set);
     }
     seen(coefficient, monomial, sign, p, q, k).finding()

@@ -9,17 +9,20 @@ use native.Mathlib.Numerals.{add-one}
 use native.Mathlib.Omega.{arith}
 use lib.Dec.{eqb}
 use lib.IntN.{ℤ}
-use lib.ListN.{length, get_or, set}
-use lib.Seq.{get_or-set_same, get_or-set_other}
-use borrow.Author.Tests.{eq-eqb, ne_eqb, lt-ltb, le-ltb}
+use lib.ListN.{length, get_or, set, take, drop}
+use lib.Seq.{drop-cons, get_or-set_same, get_or-set_other}
+use borrow.Author.Tests.{eqb-true, eq-eqb, lt-ltb, le-ltb}
+use Rattle.std.specs.List.{list_any}
+use Rattle.std.specs.Option.{is_some}
+use Rattle.std.proofs.Common.{Option, Some, None, true≢false}
+use Rattle.sign_laws.specs.Booleans.{both_ways}
 use Rattle.rules.specs.Polynomial.{Polynomial}
-use Rattle.rules.specs.Pool.{either, Slot, stores, forms_in_use}
+use Rattle.rules.specs.Pool.{either, stores, forms_in_use}
 use Rattle.pool_laws.specs.Places.{first_place, new_forms}
 use Rattle.terms.specs.View.{numbers_from, terms_from, numbers-cons, numbers-nil}
 use Rattle.forms.specs.Slots.{slot_of}
-use Rattle.pool.specs.Run.{Run}
+use Rattle.pool.specs.Run.{Run, SlotIs}
 use Rattle.pool.specs.Words.{slots_of}
-use Rattle.pool.specs.Stored.{slots_length}
 use Rattle.pool.specs.Reading.{forms_in, FormRoom}
 use Rattle.pool.proofs.Walks.{known-found}
 use Rattle.pool.specs.Listing.{one_if, among, behind_unless, listing, numbers-stored}
@@ -44,23 +47,21 @@ one-term (suc (suc k)) b h n = absurd (omega arith)
 
 -- ---- Numbers among others.
 
-module _ (order : List ℕ) (count slot : ℕ) where
-  abbrev pub among_from : ℕ → Bool
-  among_from i = among (numbers_from order i (count - i)) slot
+eqb-turned : (a b : ℕ) → eqb a b ≡ eqb b a
+eqb-turned a b = both_ways (eqb a b) (eqb b a) (λ e. eq-eqb b a (sym (eqb-true a b e))) (λ e. eq-eqb a b (sym (eqb-true b a e)))
 
-  among-step : (i : ℕ) → i < count → among_from i ≡ (eqb slot (get_or order i 0) || among_from (i + 1))
-  unfolding among
-  among-step i h = ap (λ (l : List ℕ). among l slot) (numbers-cons order i count h)
+among-any : (xs : List ℕ) (k : ℕ) → list_any (λ (x : ℕ). eqb x k) xs ≡ among xs k
+unfolding among
+among-any [] k = refl
+among-any (x ∷ xs) k = ap₂ (λ (a b : Bool). a || b) (eqb-turned x k) (among-any xs k)
 
-  pub among-found : (i : ℕ) → i < count → slot ≡ get_or order i 0 → true ≡ among_from i
-  among-found i h e = sym (among-step i h ∙ ap (λ (b : Bool). b || among_from (i + 1)) (eq-eqb slot (get_or order i 0) e))
+numbers-taken : (xs : List ℕ) (i k : ℕ) → i + k ≤ length xs → numbers_from xs i k ≡ take k (drop i xs)
+unfolding numbers_from
+numbers-taken xs i zero h = refl
+numbers-taken xs i (suc k) h = ap (λ (l : List ℕ). get_or xs i 0 ∷ l) (numbers-taken xs (suc i) k (omega arith)) ∙ sym (ap (take (suc k)) (drop-cons xs i 0 (omega arith)))
 
-  pub among_later : (i : ℕ) → i < count → (slot ≡ get_or order i 0 → ⊥) → among_from (i + 1) ≡ among_from i
-  among_later i h n = sym (among-step i h ∙ ap (λ (b : Bool). b || among_from (i + 1)) (ne_eqb slot (get_or order i 0) n))
-
-  pub among_none : (i : ℕ) → count ≤ i → false ≡ among_from i
-  unfolding among
-  among_none i h = sym (ap (λ (l : List ℕ). among l slot) (numbers-nil order i count h))
+pub among-taken : (order : List ℕ) (count slot : ℕ) → count ≤ length order → list_any (λ (x : ℕ). eqb x slot) (take count order) ≡ among (numbers_from order 0 count) slot
+among-taken order count slot h = among-any (take count order) slot ∙ ap (λ (l : List ℕ). among l slot) (sym (numbers-taken order 0 count (omega arith)))
 
 -- ---- The list that grows.
 
@@ -123,25 +124,19 @@ run_room cs ms ts k slot size room h e f =
     }
 
 -- A form more, new or not.
-module _ (words : List ℕ) (p : Polynomial) (ps : List Polynomial) (place : ℕ) (found : place ≡ first_place (stores p) (slots_of words)) where
-  first-most : (slots : List Slot) → first_place (stores p) slots ≤ length slots
-  unfolding first_place either
-  first-most [] = omega arith
-  first-most (slot ∷ slots) = by-test (stores p slot) (first-most slots)
-    where
-      by-test : (b : Bool) → first_place (stores p) slots ≤ length slots → either b 0 (suc (first_place (stores p) slots)) ≤ suc (length slots)
-      by-test true h = omega arith
-      by-test false h = omega arith
+behind-all : (slot : Option ℕ) (place : ℕ) → SlotIs slot place → is_some slot ≡ false → 128 ≤ place
+behind-all None place found e = omega (arith, found.is)
+behind-all (Some k) place found e = absurd (true≢false e)
 
-  pub one-new : place ≡ 128 → new_forms (forms_in_use (slots_of words)) (p ∷ ps) ≡ suc (new_forms (forms_in_use (slots_of words)) ps)
-  unfolding new_forms either
-  one-new e = rw (known-found p words ∙ le-ltb (first_place (stores p) (slots_of words)) 128 (omega (arith, e, found)))
+within : (slot : Option ℕ) (place : ℕ) → SlotIs slot place → is_some slot ≡ true → place < 128
+within None place found e = absurd (true≢false (sym e))
+within (Some k) place found e = omega (arith, found.is, found.below)
 
-  pub one_known : (place ≡ 128 → ⊥) → new_forms (forms_in_use (slots_of words)) (p ∷ ps) ≡ new_forms (forms_in_use (slots_of words)) ps
+module _ (words : List ℕ) (p : Polynomial) (ps : List Polynomial) (slot : Option ℕ) (found : SlotIs slot (first_place (stores p) (slots_of words))) where
+  pub one-new : is_some slot ≡ false → new_forms (forms_in_use (slots_of words)) (p ∷ ps) ≡ suc (new_forms (forms_in_use (slots_of words)) ps)
   unfolding new_forms either
-  one_known n =
-      let most : first_place (stores p) (slots_of words) ≤ 128 = omega (arith, first-most (slots_of words), slots_length words 0 128) in
-      let below : first_place (stores p) (slots_of words) < 128 = ⊎_elim
-      (λ (e : first_place (stores p) (slots_of words) ≡ 128). absurd (n (found ∙ e)))
-      (λ (l : first_place (stores p) (slots_of words) < 128). l) (eq-or-lt_of_le most) in
-      rw (known-found p words ∙ lt-ltb (first_place (stores p) (slots_of words)) 128 below)
+  one-new e = rw (known-found p words ∙ le-ltb (first_place (stores p) (slots_of words)) 128 (behind-all slot (first_place (stores p) (slots_of words)) found e))
+
+  pub one_known : is_some slot ≡ true → new_forms (forms_in_use (slots_of words)) (p ∷ ps) ≡ new_forms (forms_in_use (slots_of words)) ps
+  unfolding new_forms either
+  one_known e = rw (known-found p words ∙ lt-ltb (first_place (stores p) (slots_of words)) 128 (within slot (first_place (stores p) (slots_of words)) found e))

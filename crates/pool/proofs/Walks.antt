@@ -1,7 +1,7 @@
 -- The walks over a pool's words, one step at a time: terms compared and stored, slots tested and counted, words cleared.
 use mathlib.Core.Path.{◌≡◌, refl, sym, ap, ap₂, ◌∙◌}
-use mathlib.Core.Bool.{Bool, true, false, not, ◌&&◌, ◌||◌}
-use mathlib.Core.List.{List, [], ◌∷◌}
+use mathlib.Core.Bool.{Bool, true, false, ◌&&◌, ◌||◌}
+use mathlib.Core.List.{List, [], ◌∷◌, ◌++◌, append_assoc}
 use Prim.Native.Nat.{ℕ, zero, suc, ◌+◌, ◌-◌, ◌*◌, ◌<◌, ◌≤◌}
 use native.Mathlib.Nat.{add-zero}
 use native.Mathlib.Numerals.{add-one}
@@ -9,7 +9,9 @@ use native.Mathlib.Omega.{arith}
 use lib.Dec.{eqb, ltb}
 use borrow.Author.Tests.{lt-ltb, le-ltb, ltb-true}
 use lib.IntN.{ℤ, pos}
-use lib.ListN.{length, get_or, set}
+use lib.ListN.{length, get_or, set, take, drop, replicate, length-set, take-append-drop}
+use lib.Seq.{take-suc-set}
+use Rattle.std.proofs.lemmas.List.{drop-set-lt}
 use Rattle.rules.specs.Polynomial.{Polynomial, same_number, same}
 use Rattle.rules.specs.Answer.{knows}
 use Rattle.sign_laws.specs.Booleans.{and-false, both_ways}
@@ -144,16 +146,16 @@ module _ (words : List ℕ) (k : ℕ) (cs : List ℤ) (ms : List ℕ) (from coun
 
 -- ---- Words cleared.
 
-pub clear_step : (words : List ℕ) (at i : ℕ) → i < 34 → zeros (set words (at + i) 0) (at + (i + 1)) (34 - (i + 1)) ≡ zeros words (at + i) (34 - i)
+-- A part filled with zeros is what clearing its words, one after the other, comes to.
+pub zeros-filled : (words : List ℕ) (at n : ℕ) → at + n ≤ length words → take at words ++ (replicate n 0 ++ drop (at + n) words) ≡ zeros words at n
 unfolding zeros
-clear_step words at i h =
-    let left : 34 - i ≡ suc (34 - (i + 1)) = omega arith in
-    let b : suc (at + i) ≡ at + (i + 1) = omega arith in
-    sym (ap (zeros words (at + i)) left ∙ ap (λ (j : ℕ). zeros (set words (at + i) 0) j (34 - (i + 1))) b)
-
-pub clear-end : (words : List ℕ) (at i : ℕ) → 34 ≤ i → zeros words (at + i) (34 - i) ≡ words
-unfolding zeros
-clear-end words at i h = let left : 34 - i ≡ 0 = omega arith in rw left
+zeros-filled words at zero h = rw (add-zero at) (take-append-drop at words)
+zeros-filled words at (suc n) h =
+    let e : at + suc n ≡ suc at + n = omega arith in
+    ap (λ (k : ℕ). take at words ++ (0 ∷ (replicate n 0 ++ drop k words))) e
+    ∙ sym (append_assoc (take at words) (0 ∷ []) (replicate n 0 ++ drop (suc at + n) words))
+    ∙ sym (ap₂ (λ (l r : List ℕ). l ++ (replicate n 0 ++ r)) (take-suc-set words at 0 (omega arith)) (drop-set-lt (suc at + n) words at 0 (omega arith)))
+    ∙ zeros-filled (set words at 0) (suc at) n (omega (arith, length-set words at 0))
 
 -- ---- The place of a form.
 

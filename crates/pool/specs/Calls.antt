@@ -1,17 +1,14 @@
 -- The words after a call stand for the pool after the call: forms listed one after the other, and a number taken away from every slot.
-use Rattle.std.specs.Prelude.{◌≡◌, eqb, ltb, replicate}
+use Rattle.std.specs.Prelude.{◌≡◌, eqb, ltb}
 use Rattle.std.proofs.Math.Path.{refl, sym, ap, ap₂}
-use Rattle.std.proofs.Common.{◌∙◌, zero-add, ltb-true, ltb-false, eqb-true}
+use Rattle.std.proofs.Common.{◌∙◌, zero-add, ltb-true, ltb-false}
 use Rattle.std.proofs.Math.Bool.{Bool, true, false}
 use mathlib.Core.List.{List, [], ◌∷◌, map}
-use Prim.Native.Nat.{ℕ, zero, suc, ◌+◌, ◌-◌, ◌*◌, ◌<◌, ◌≤◌}
+use Prim.Native.Nat.{ℕ, zero, suc, ◌+◌, ◌<◌, ◌≤◌}
 use native.Mathlib.Omega.{arith}
 use Rattle.std.proofs.Math.Dec.{eqb-suc-zero}
 use Rattle.std.proofs.Math.ListN.{length, get_or, set, length-set}
-use Rattle.std.proofs.lemmas.List.{get_or-replicate, length-replicate}
-use Rattle.std.proofs.lemmas.List.Edits.{sets}
-use Rattle.std.proofs.Math.Seq.{length-sets, get_or-set_same, get_or-set_other, set_out}
-use Rattle.std.proofs.lemmas.Bool.{eqb-false}
+use Rattle.std.proofs.Math.Seq.{get_or-set_same, get_or-set_other, set_out}
 use Rattle.rules.specs.Polynomial.{Polynomial}
 use Rattle.sign_laws.specs.Lists.{Every, every_none, every}
 use Rattle.rules.specs.Pool.{either, count, Slot, Pool, cleared, slot_of, marked, list_form, list_forms, unless_unused, unmarked, unless_none}

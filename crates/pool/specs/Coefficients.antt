@@ -1,7 +1,6 @@
 -- A coefficient in a word: twice the number, or, below 0, twice the numbers between it and 0 and one more. Each word is one coefficient.
-use Rattle.std.specs.Prelude.{◌≡◌, refl, Bool, true, false, ℕ, zero, suc, ◌+◌, ◌*◌, ◌/◌, ◌%◌, ◌<◌, eqb, ℤ, pos, negsuc}
+use Rattle.std.specs.Prelude.{◌≡◌, ℕ, zero, suc, ◌+◌, ◌*◌, ◌/◌, ◌%◌, ◌<◌, eqb, ℤ, pos, negsuc}
 use Rattle.std.proofs.Common.{sym, ap, ◌∙◌, arith, eq-eqb, ne_eqb, eqb-true}
-use Rattle.std.proofs.lemmas.Bool.{false≢true, eqb-false}
 use Rattle.sign_laws.specs.Booleans.{both_ways}
 use Rattle.rules.specs.Polynomial.{same_number}
 

@@ -1,5 +1,5 @@
 -- What a call on lent words gives: the refusal's number, the words afterwards, and the pool that they stand for. A refused call changes no word.
-use Rattle.std.specs.Prelude.{◌≡◌, refl, Bool, true, false, not, ◌&&◌, ◌||◌, List, [], ℕ, zero, suc, ◌+◌, ◌<◌, ◌≤◌, leb, ltb, eqb, length, get_or, set, ℤ}
+use Rattle.std.specs.Prelude.{◌≡◌, refl, Bool, true, false, not, ◌&&◌, ◌||◌, List, ℕ, zero, suc, ◌+◌, ◌<◌, ◌≤◌, leb, ltb, eqb, length, get_or, set, ℤ}
 use Rattle.std.proofs.Common.{sym, ap, ap₂, ◌∙◌, subst, arith, le-leb, ltb-true}
 use Rattle.std.proofs.Math.Option.{some}
 use Rattle.std.proofs.lemmas.Bool.{lt-leb}
@@ -7,8 +7,8 @@ use Rattle.rules.specs.Polynomial.{Polynomial}
 use Rattle.rules.specs.Block.{Block, Stream, Reading, refused, read, read_block}
 use Rattle.sign_laws.specs.Booleans.{and_first}
 use Rattle.sign_laws.specs.Lists.{Every}
-use Rattle.rules.specs.Pool.{together, forms_listed, Outcome, unless_refused, either, count, Pool, forms_in_use, list_forms, add_block, add_reading, add}
-use Rattle.rules.specs.Pool.{unmarked, unless_none, withdraw, listed_of}
+use Rattle.rules.specs.Pool.{together, forms_listed, Outcome, unless_refused, either, count, Pool, forms_in_use, add_block, add_reading, add}
+use Rattle.rules.specs.Pool.{unless_none, withdraw, listed_of}
 use Rattle.pool_laws.specs.Holds.{listed-once}
 use Rattle.pool_laws.specs.Places.{used_slots, used-length, new_forms, together-length}
 use Rattle.pool.specs.Marks.{marks, row_word, none_left}

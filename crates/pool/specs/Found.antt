@@ -1,12 +1,13 @@
 -- What the reader finds, in arrays that were blank: a refusal, or a block whose table the arrays hold.
-use Rattle.std.specs.Prelude.{◌≡◌, List, ℕ, ℤ, pos, length, replicate}
+use Rattle.std.specs.Prelude.{◌≡◌, Result, Ok, Err, List, ℕ, ℤ, pos, replicate}
 use Rattle.std.proofs.Common.{sym, ◌∙◌}
 use Rattle.std.proofs.Math.Path.{ap, subst}
 use Rattle.rules.specs.Block.{Block, Stream, refused, read, read_block}
 use Rattle.block_laws.specs.Blocks.{accepted-within}
 use Rattle.block.specs.declared.Held.{Held}
 use Rattle.block.specs.declared.Contents.{Contents}
-use Rattle.block.specs.declared.Contents.TheVariants.{Refused as NoBlock, Numbers}
+use Rattle.block.specs.declared.Refusal.{Refusal}
+use Rattle.block.specs.Refusals.{number_of}
 use Rattle.block.specs.Held.{held_by, held_of}
 use Rattle.block.specs.Steps.{ContentsOf, ContentsFound}
 use Rattle.forms.specs.Working.{TableRead}
@@ -21,17 +22,17 @@ pub record Taken (bytes : List ℕ) (n m : ℕ) (cs : List ℤ) (ms ts : List �
   pub variables : n ≡ given.variables
   pub table : table_from cs ms ts 0 m ≡ given.table
 
-module _ {bytes : List ℕ} {cs : List ℤ} {ms ts token : List ℕ} {contents : Contents}
+module _ {bytes : List ℕ} {cs : List ℤ} {ms ts token : List ℕ} {contents : Result Contents Refusal}
     (found : ContentsFound bytes (replicate 1024 (pos 0)) cs (replicate 1024 0) ms (replicate 64 0) ts (replicate 255 0) token contents) where
-  pub found-refused : {number : ℕ} → contents ≡ NoBlock number → read_block bytes ≡ refused number
+  pub found-refused : {refusal : Refusal} → contents ≡ Err refusal → read_block bytes ≡ refused (number_of refusal)
   unfolding ContentsOf
   found-refused e = (rw e at found).found
 
-  pub found-taken : {n m root count : ℕ} → contents ≡ Numbers n m root count → Taken bytes n m cs ms ts
+  pub found-taken : {given : Contents} → contents ≡ Ok given → Taken bytes given.variables given.polynomials cs ms ts
   unfolding ContentsOf held_of
-  found-taken {n} {m} {root} {count} e =
+  found-taken {given} e =
       let stored = (rw e at found).found in
-      let is : held_by n m root count cs ms ts token ≡ held_of stored.block = stored.stored in
+      let is : held_by given.variables given.polynomials given.root given.tokens cs ms ts token ≡ held_of stored.block = stored.stored in
       record {
         given = stored.block;
         rest = stored.rest;

@@ -9,3 +9,4 @@ pub mod Reading
 pub mod Entry
 pub mod Found
 pub mod Sequences
+pub mod Refusals

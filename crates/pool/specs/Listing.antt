@@ -7,11 +7,10 @@ use Rattle.std.proofs.Math.Bool.{true, false}
 use mathlib.Core.List.{List, [], ◌∷◌, ◌++◌, map, map-append}
 use Rattle.std.proofs.Math.Option.{Option, none, some, none-ne-some}
 use Rattle.rules.specs.Polynomial.{Polynomial, same, only_if, constant}
-use Rattle.rules.specs.Block.{Block}
 use Rattle.rules.specs.Answer.{knows, added_unless, unless_constant, without_constants}
 use Rattle.sign_laws.specs.Lists.{Every, every_none, every, every_append}
 use Rattle.rules.specs.Polynomial.{normal_form}
-use Rattle.rules.specs.Pool.{together, forms_listed}
+use Rattle.rules.specs.Pool.{together}
 use Rattle.pool_laws.specs.Listed.{constant-form}
 use Rattle.terms.specs.View.{numbers_from, terms_from}
 

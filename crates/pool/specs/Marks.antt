@@ -1,6 +1,6 @@
 -- A row of marks in a word: mark i is bit i. A word's first marks, the word of a row, and the one undoes the other.
 use Rattle.std.specs.Prelude.{◌≡◌, refl, Bool, true, false, List, [], ◌∷◌, ℕ, zero, suc, ◌+◌, ◌-◌, ◌*◌, ◌/◌, ◌%◌, ◌^◌, ◌<◌, ◌≤◌, eqb, length, get_or, set}
-use Rattle.std.proofs.Common.{sym, ap, ap₂, ◌∙◌, true≢false, div-one, mul_comm, one-mul, mod-eq_of_lt, arith, pow_pos, eq-eqb, ne_eqb, eqb-true}
+use Rattle.std.proofs.Common.{sym, ap, ◌∙◌, true≢false, div-one, mul_comm, one-mul, mod-eq_of_lt, arith, pow_pos, eq-eqb, ne_eqb, eqb-true}
 use Rattle.std.proofs.Math.Nat.{div-div-eq-div-mul, pow-succ', mod-one}
 use Rattle.std.proofs.Math.Dec.{eqb-suc-zero}
 use Rattle.std.proofs.Math.Arith.{mod-mul}

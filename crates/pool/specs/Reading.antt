@@ -1,7 +1,7 @@
 -- The block that was read, as its arrays hold it, and the forms that it lists, as the working table holds them.
 use Rattle.std.specs.Prelude.{◌≡◌, refl, Bool, false, eqb, ℤ, pos, length, get_or, replicate}
 use Rattle.std.proofs.Math.Path.{sym, ap}
-use Rattle.std.proofs.Common.{ap₂, ◌∙◌, zero-add, add-zero, arith}
+use Rattle.std.proofs.Common.{ap₂, ◌∙◌, zero-add, arith}
 use mathlib.Core.List.{List, [], ◌∷◌, map}
 use Prim.Native.Nat.{ℕ, zero, suc, ◌+◌, ◌*◌, ◌<◌, ◌≤◌}
 use Rattle.rules.specs.Signs.{full, bit}
@@ -15,10 +15,10 @@ use Rattle.terms.specs.View.{numbers_from, terms_from}
 use Rattle.table.specs.Table.{form_at}
 use Rattle.forms.specs.declared.WorkingTable.{WorkingTable}
 use Rattle.forms.specs.Slots.{slot_of}
-use Rattle.forms.specs.Working.{table_of, working_by, blank, is_plain, Worked}
+use Rattle.forms.specs.Working.{working_by, blank, is_plain, Worked}
 use Rattle.forms.specs.Holding.{Holds}
 use Rattle.pool.specs.Calls.{Fits}
-use Rattle.pool.specs.Listing.{is_some, constant_in, constant-in, listing, Name, no_names, names, listing-forms, TableRoom, Numbers, Listed}
+use Rattle.pool.specs.Listing.{is_some, constant_in, constant-in, Name, no_names, names, listing-forms, TableRoom, Numbers, Listed}
 
 -- The polynomials of the k slots from i on.
 unfoldable pub table_from : List ℤ → List ℕ → List ℕ → ℕ → ℕ → List Polynomial

@@ -1,19 +1,17 @@
 -- What words stand for after a store: the slot that was stored has its form and its row, every other is as it was.
-use Rattle.std.specs.Prelude.{◌≡◌, refl, Bool, true, false, eqb, ltb, ℤ, replicate}
-use Rattle.std.proofs.Common.{sym, ap, ap₂, ◌∙◌, ⊎_elim, add-zero, eq-or-lt_of_le}
-use mathlib.Core.List.{List, [], ◌∷◌, map}
-use Prim.Native.Nat.{ℕ, zero, suc, ◌+◌, ◌-◌, ◌*◌, ◌<◌, ◌≤◌}
+use Rattle.std.specs.Prelude.{◌≡◌, refl, Bool, ℤ}
+use Rattle.std.proofs.Common.{ap, ap₂, ◌∙◌, add-zero}
+use mathlib.Core.List.{List, [], ◌∷◌}
+use Prim.Native.Nat.{ℕ, zero, suc, ◌+◌, ◌<◌, ◌≤◌}
 use native.Mathlib.Omega.{arith}
 use Rattle.std.proofs.Math.ListN.{length, get_or, set, length-set}
-use Rattle.std.proofs.lemmas.List.{get_or-replicate, length-replicate}
-use Rattle.std.proofs.lemmas.List.Edits.{sets}
-use Rattle.std.proofs.Math.Seq.{length-sets, get_or-set_same, get_or-set_other}
+use Rattle.std.proofs.Math.Seq.{get_or-set_same, get_or-set_other}
 use Rattle.rules.specs.Polynomial.{Term, Polynomial}
-use Rattle.rules.specs.Pool.{either, count, Slot, cleared, slot_of, unless_unused, unmarked}
+use Rattle.rules.specs.Pool.{Slot, cleared, slot_of}
 use Rattle.terms.specs.View.{few}
-use Rattle.pool.specs.Marks.{marks, row_word, marks-length, marks-of-word}
+use Rattle.pool.specs.Marks.{marks, row_word, marks-of-word}
 use Rattle.pool.specs.Coefficients.{coefficient_of, coefficient_word, word_back}
-use Rattle.pool.specs.Words.{terms_in, slot_place, slot_at, slots_from, slots_of, put_term, put_terms, put_slot, unlisted, all_unlisted}
+use Rattle.pool.specs.Words.{terms_in, slot_place, slot_at, slots_from, put_term, put_terms, put_slot}
 
 -- ---- What stays.
 

@@ -1,7 +1,7 @@
 -- The words of a pool, and the pool that any words stand for: n, the numbers present, and 128 slots of 34 words, each the row of marks, the number of
 -- terms, 16 coefficients and 16 monomials. A word that is not there reads as 0.
-use Rattle.std.specs.Prelude.{List, [], ◌∷◌, Bool, true, false, ℕ, zero, suc, ◌+◌, ◌-◌, ◌*◌, eqb, ltb, ℤ, length, get_or, set}
-use Rattle.rules.specs.Polynomial.{Term, Polynomial}
+use Rattle.std.specs.Prelude.{List, [], ◌∷◌, Bool, true, false, ℕ, zero, suc, ◌+◌, ◌*◌, eqb, ltb, length, get_or, set}
+use Rattle.rules.specs.Polynomial.{Polynomial}
 use Rattle.rules.specs.Pool.{either, count, Slot, Pool, slot_of, unless_none}
 use Rattle.pool_laws.specs.Places.{place_for}
 use Rattle.terms.specs.View.{few}

@@ -12,6 +12,8 @@ ghost use Rattle.forms.specs.Working.{TableRead};
 ghost use Rattle.pool.specs.Marks.{marks};
 ghost use Rattle.pool.specs.Words.{slots_of, pool_of, all_listed, added_words, all_unlisted, withdrawn_words};
 ghost use Rattle.pool.specs.Reading.{forms_in, block_from, FormRoom, Order, Blank, HoldsForms};
+ghost use Rattle.pool.specs.Refusals.{number_of, told};
+ghost use Rattle.pool.specs.declared.Refusal.TheVariants.{Block as BlockRefused};
 ghost use Rattle.pool.specs.Entry.{Filled, Gives, entered, added_read};
 
 pub mod exported; // the entries for C
@@ -19,16 +21,48 @@ mod listed;
 mod slots;
 mod words;
 
-use block::{Contents, read_into};
+use block::read_into;
 use forms::work;
 
 // How many words a pool has: n, the numbers present, and 128 slots of 34 words.
 pub const POOL_WORDS: usize = 4354;
 
-fn wide(byte: u8) -> usize
-    ensures { result ≡ byte }
-{
-    byte as usize
+// Why a call is refused.
+#[derive(Clone, Copy, Debug, PartialEq, Eq)]
+pub enum Refusal {
+    // the reader's
+    Block(block::Refusal),
+    // 1: fewer words are lent than a pool has
+    PoolShort,
+    // 26: "block number above 31, already present on adding or absent on withdrawal"
+    NumberNotAllowed,
+    // 27: "variable number n differs from that of the blocks present"
+    VariablesDiffer,
+    // 28: "pool full"
+    Full,
+}
+
+impl Refusal {
+    // The number that the documents give it.
+    pub fn number(self) -> u8
+        ensures { result ≡ number_of self }
+    {
+        match self {
+            Refusal::Block(refusal) => refusal.number(),
+            Refusal::PoolShort => 1,
+            Refusal::NumberNotAllowed => 26,
+            Refusal::VariablesDiffer => 27,
+            Refusal::Full => 28,
+        }
+    }
+}
+
+impl From<block::Refusal> for Refusal {
+    ghost from_gives = { λ refusal given. given ≡ BlockRefused refusal };
+
+    fn from(refusal: block::Refusal) -> Refusal {
+        Refusal::Block(refusal)
+    }
 }
 
 // How many of the listed forms the pool does not have.
@@ -45,12 +79,10 @@ fn new_forms(
         (forms_in coefficient.now monomial.now terms.now (numbers_from order.now 0 count))) × (result ≤ count) }
 {
     let mut total = 0;
-    let mut i = 0;
-    while i < count {
-        let slot = wide(order[i]);
-        i += 1;
-        let size = wide(terms[slot]);
-        if slots::find(pool, coefficient, monomial, 16 * slot, size) == 128 {
+    for i in 0..count {
+        let slot = usize::from(order[i]);
+        let size = usize::from(terms[slot]);
+        if slots::find(pool, coefficient, monomial, 16 * slot, size).is_none() {
             total += 1;
         }
     }
@@ -71,11 +103,9 @@ fn list_forms(
     ensures { pool.new ≡ all_listed number pool.old
         (forms_in coefficient.now monomial.now terms.now (numbers_from order.now 0 count)) }
 {
-    let mut i = 0;
-    while i < count {
-        let slot = wide(order[i]);
-        i += 1;
-        let size = wide(terms[slot]);
+    for i in 0..count {
+        let slot = usize::from(order[i]);
+        let size = usize::from(terms[slot]);
         slots::list_form(pool, number, coefficient, monomial, 16 * slot, size);
     }
 }
@@ -145,20 +175,20 @@ fn fill(
     terms: &[u8],
     order: &[u8],
     count: usize,
-) -> u8
+) -> Result<(), Refusal>
     requires { (4354 ≤ length pool.old) × (number < 32) × FormRoom coefficient.now monomial.now terms.now × Order order.now count × (count ≤ 64) }
     ensures { Filled pool.old pool.new number variables
-        (forms_in coefficient.now monomial.now terms.now (numbers_from order.now 0 count)) result }
+        (forms_in coefficient.now monomial.now terms.now (numbers_from order.now 0 count)) (told result) }
 {
     let fresh = new_forms(pool, coefficient, monomial, terms, order, count);
     if 128 < slots::used(pool) + fresh {
-        return 28;
+        return Err(Refusal::Full);
     }
     let row = words::with_mark(pool[1], number, true);
     list_forms(pool, number, coefficient, monomial, terms, order, count);
     pool[0] = variables as u64;
     pool[1] = row;
-    0
+    Ok(())
 }
 
 // A block that was read, added under a number.
@@ -170,19 +200,19 @@ fn add_read(
     coefficient: &[i32],
     monomial: &[u64],
     terms: &[u8],
-) -> u8
+) -> Result<(), Refusal>
     requires { (4354 ≤ length pool.old) × TableRead coefficient.now monomial.now terms.now polynomials variables }
-    ensures { Gives pool.old pool.new result
+    ensures { Gives pool.old pool.new (told result)
         (add_block number (block_from variables coefficient.now monomial.now terms.now polynomials) (pool_of pool.old))
         (added_words number variables (forms_listed (block_from variables coefficient.now monomial.now terms.now polynomials))
         pool.old) }
 {
     let present = pool[1];
     if !is_open(present, number) {
-        return 26;
+        return Err(Refusal::NumberNotAllowed);
     }
     if !allows(present, pool[0], variables) {
-        return 27;
+        return Err(Refusal::VariablesDiffer);
     }
     let mut form_coefficient = [0i32; 1280];
     let mut form_monomial = [0u64; 1280];
@@ -211,13 +241,13 @@ fn add_read(
     )
 }
 
-// "`add(number, block)`": 0, or the number of the refusal, and no word is changed. 1 if fewer words are lent than a pool has, then the reader's, 26, 27, 28.
-pub fn add(pool: &mut [u64], number: usize, block: &[u8]) -> u8
-    ensures { Gives pool.old pool.new result (entered pool.old (add_book number block.now (pool_of pool.old)))
+// "`add(number, block)`": done, or a refusal, and no word is changed. 1 if fewer words are lent than a pool has, then the reader's, 26, 27, 28.
+pub fn add(pool: &mut [u64], number: usize, block: &[u8]) -> Result<(), Refusal>
+    ensures { Gives pool.old pool.new (told result) (entered pool.old (add_book number block.now (pool_of pool.old)))
         (added_read number (read_block block.now) pool.old) }
 {
     if pool.len() < POOL_WORDS {
-        return 1;
+        return Err(Refusal::PoolShort);
     }
     let mut coefficient = [0i32; 1024];
     let mut monomial = [0u64; 1024];
@@ -229,24 +259,16 @@ pub fn add(pool: &mut [u64], number: usize, block: &[u8]) -> u8
         &mut monomial,
         &mut terms,
         &mut token,
-    );
-    match contents {
-        Contents::Refused(refusal) => refusal,
-        Contents::Numbers {
-            variables,
-            polynomials,
-            root: _,
-            tokens: _,
-        } => add_read(
-            pool,
-            number,
-            variables,
-            polynomials,
-            &coefficient,
-            &monomial,
-            &terms,
-        ),
-    }
+    )?;
+    add_read(
+        pool,
+        number,
+        contents.variables,
+        contents.polynomials,
+        &coefficient,
+        &monomial,
+        &terms,
+    )
 }
 
 // The number taken away from every slot.
@@ -254,11 +276,8 @@ fn unlist_all(pool: &mut [u64], number: usize)
     requires { (4354 ≤ length pool.old) × (number < 32) }
     ensures { pool.new ≡ all_unlisted number pool.old 0 128 }
 {
-    let mut slot = 0;
-    while slot < 128 {
-        let at = 2 + 34 * slot;
-        slot += 1;
-        slots::unlist(pool, at, number);
+    for slot in 0..128 {
+        slots::unlist(pool, 2 + 34 * slot, number);
     }
 }
 
@@ -282,22 +301,22 @@ fn kept(left: u64, n: u64) -> u64
     n
 }
 
-// "`withdraw(number)`": 0, or the number of the refusal, and no word is changed. 1 if fewer words are lent than a pool has, then 26.
-pub fn withdraw(pool: &mut [u64], number: usize) -> u8
-    ensures { Gives pool.old pool.new result (entered pool.old (withdraw_book number (pool_of pool.old)))
+// "`withdraw(number)`": done, or a refusal, and no word is changed. 1 if fewer words are lent than a pool has, then 26.
+pub fn withdraw(pool: &mut [u64], number: usize) -> Result<(), Refusal>
+    ensures { Gives pool.old pool.new (told result) (entered pool.old (withdraw_book number (pool_of pool.old)))
         (withdrawn_words number pool.old) }
 {
     if pool.len() < POOL_WORDS {
-        return 1;
+        return Err(Refusal::PoolShort);
     }
     let present = pool[1];
     if !is_there(present, number) {
-        return 26;
+        return Err(Refusal::NumberNotAllowed);
     }
     let variables = pool[0];
     let left = words::with_mark(present, number, false);
     unlist_all(pool, number);
     pool[1] = left;
     pool[0] = kept(left, variables);
-    0
+    Ok(())
 }

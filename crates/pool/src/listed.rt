@@ -23,14 +23,7 @@ fn is_among(order: &[u8], count: usize, slot: u8) -> bool
     requires { count ≤ length order.now }
     ensures { result ≡ among (numbers_from order.now 0 count) slot }
 {
-    let mut i = 0;
-    while i < count {
-        if slot == order[i] {
-            return true;
-        }
-        i += 1;
-    }
-    false
+    order[..count].contains(&slot)
 }
 
 // Whether a slot is left out: a constant's, or one that is there already.
@@ -38,7 +31,7 @@ fn is_out(monomial: &[u64], terms: &[u8], order: &[u8], count: usize, slot: u8) 
     requires { TableRoom monomial.now terms.now × (count ≤ length order.now) × (slot < 64) }
     ensures { result ≡ (constant_in monomial.now terms.now slot || among (numbers_from order.now 0 count) slot) }
 {
-    if is_constant(monomial, terms, slot as usize) {
+    if is_constant(monomial, terms, usize::from(slot)) {
         return true;
     }
     is_among(order, count, slot)
@@ -56,10 +49,8 @@ pub fn listed(
     ensures { Listed monomial.now terms.now number.now polynomials order.new result }
 {
     let mut count = 0;
-    let mut i = 0;
-    while i < polynomials {
+    for i in 0..polynomials {
         let slot = number[i];
-        i += 1;
         if !is_out(monomial, terms, order, count, slot) {
             order[count] = slot;
             count += 1;

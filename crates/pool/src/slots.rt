@@ -7,7 +7,7 @@ ghost use Rattle.pool_laws.specs.Places.{first_place, place_for as place_for_of,
 ghost use Rattle.terms.specs.View.{few, terms_from};
 ghost use Rattle.pool.specs.Coefficients.{coefficient_of};
 ghost use Rattle.pool.specs.Words.{terms_in, slot_place, slot_at, slots_of, put_term as put_term_of, put_terms as put_terms_of, listed_words, zeros, unlisted};
-ghost use Rattle.pool.specs.Run.{Run};
+ghost use Rattle.pool.specs.Run.{Run, SlotIs};
 
 use crate::words::{coefficient_word, with_mark, word};
 
@@ -54,13 +54,11 @@ fn same_terms(
     requires { (k + 16 ≤ 4354) × Run coefficient.now monomial.now from count }
     ensures { result ≡ same (terms_from coefficient.now monomial.now from count) (terms_in pool.now k count) }
 {
-    let mut i = 0;
-    while i < count {
+    for i in 0..count {
         let c = coefficient[from + i];
         if !same_term(pool, k + i, c, monomial[from + i]) {
             return false;
         }
-        i += 1;
     }
     true
 }
@@ -86,33 +84,35 @@ fn stores(
     same_terms(pool, 4 + 34 * slot, coefficient, monomial, from, count)
 }
 
-// The slot that has the form, 128 if there is none.
-pub fn find(pool: &[u64], coefficient: &[i32], monomial: &[u64], from: usize, count: usize) -> usize
+// The slot that has the form. To the book a form that no slot has is at place 128.
+pub fn find(
+    pool: &[u64],
+    coefficient: &[i32],
+    monomial: &[u64],
+    from: usize,
+    count: usize,
+) -> Option<usize>
     requires { Run coefficient.now monomial.now from count }
-    ensures { result ≡ first_place (stores_in (terms_from coefficient.now monomial.now from count)) (slots_of pool.now) }
+    ensures { SlotIs result (first_place (stores_in (terms_from coefficient.now monomial.now from count)) (slots_of pool.now)) }
 {
-    let mut slot = 0;
-    while slot < 128 {
+    for slot in 0..128 {
         if stores(pool, slot, coefficient, monomial, from, count) {
-            return slot;
+            return Some(slot);
         }
-        slot += 1;
     }
-    128
+    None
 }
 
-// The first free slot, 128 if there is none.
-fn first_free(pool: &[u64]) -> usize
-    ensures { result ≡ first_place is_free_of (slots_of pool.now) }
+// The first free slot.
+fn first_free(pool: &[u64]) -> Option<usize>
+    ensures { SlotIs result (first_place is_free_of (slots_of pool.now)) }
 {
-    let mut slot = 0;
-    while slot < 128 {
+    for slot in 0..128 {
         if is_free(pool, slot) {
-            return slot;
+            return Some(slot);
         }
-        slot += 1;
     }
-    128
+    None
 }
 
 // How many slots are in use.
@@ -120,33 +120,29 @@ pub fn used(pool: &[u64]) -> usize
     ensures { (result ≡ used_slots (slots_of pool.now)) × (result ≤ 128) }
 {
     let mut total = 0;
-    let mut slot = 0;
-    while slot < 128 {
-        let at = slot;
-        slot += 1;
-        if !is_free(pool, at) {
+    for slot in 0..128 {
+        if !is_free(pool, slot) {
             total += 1;
         }
     }
     total
 }
 
-// The place that a form goes to: where it is stored, else the first free slot, 128 if there is none.
+// The place that a form goes to: where it is stored, else the first free slot.
 fn place_for(
     pool: &[u64],
     coefficient: &[i32],
     monomial: &[u64],
     from: usize,
     count: usize,
-) -> usize
+) -> Option<usize>
     requires { Run coefficient.now monomial.now from count }
-    ensures { result ≡ place_for_of (terms_from coefficient.now monomial.now from count) (slots_of pool.now) }
+    ensures { SlotIs result (place_for_of (terms_from coefficient.now monomial.now from count) (slots_of pool.now)) }
 {
-    let slot = find(pool, coefficient, monomial, from, count);
-    if slot < 128 {
-        return slot;
+    match find(pool, coefficient, monomial, from, count) {
+        Some(slot) => Some(slot),
+        None => first_free(pool),
     }
-    first_free(pool)
 }
 
 // Stores a term at a place of the pool.
@@ -170,17 +166,12 @@ fn put_terms(
     requires { (k + 32 ≤ length pool.old) × Run coefficient.now monomial.now from count }
     ensures { pool.new ≡ put_terms_of pool.old k (terms_from coefficient.now monomial.now from count) 16 }
 {
-    let mut i = 0;
-    while i < count {
-        let at = i;
-        i += 1;
-        let c = coefficient[from + at];
-        put_term(pool, k + at, coefficient_word(c), monomial[from + at]);
+    for i in 0..count {
+        let c = coefficient[from + i];
+        put_term(pool, k + i, coefficient_word(c), monomial[from + i]);
     }
-    while i < 16 {
-        let at = i;
-        i += 1;
-        put_term(pool, k + at, 0, 0);
+    for i in count..16 {
+        put_term(pool, k + i, 0, 0);
     }
 }
 
@@ -196,8 +187,7 @@ pub fn list_form(
     requires { (4354 ≤ length pool.old) × (number < 32) × Run coefficient.now monomial.now from count }
     ensures { pool.new ≡ listed_words number pool.old (terms_from coefficient.now monomial.now from count) }
 {
-    let slot = place_for(pool, coefficient, monomial, from, count);
-    if slot < 128 {
+    if let Some(slot) = place_for(pool, coefficient, monomial, from, count) {
         let at = 2 + 34 * slot;
         pool[at] = with_mark(pool[at], number, true);
         pool[at + 1] = count as u64;
@@ -210,12 +200,7 @@ fn clear(pool: &mut [u64], at: usize)
     requires { at + 34 ≤ length pool.old }
     ensures { pool.new ≡ zeros pool.old at 34 }
 {
-    let mut i = 0;
-    while i < 34 {
-        let next = i;
-        i += 1;
-        pool[at + next] = 0;
-    }
+    pool[at..at + 34].fill(0);
 }
 
 // The mark of a number taken away from the slot at a place; a slot without a mark left is cleared.

@@ -1,17 +1,22 @@
 // A pool's calls and their lines on standard output: what the two programs share.
-// What is told of a call is the number that `pool::add` or `pool::withdraw` gives back; that standard output takes it is no promise of ours.
+// What is told of a call is what `pool::add` or `pool::withdraw` gives back; that standard output takes it is no promise of ours.
 
 #![tactic(auto)]
 
+use pool::Refusal;
 use std::io;
 use std::io::Write;
 
 // `ADDED 3`, `WITHDRAWN 3`, or `REFUSED` and the number of the refusal.
-fn tell<W: Write>(out: &mut W, word: &str, number: usize, refusal: u8) -> io::Result<()> {
-    if refusal == 0 {
-        writeln!(out, "{word} {number}")
-    } else {
-        writeln!(out, "REFUSED {refusal}")
+fn tell<W: Write>(
+    out: &mut W,
+    word: &str,
+    number: usize,
+    outcome: Result<(), Refusal>,
+) -> io::Result<()> {
+    match outcome {
+        Ok(()) => writeln!(out, "{word} {number}"),
+        Err(refusal) => writeln!(out, "REFUSED {}", refusal.number()),
     }
 }
 
@@ -21,13 +26,11 @@ pub fn add<W: Write>(
     number: usize,
     block: &[u8],
 ) -> io::Result<()> {
-    let refusal = pool::add(words, number, block);
-    tell(out, "ADDED", number, refusal)
+    tell(out, "ADDED", number, pool::add(words, number, block))
 }
 
 pub fn withdraw<W: Write>(out: &mut W, words: &mut [u64], number: usize) -> io::Result<()> {
-    let refusal = pool::withdraw(words, number);
-    tell(out, "WITHDRAWN", number, refusal)
+    tell(out, "WITHDRAWN", number, pool::withdraw(words, number))
 }
 
 // ---- show: n, the numbers present, and of each slot the row of marks, the number of terms, 16 coefficients and 16 monomials

@@ -3,9 +3,9 @@
 
 #![tactic(auto)]
 
-use frames::Kind;
+use frames::answer_each;
 use std::io;
-use std::io::{Read, Write};
+use std::io::Write;
 
 // One call.
 fn run<W: Write>(out: &mut W, words: &mut [u64], frame: &[u8]) -> io::Result<()> {
@@ -25,39 +25,13 @@ fn run<W: Write>(out: &mut W, words: &mut [u64], frame: &[u8]) -> io::Result<()>
     }
 }
 
-// One frame; whether there may be more.
-fn one<R: Read, W: Write>(
-    input: &mut R,
-    out: &mut W,
-    words: &mut [u64],
-    space: &mut [u8],
-) -> io::Result<bool> {
-    let frame = frames::next(input, space)?;
-    let n = frame.length;
-    let kind = frame.kind;
-    match kind {
-        Kind::Block => {
-            run(out, words, &space[..n])?;
-            Ok(true)
-        }
-        Kind::CutOff => {
-            out.write_all(b"CUT OFF\n")?;
-            Ok(false)
-        }
-        Kind::End => Ok(false),
-    }
-}
-
-// A proved loop has to end, and nothing says that standard input does: the turns are counted up to a number that no run reaches.
 fn main(rt: HostRuntime) -> io::Result<()> {
-    let mut input = rt.stdin();
-    let mut out = rt.stdout();
     let mut space = [0u8; 65536];
     let mut words = [0u64; 4354];
-    for _ in 0..u64::MAX {
-        if !one(&mut input, &mut out, &mut words, &mut space)? {
-            break;
-        }
-    }
-    Ok(())
+    answer_each(
+        &mut rt.stdin(),
+        &mut rt.stdout(),
+        &mut space,
+        |out, frame| run(out, &mut words, frame),
+    )
 }

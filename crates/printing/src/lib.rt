@@ -10,7 +10,6 @@ ghost use Rattle.std.specs.Io.KnownBytes.{Appends};
 ghost use Rattle.rules.specs.Answer.{answer};
 ghost use Rattle.rules.specs.Report.{report};
 
-use answer::Answer;
 use std::env::Env;
 use std::io;
 use std::io::Write;
@@ -94,14 +93,9 @@ fn print_places<W: Write>(
     output: &mut [u8],
 ) -> io::Result<()> {
     let mut places = [0u8; 255];
-    let answer = lift::placed_by(plain, input, output, &mut places);
-    match answer {
-        Answer::Refused(_) => Ok(()),
-        Answer::Answered {
-            verdict: _,
-            length: _,
-            counts,
-        } => print_list(out, &places, counts.atoms_out),
+    match lift::placed_by(plain, input, output, &mut places) {
+        Err(_) => Ok(()),
+        Ok(answer) => print_list(out, &places, answer.counts.atoms_out),
     }
 }
 
@@ -111,14 +105,9 @@ fn print_places<W: Write>(
 fn print_rounds<W: Write>(out: &mut W, input: &[u8], output: &mut [u8]) -> io::Result<()> {
     let known = lift::with_rounds(input, output);
     let rounds = known.rounds;
-    let answer = known.answer;
-    match answer {
-        Answer::Refused(_) => Ok(()),
-        Answer::Answered {
-            verdict: _,
-            length: _,
-            counts: _,
-        } => writeln!(out, "ROUNDS {rounds}"),
+    match known.answer {
+        Err(_) => Ok(()),
+        Ok(_) => writeln!(out, "ROUNDS {rounds}"),
     }
 }
 

@@ -5,28 +5,28 @@
 
 ghost use Rattle.std.specs.Prelude.{◌<◌};
 
+// The number at hand: none, a minus alone, or digits.
+#[derive(Clone, Copy)]
+enum AtHand {
+    Nothing,
+    Minus,
+    Digits { negative: bool, magnitude: u64 },
+}
+
 // How far a line is.
 #[derive(Clone, Copy)]
 pub struct Line {
-    // how many numbers it has so far; 17 stands for more than 16
-    pub count: usize,
-    // the number at hand: 0 none, 1 a minus alone, 2 digits
-    pub place: u8,
-    pub negative: bool,
-    pub magnitude: u64,
-    // something is no whole number of 32 bits
-    pub other: bool,
+    // how many readings it has so far; none once something is no whole number of 32 bits, or there are more than 16
+    count: Option<usize>,
+    at_hand: AtHand,
     // there was a byte
     pub begun: bool,
 }
 
 pub fn begin() -> Line {
     Line {
-        count: 0,
-        place: 0,
-        negative: false,
-        magnitude: 0,
-        other: false,
+        count: Some(0),
+        at_hand: AtHand::Nothing,
         begun: false,
     }
 }
@@ -41,110 +41,96 @@ pub fn signed(negative: bool, magnitude: u64) -> i32
     magnitude as i32
 }
 
-// A line that is none of readings.
-fn spoilt(line: Line) -> Line {
+// The same, if it is one of 32 bits.
+fn number(negative: bool, magnitude: u64) -> Option<i32> {
+    if magnitude < 2147483648 {
+        return Some(signed(negative, magnitude));
+    }
+    if negative && magnitude == 2147483648 {
+        return Some(i32::MIN);
+    }
+    None
+}
+
+// A line behind a number or what is none: so many readings, if it is readings alone.
+fn behind(count: Option<usize>) -> Line {
     Line {
-        count: line.count,
-        place: 0,
-        negative: false,
-        magnitude: 0,
-        other: true,
+        count,
+        at_hand: AtHand::Nothing,
         begun: true,
     }
 }
 
-// One more reading, if there is room for it.
-fn stored(line: Line, x: i32, readings: &mut [i32]) -> Line {
-    let count = line.count;
+// One more reading, if there is room for it: how many there are then.
+fn stored(count: usize, x: i32, readings: &mut [i32]) -> Option<usize> {
     if count < readings.len() {
         readings[count] = x;
         if count < 16 {
-            return Line {
-                count: count + 1,
-                place: 0,
-                negative: false,
-                magnitude: 0,
-                other: line.other,
-                begun: true,
-            };
+            return Some(count + 1);
         }
     }
-    Line {
-        count: 17,
-        place: 0,
-        negative: false,
-        magnitude: 0,
-        other: line.other,
-        begun: true,
-    }
+    None
 }
 
 // The number at hand is over.
 fn ended(line: Line, readings: &mut [i32]) -> Line {
-    let magnitude = line.magnitude;
-    if line.place == 0 {
-        return line;
+    let found = match line.at_hand {
+        AtHand::Nothing => return line,
+        AtHand::Minus => None,
+        AtHand::Digits {
+            negative,
+            magnitude,
+        } => number(negative, magnitude),
+    };
+    match (line.count, found) {
+        (Some(count), Some(x)) => behind(stored(count, x, readings)),
+        _ => behind(None),
     }
-    if line.place == 1 {
-        return spoilt(line);
-    }
-    if magnitude < 2147483648 {
-        let x = signed(line.negative, magnitude);
-        return stored(line, x, readings);
-    }
-    if line.negative {
-        if magnitude == 2147483648 {
-            return stored(line, i32::MIN, readings);
-        }
-    }
-    spoilt(line)
 }
 
 // One digit more; from 2^32 on the magnitude stays, since it is too large already.
 fn digit(line: Line, value: u8) -> Line {
-    let mut magnitude = line.magnitude;
+    let (negative, mut magnitude) = match line.at_hand {
+        AtHand::Nothing => (false, 0),
+        AtHand::Minus => (true, 0),
+        AtHand::Digits {
+            negative,
+            magnitude,
+        } => (negative, magnitude),
+    };
     if magnitude < 4294967296 {
-        magnitude = magnitude * 10 + value as u64;
+        magnitude = magnitude * 10 + u64::from(value);
     }
     Line {
         count: line.count,
-        place: 2,
-        negative: line.negative,
-        magnitude: magnitude,
-        other: line.other,
+        at_hand: AtHand::Digits {
+            negative,
+            magnitude,
+        },
         begun: true,
     }
 }
 
 // A minus begins a number.
 fn minus(line: Line) -> Line {
-    if line.place == 0 {
-        return Line {
+    match line.at_hand {
+        AtHand::Nothing => Line {
             count: line.count,
-            place: 1,
-            negative: true,
-            magnitude: 0,
-            other: line.other,
+            at_hand: AtHand::Minus,
             begun: true,
-        };
+        },
+        _ => behind(None),
     }
-    spoilt(line)
 }
 
 // One byte of the line.
 pub fn taken(line: Line, byte: u8, readings: &mut [i32]) -> Line {
-    if b'0' <= byte {
-        if byte <= b'9' {
-            return digit(line, byte - b'0');
-        }
+    match byte {
+        b'0'..=b'9' => digit(line, byte - b'0'),
+        b'-' => minus(line),
+        b' ' | b'\t' | b'\r' => ended(line, readings),
+        _ => behind(None),
     }
-    if byte == b'-' {
-        return minus(line);
-    }
-    if byte == b' ' || byte == b'\t' || byte == b'\r' {
-        return ended(line, readings);
-    }
-    spoilt(line)
 }
 
 // The bytes of a word, one after the other, and a space behind it.
@@ -157,12 +143,9 @@ pub fn word_taken(line: Line, word: &[u8], numbers: &mut [i32]) -> Line {
 }
 
 // The line is over: how many readings it has, 17 if it is not readings alone or has more than 16.
+// kept: 17 for such a line, since a public function keeps its signature
 pub fn over(line: Line, readings: &mut [i32]) -> usize {
-    let last = ended(line, readings);
-    if last.other {
-        return 17;
-    }
-    last.count
+    ended(line, readings).count.unwrap_or(17)
 }
 
 // Whether a word is a whole number, of however many bits.

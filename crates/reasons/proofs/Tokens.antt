@@ -6,7 +6,8 @@ use Prim.Native.Nat.{ℕ, ◌+◌, ◌-◌, ◌/◌, ◌%◌, ◌^◌, ◌<◌, 
 use native.Mathlib.Omega.{arith}
 use lib.Dec.{eqb}
 use lib.ListN.{length, get_or, set, take, drop, length-drop}
-use lib.Seq.{set_out, take_all}
+use lib.Seq.{set_out, take_all, drop-cons}
+use native.Mathlib.Numerals.{add-one}
 use lib.Bits.{bit_or}
 use borrow.Author.Tests.{eq-eqb, ne_eqb}
 use Rattle.rules.specs.Level.{Placed, plain, plains, implied}
@@ -41,39 +42,48 @@ places-of t (x ∷ l) = ap (λ (m : List ℕ). place x ∷ m) (places-of t l)
 
 -- ---- On the way through a row.
 
-module _ {row : Row} {l : List ℕ} (h : Lists row l) {i : ℕ} (low : i < length l) where
+module _ {row : Row} {l : List ℕ} (h : Lists row l) {i : ℕ} (low : i < length (take row.count row.token)) where
   abbrev x : ℕ
-  x = get_or row.token i 0
+  x = get_or (take row.count row.token) i 0
+
+  rest-token : drop i l ≡ get_or (take row.count row.token) i 0 ∷ drop (i + 1) l
+  rest-token = rw (h.is, add-one i) (drop-cons l i 0 (rw h.is at low))
 
   -- the first token of a slot
-  pub first_here : {number : ℕ} (own : ℕ) → number ≡ slot (get_or row.token i 0) → first_place number (drop i l) own ≡ place (get_or row.token i 0)
+  pub first_here : {number : ℕ} (own : ℕ) → number ≡ slot (get_or (take row.count row.token) i 0)
+      → first_place number (drop i l) own ≡ place (get_or (take row.count row.token) i 0)
   unfolding first_place or_place
-  first_here {number} own e = rw (rest-next h low, eq-eqb number (slot x) e)
+  first_here {number} own e = rw (rest-token, eq-eqb number (slot x) e)
 
-  pub first_later : {number : ℕ} (own : ℕ) → (number ≡ slot (get_or row.token i 0) → ⊥)
+  pub first_later : {number : ℕ} (own : ℕ) → (number ≡ slot (get_or (take row.count row.token) i 0) → ⊥)
       → first_place number (drop i l) own ≡ first_place number (drop (i + 1) l) own
   unfolding first_place or_place
-  first_later {number} own e = rw (rest-next h low, ne_eqb number (slot x) e)
+  first_later {number} own e = rw (rest-token, ne_eqb number (slot x) e)
 
   -- the words of the places
   pub words-next : (words : List ℕ) → words_from words (map place (drop i l))
-      ≡ words_from (with_place words (place (get_or row.token i 0))) (map place (drop (i + 1) l))
+      ≡ words_from (with_place words (place (get_or (take row.count row.token) i 0))) (map place (drop (i + 1) l))
   unfolding words_from
-  words-next words = ap (λ (m : List ℕ). words_from words (map place m)) (rest-next h low)
+  words-next words = ap (λ (m : List ℕ). words_from words (map place m)) rest-token
 
-  -- whether the next one is at the place
+-- Whether the next one is at the place.
+module _ {row : Row} {l : List ℕ} (h : Lists row l) {i : ℕ} (low : i < length l) where
   pub next-is : (k : ℕ) → is_first k (drop i l) ≡ eqb k (place (get_or row.token i 0))
   unfolding is_first
   next-is k = rw (rest-next h low)
 
 -- There is no token of the slot, and no more places.
-pub first-none : (number own : ℕ) (l : List ℕ) (i : ℕ) → length l ≤ i → first_place number (drop i l) own ≡ own
-unfolding first_place
-first-none number own l i over = rw (rest-none l i over)
+module _ {row : Row} {l : List ℕ} (h : Lists row l) {i : ℕ} (over : length (take row.count row.token) ≤ i) where
+  no-rest : drop i l ≡ []
+  no-rest = rest-none l i (rw h.is at over)
 
-pub words-done : (words l : List ℕ) (i : ℕ) → length l ≤ i → words_from words (map place (drop i l)) ≡ words
-unfolding words_from
-words-done words l i over = rw (rest-none l i over)
+  pub first-none : (number own : ℕ) → first_place number (drop i l) own ≡ own
+  unfolding first_place
+  first-none number own = rw no-rest
+
+  pub words-done : (words : List ℕ) → words_from words (map place (drop i l)) ≡ words
+  unfolding words_from
+  words-done words = rw no-rest
 
 -- A place stored.
 pub stored-place : (words : List ℕ) (p q power : ℕ) → p ≡ q → power ≡ 2 ^ (p % 64)

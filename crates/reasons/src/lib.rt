@@ -24,6 +24,7 @@ use tape::rows::{Row, append, part};
 use tape::tokens::{set_of, slot_of};
 
 // A record: kind 1 kept, 2 narrowed, 3 merged, 4 removed, 5 the whole is false. Unused fields are 0; place p is bit p % 64 of word p / 64.
+// kept: the kinds are numbers, no enum: C reads this record as it stands (crate why_c).
 #[repr(C)]
 #[derive(Clone, Copy)]
 pub struct Reason {
@@ -34,6 +35,7 @@ pub struct Reason {
 }
 
 // What is told of a block: a refusal's number, or 0 and so many records.
+// kept: no Result: the public contracts of the crates above name its fields, and theirs stay as they are.
 #[derive(Clone, Copy)]
 pub struct Found {
     pub records: [Reason; 255],
@@ -55,13 +57,9 @@ fn first_place(list: Row, token: u32) -> usize
     ensures { (l : List ℕ) → Lists list l → result ≡ first_place_of (slot token) l (place token) }
 {
     let number = slot_of(token);
-    let end = list.count;
-    let mut i = 0;
-    while i < end {
-        let other = list.token[i];
-        i += 1;
-        if number == slot_of(other) {
-            return place_of(other);
+    for other in &list.token[..list.count] {
+        if number == slot_of(*other) {
+            return place_of(*other);
         }
     }
     place_of(token)
@@ -79,12 +77,9 @@ fn with_places(kind: u8, set: u8, named: Row) -> Reason
     requires { named.count ≤ length named.token }
     ensures { (l : List ℕ) → Lists named l → result ≡ record { kind = kind; set = set; place = 0; places = words_of (map place l) } }
 {
-    let end = named.count;
     let mut words = [0u64; 4];
-    let mut i = 0;
-    while i < end {
-        let at = place_of(named.token[i]);
-        i += 1;
+    for token in &named.token[..named.count] {
+        let at = place_of(*token);
         if at < 256 {
             let word = words[at / 64];
             words[at / 64] = word | power(at % 64);
@@ -182,19 +177,16 @@ fn told_at(
     let list = fates.carried;
     let left = fates.left;
     let state = fates.state;
-    let end = list.count;
     let own = place_of(token);
     let mut kept = 0;
-    let mut i = 0;
-    while i < end {
+    for i in 0..list.count {
         let other = list.token[i];
-        i += 1;
         let stays = is_next(left, kept, other);
         if own == place_of(other) {
             if stays {
                 return staying(set_of(other), set_of(token));
             }
-            let others = others_of(left, kept, list, i);
+            let others = others_of(left, kept, list, i + 1);
             return going(
                 coefficient,
                 monomial,
@@ -275,10 +267,8 @@ pub fn tell_all(
         ((atoms : List Atom) (l : List ℕ) → Lists given l → atoms_in t l ≡ clauses_from 0 atoms → Tells result (reasons variables atoms)) }
 {
     let fates = fate_of_all(coefficient, monomial, terms, variables, given);
-    let end = given.count;
     let mut found = refused(0);
-    let mut i = 0;
-    while i < end {
+    for i in 0..given.count {
         let reason = reason_for(
             coefficient,
             monomial,
@@ -288,7 +278,6 @@ pub fn tell_all(
             given.token[i],
         );
         found = stored(found, i, reason);
-        i += 1;
     }
     found
 }

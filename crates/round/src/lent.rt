@@ -55,10 +55,8 @@ fn turns(
         Turned t atoms (turns_of b.variables (atoms_of t atoms) (sets_of b) 0 b.variables) board.new sign.new }
 {
     let n = board.variables;
-    let mut i = 0;
-    while i < n {
+    for i in 0..n {
         turn(coefficient, monomial, terms, sign, board, atoms, i, floor);
-        i += 1;
     }
 }
 

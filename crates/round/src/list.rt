@@ -36,12 +36,8 @@ pub fn joined(first: Atoms, list: Atoms, from: usize) -> Atoms
 {
     let end = many(list.count);
     let mut atoms = first;
-    let mut i = from;
-    while i < end {
-        let number = list.number[i];
-        let set = list.set[i];
-        i += 1;
-        atoms = push(atoms, number, set);
+    for i in from..end {
+        atoms = push(atoms, list.number[i], list.set[i]);
     }
     atoms
 }
@@ -52,14 +48,10 @@ pub fn listed(list: Atoms, number: usize) -> SignSet
     ensures { (t : Table) → Forms t → result.0 ≡ listed_of (form_at t number) (atoms_of t list) }
 {
     let end = many(list.count);
-    let mut i = 0;
-    while i < end {
-        let other = list.number[i];
-        let set = list.set[i];
-        i += 1;
-        let k = (other % 64) as usize;
+    for i in 0..end {
+        let k = (list.number[i] % 64) as usize;
         if number == k {
-            return SignSet(set);
+            return SignSet(list.set[i]);
         }
     }
     SignSet::FULL

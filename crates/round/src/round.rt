@@ -1,6 +1,6 @@
 // A round over the atoms of a list, 01 "Rounds": the variables' turns one after the other, then the atoms, each cut by the others as they were.
 // The signs of the terms are worked out once for a board, and again only when a turn has changed it.
-ghost use Rattle.std.specs.Prelude.{◌≡◌, [], ◌+◌, ◌-◌, ◌<◌, ◌≤◌};
+ghost use Rattle.std.specs.Prelude.{◌≡◌, [], ◌+◌, ◌-◌, ◌<◌, ◌≤◌, MatchOption, set};
 ghost use Rattle.rules.specs.Rounds.{cut_by as cut_by_of, turn as turn_of, cut_atoms as cut_atoms_of};
 ghost use Rattle.sign_laws.specs.Sets.{PartOf};
 ghost use Rattle.terms.specs.View.{sets_of};
@@ -35,11 +35,11 @@ pub fn cut_down(
     set: SignSet,
     floor: SignSet,
 ) -> SignSet
-    requires fact { let t = lent_table coefficient monomial terms board.variables in
+    requires ready { let t = lent_table coefficient monomial terms board.variables in
         Ready t (sets_of board) atoms sign.now }
-    requires fact_2 { let t = lent_table coefficient monomial terms board.variables in
+    requires in_slot { let t = lent_table coefficient monomial terms board.variables in
         (to ≤ many_of atoms.count) × ((p < 80) × SignedSlot t (sets_of board) sign.now p) }
-    requires fact_3 { let t = lent_table coefficient monomial terms board.variables in
+    requires above_floor { let t = lent_table coefficient monomial terms board.variables in
         (floor.0 < 8) × PartOf floor.0 (cut_by_of (sets_of board) (form_at t p) (atoms_from t atoms.number atoms.set from (to - from)) set.0) }
     ensures { let t = lent_table coefficient.entry monomial.entry terms.entry board.variables in
         result.0 ≡ cut_by_of (sets_of board) (form_at t p) (atoms_from t atoms.number atoms.set from (to - from)) set.0 }
@@ -52,12 +52,8 @@ pub fn cut_down(
     }
     let run = places(terms, p);
     let mut sofar = set;
-    let mut i = from;
-    while i < to {
-        let number = atoms.number[i];
-        let held = atoms.set[i];
-        i += 1;
-        let k = (number % 64) as usize;
+    for i in from..to {
+        let k = (atoms.number[i] % 64) as usize;
         let q = places(terms, k);
         sofar = sofar.intersect(deduce_from(
             coefficient,
@@ -66,7 +62,7 @@ pub fn cut_down(
             sign,
             run,
             q,
-            SignSet(held),
+            SignSet(atoms.set[i]),
         ));
         if sofar.0 == floor.0 {
             return sofar;
@@ -88,9 +84,9 @@ pub fn cut_by(
     p: usize,
     set: SignSet,
 ) -> SignSet
-    requires fact { let t = lent_table coefficient monomial terms board.variables in
+    requires ready { let t = lent_table coefficient monomial terms board.variables in
         Ready t (sets_of board) atoms sign.now }
-    requires fact_2 { let t = lent_table coefficient monomial terms board.variables in
+    requires in_slot { let t = lent_table coefficient monomial terms board.variables in
         (to ≤ many_of atoms.count) × ((p < 80) × SignedSlot t (sets_of board) sign.now p) }
     ensures { let t = lent_table coefficient.entry monomial.entry terms.entry board.variables in
         result.0 ≡ cut_by_of (sets_of board) (form_at t p) (atoms_from t atoms.number atoms.set from (to - from)) set.0 }
@@ -110,27 +106,29 @@ pub fn cut_by(
     )
 }
 
-// Variable i's turn, by value. It does not go below the floor, so that a variable that has the floor's set needs none, and a turn that comes to it is
-// over. One that leaves the variable's set as it was leaves the signs too.
-pub fn turned(
+// The set that variable i's turn gives it, if that is another than it has. The turn does not go below the floor, so that a variable that has the floor's
+// set needs none, and a turn that comes to it is over.
+pub fn turned_set(
     coefficient: &[i32],
     monomial: &[u64],
     terms: &[u8],
-    sign: &mut [u8],
+    sign: &[u8],
     board: Board,
     atoms: Atoms,
     i: usize,
     floor: Board,
-) -> Board
+) -> Option<SignSet>
     requires { let t = lent_table coefficient monomial terms board.variables in
-        (Ready t (sets_of board) atoms sign.old × (i < board.variables)) × FloorAt t atoms board floor i }
+        (Ready t (sets_of board) atoms sign.now × (i < board.variables)) × FloorAt t atoms board floor i }
     ensures { let t = lent_table coefficient.entry monomial.entry terms.entry board.variables in
-        Turned t atoms (turn_of board.variables (atoms_of t atoms) (sets_of board) i) result sign.new }
+        let turn = turn_of board.variables (atoms_of t atoms) (sets_of board) i in
+        MatchOption result (sets_of board ≡ turn)
+        (λ new. sets_of (record { variables = board.variables; sets = set board.sets i new.0 }) ≡ turn) }
 {
     let old = board.sets[i];
     let low = floor.sets[i];
     if old == low {
-        return board;
+        return None;
     }
     let n = many(atoms.count);
     let new = cut_down(
@@ -147,8 +145,30 @@ pub fn turned(
         SignSet(low),
     );
     if new.0 == old {
-        return board;
+        return None;
     }
+    Some(new)
+}
+
+// Variable i's turn, by value. One that leaves the variable's set as it was leaves the signs too.
+pub fn turned(
+    coefficient: &[i32],
+    monomial: &[u64],
+    terms: &[u8],
+    sign: &mut [u8],
+    board: Board,
+    atoms: Atoms,
+    i: usize,
+    floor: Board,
+) -> Board
+    requires { let t = lent_table coefficient monomial terms board.variables in
+        (Ready t (sets_of board) atoms sign.old × (i < board.variables)) × FloorAt t atoms board floor i }
+    ensures { let t = lent_table coefficient.entry monomial.entry terms.entry board.variables in
+        Turned t atoms (turn_of board.variables (atoms_of t atoms) (sets_of board) i) result sign.new }
+{
+    let Some(new) = turned_set(coefficient, monomial, terms, sign, board, atoms, i, floor) else {
+        return board;
+    };
     let mut turned = board;
     turned.sets[i] = new.0;
     sign_list(turned, monomial, terms, atoms, sign);
@@ -218,11 +238,9 @@ fn cut_atoms(
 {
     let n = many(atoms.count);
     let mut cut = atoms;
-    let mut i = 0;
-    while i < n {
+    for i in 0..n {
         let set = cut_atom(coefficient, monomial, terms, sign, board, atoms, i);
         cut.set[i] = set.0;
-        i += 1;
     }
     cut
 }

@@ -15,6 +15,7 @@ use terms::masks::{Masks, masks_of};
 use terms::{Board, sign_by};
 
 // What a slot was found to hold.
+// kept: public functions keep their signatures, and `which` gives this to crates settled and common_run, which match on it.
 #[derive(Clone, Copy)]
 pub enum Holds {
     Variable(usize),
@@ -54,9 +55,7 @@ pub fn which(
     if c != 1 {
         return Holds::Form;
     }
-    let mut i = variables;
-    while 0 < i {
-        i -= 1;
+    for i in (0..variables).rev() {
         if m == monomial[16 * (64 + i)] {
             return Holds::Variable(i);
         }
@@ -88,10 +87,8 @@ fn sign_variables(masks: Masks, variables: usize, monomial: &[u64], terms: &[u8]
     ensures { (board : BookBoard) → MasksOf board masks →
         sign.new ≡ signed_slots board monomial.now terms.now variable_slot sign.old 0 variables }
 {
-    let mut i = 0;
-    while i < variables {
+    for i in 0..variables {
         slot_by(masks, monomial, terms, sign, 64 + i);
-        i += 1;
     }
 }
 
@@ -102,12 +99,9 @@ fn sign_atoms(masks: Masks, monomial: &[u64], terms: &[u8], atoms: Atoms, sign: 
         signed_slots board monomial.now terms.now (atom_slot atoms.number) sign.old 0 (many_of atoms.count) }
 {
     let n = many(atoms.count);
-    let mut i = 0;
-    while i < n {
-        let number = atoms.number[i];
+    for number in &atoms.number[..n] {
         let k = (number % 64) as usize;
         slot_by(masks, monomial, terms, sign, k);
-        i += 1;
     }
 }
 
@@ -127,9 +121,7 @@ pub fn sign_table(board: Board, monomial: &[u64], terms: &[u8], sign: &mut [u8])
     ensures { sign.new ≡ signed_table (sets_of board) monomial.now terms.now sign.old }
 {
     let masks = masks_of(board);
-    let mut k = 0;
-    while k < 80 {
+    for k in 0..80 {
         slot_by(masks, monomial, terms, sign, k);
-        k += 1;
     }
 }

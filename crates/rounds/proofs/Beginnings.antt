@@ -14,7 +14,6 @@ use Rattle.removal_laws.specs.Settled.{start-low}
 use Rattle.ending_laws.specs.Rounds.{start-length}
 use Rattle.turn_laws.specs.AfterTurns.{AfterTurns, after-low, end, same_end, Idle, Floor}
 use Rattle.turn_laws.specs.Afresh.{Afresh, afresh-start, PairsIdle, floor-settled, run-by-turns}
-use Rattle.terms.specs.declared.Board.{Board}
 use Rattle.terms.specs.View.{sets_of}
 use Rattle.table.specs.declared.Atoms.{Atoms}
 use Rattle.table.specs.Table.{Table, atoms_of, many}

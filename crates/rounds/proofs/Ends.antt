@@ -1,14 +1,17 @@
 -- How the rounds end: the tests for an empty set and for equal sets, place by place, and what a round does to the number of rounds left.
 use mathlib.Core.Path.{◌≡◌, refl, sym, ◌∙◌, ap, subst}
 use mathlib.Core.Bool.{Bool, true, false}
-use mathlib.Core.List.{List, ◌∷◌}
+use mathlib.Core.List.{List, [], ◌∷◌}
 use mathlib.Core.Option.{none, some, some-injective, none-ne-some}
 use Prim.Native.Nat.{ℕ, zero, suc, ◌+◌, ◌-◌, ◌*◌, ◌<◌, ◌≤◌}
+use native.Mathlib.Nat.{sub-zero}
 use native.Mathlib.Omega.{arith}
-use borrow.Author.Tests.{eq-eqb, ne_eqb}
-use lib.Dec.{lit<}
+use lib.Dec.{eqb, lit<}
+use lib.Pointwise.{pointwise}
 use lib.IntN.{ℤ}
-use lib.ListN.{length, get_or}
+use lib.ListN.{length, get_or, take, drop}
+use Rattle.std.specs.List.{list_any}
+use Rattle.std.proofs.Math.Seq.{drop-cons}
 use Rattle.rules.specs.Signs.{SignSet}
 use Rattle.rules.specs.Deduce.{any_empty}
 use Rattle.rules.specs.Rounds.{sets_of, same_sets, has_empty, unchanged, round, Outcome, after_round, rounds, further_begun, begun, enough, contradiction, settled}
@@ -18,7 +21,7 @@ use Rattle.sign_laws.specs.Lists.{every-get_d}
 use Rattle.ending_laws.specs.Cuts.{none-empty as none-empty-in}
 use Rattle.removal_laws.specs.Rounds.{LowBoard, Low, round-low}
 use Rattle.removal_laws.specs.Settled.{search-low}
-use Rattle.terms.specs.View.{few, numbers_from, numbers-cons, numbers-nil, length-numbers}
+use Rattle.terms.specs.View.{few, numbers_from, length-numbers}
 use Rattle.terms.specs.View.{sets_of as board_of}
 use Rattle.table.specs.Table.{Table, atoms_from, many}
 use Rattle.round.specs.declared.State.{State}
@@ -31,34 +34,27 @@ use Rattle.rounds.specs.Views.{held_sets}
 use Rattle.rounds.specs.declared.Counted.{Counted}
 use Rattle.rounds.specs.Ended.{further_from, Furthered, Ended}
 
--- ---- the sets at the places from i on
+-- ---- the first n sets of an array
 
-module _ (xs : List SignSet) (i n : ℕ) where
-  pub empty-here : i < n → get_or xs i 0 ≡ 0 → any_empty (numbers_from xs i (n - i)) ≡ true
-  unfolding any_empty
-  empty-here h e = rw (numbers-cons xs i n h) (simp (eq-eqb _ _ e))
+taken : (xs : List SignSet) (i n : ℕ) → i + n ≤ length xs → take n (drop i xs) ≡ numbers_from xs i n
+unfolding numbers_from
+taken xs i zero h = refl
+taken xs i (suc n) h = rw (drop-cons xs i 0 (omega arith)) (ap (λ (l : List SignSet). get_or xs i 0 ∷ l) (taken xs (suc i) n (omega arith)))
 
-  pub empty-later : i < n → (get_or xs i 0 ≡ 0 → ⊥) → any_empty (numbers_from xs i (n - i)) ≡ any_empty (numbers_from xs (i + 1) (n - (i + 1)))
-  unfolding any_empty
-  empty-later h e = rw (numbers-cons xs i n h) (simp (ne_eqb _ _ e))
+pub numbers-take : (xs : List SignSet) (n : ℕ) → n ≤ length xs → take n xs ≡ numbers_from xs 0 n
+numbers-take xs n h = taken xs 0 n (omega arith)
 
-  pub none-empty : n ≤ i → any_empty (numbers_from xs i (n - i)) ≡ false
-  unfolding any_empty
-  none-empty h = rw (numbers-nil xs i n h)
+pub empty-among : (xs : List SignSet) → list_any (λ s. eqb s 0) xs ≡ any_empty xs
+unfolding any_empty
+empty-among [] = refl
+empty-among (s ∷ ss) = rw (empty-among ss)
 
-module _ (xs ys : List SignSet) (i n : ℕ) where
-  pub differ-here : i < n → (get_or xs i 0 ≡ get_or ys i 0 → ⊥) → same_sets (numbers_from xs i (n - i)) (numbers_from ys i (n - i)) ≡ false
-  unfolding same_sets
-  differ-here h e = rw (numbers-cons xs i n h, numbers-cons ys i n h) (simp (ne_eqb _ _ e))
-
-  pub same_here : i < n → get_or xs i 0 ≡ get_or ys i 0
-      → same_sets (numbers_from xs i (n - i)) (numbers_from ys i (n - i)) ≡ same_sets (numbers_from xs (i + 1) (n - (i + 1))) (numbers_from ys (i + 1) (n - (i + 1)))
-  unfolding same_sets
-  same_here h e = rw (numbers-cons xs i n h, numbers-cons ys i n h) (simp (eq-eqb _ _ e))
-
-  pub none_differ : n ≤ i → same_sets (numbers_from xs i (n - i)) (numbers_from ys i (n - i)) ≡ true
-  unfolding same_sets
-  none_differ h = rw (numbers-nil xs i n h, numbers-nil ys i n h)
+pub same-each : (xs ys : List SignSet) → pointwise eqb xs ys ≡ same_sets xs ys
+unfolding same_sets
+same-each [] [] = refl
+same-each [] (t ∷ ts) = refl
+same-each (s ∷ ss) [] = refl
+same-each (s ∷ ss) (t ∷ ts) = rw (same-each ss ts)
 
 -- ---- the sets and the number of the atoms of a list
 
@@ -184,30 +180,33 @@ unfolding further_from
 further-low true n su low e = search-low n su e low
 further-low false n su low {sv} e = subst Low (some-injective su sv e) low
 
--- Of the rounds from st on so many are left at the current state; from there they end as all of them do.
-pub record Going (t : Table) (total : ℕ) (st : State) (left : ℕ) (current : State) : Type 0 where
-  pub most : left ≤ total
+-- Of the rounds from st on so many have ended at the current state; from there they end as all of them do.
+pub record Going (t : Table) (total : ℕ) (st : State) (ended : ℕ) (current : State) : Type 0 where
   pub variables : current.board.variables ≡ t.variables
   pub count : current.atoms.count ≡ st.atoms.count
   pub number : current.atoms.number ≡ st.atoms.number
   pub low : LowBoard (board_of current.board)
-  pub outcome : rounds t.variables left (state_of t current) ≡ rounds t.variables (enough (state_of t st)) (state_of t st)
-  pub begun : (total - left) + begun t.variables left (state_of t current) ≡ begun t.variables (enough (state_of t st)) (state_of t st)
+  pub outcome : rounds t.variables (total - ended) (state_of t current) ≡ rounds t.variables (enough (state_of t st)) (state_of t st)
+  pub begun : ended + begun t.variables (total - ended) (state_of t current) ≡ begun t.variables (enough (state_of t st)) (state_of t st)
 
 pub at_first : (t : Table) (total : ℕ) (st : State) → total ≡ enough (state_of t st) → st.board.variables ≡ t.variables → LowBoard (board_of st.board)
-    → Going t total st total st
+    → Going t total st 0 st
 at_first t total st e v low =
-    let b : begun t.variables total (state_of t st) ≡ begun t.variables (enough (state_of t st)) (state_of t st) = rw e in
-    record { most = omega arith; variables = v; count = refl; number = refl; low = low; outcome = rw e; begun = omega arith }
+    let all : total - 0 ≡ enough (state_of t st) = sub-zero total ∙ e in
+    let b : begun t.variables (total - 0) (state_of t st) ≡ begun t.variables (enough (state_of t st)) (state_of t st) = rw all in
+    record { variables = v; count = refl; number = refl; low = low; outcome = rw all; begun = omega arith }
 
-module _ {t : Table} {total : ℕ} {st : State} {left : ℕ} {current next : State} (going : Going t total st left current) (some : 0 < left)
+module _ {t : Table} {total : ℕ} {st : State} {ended : ℕ} {current next : State} (going : Going t total st ended current) (more : ended < total)
     (rounded : Rounded t current next) where
-  pub to-contradiction : has_empty (state_of t next) ≡ true → Ended t st (record { contradiction = true; begun = total - (left - 1); state = next })
+  some-left : 0 < total - ended
+  some-left = omega arith
+
+  pub to-contradiction : has_empty (state_of t next) ≡ true → Ended t st (record { contradiction = true; begun = ended + 1; state = next })
   to-contradiction e =
-      let f = round-fails t.variables (state_of t current) left some (rw rounded.state at e) in
+      let f = round-fails t.variables (state_of t current) (total - ended) some-left (rw rounded.state at e) in
       record {
         outcome = sym f.0 ∙ going.outcome;
-        begun = omega (arith, f.1, going.begun, going.most);
+        begun = omega (arith, f.1, going.begun);
         variables = rounded.variables;
         count = rounded.count ∙ going.count;
         number = rounded.number ∙ going.number;
@@ -230,52 +229,52 @@ module _ {t : Table} {total : ℕ} {st : State} {left : ℕ} {current next : Sta
     left-filled : has_empty (round t.variables (state_of t current)) ≡ false
     left-filled = rw rounded.state at filled
 
-    pub to-rest : r.found ≡ false → Ended t st (record { contradiction = false; begun = total - (left - 1); state = r.state })
+    pub to-rest : r.found ≡ false → Ended t st (record { contradiction = false; begun = ended + 1; state = r.state })
     unfolding when_found
     to-rest None-found =
-        let f = round-rests t.variables (state_of t current) left some left-filled (sym further-is ∙ rw None-found) in
+        let f = round-rests t.variables (state_of t current) (total - ended) some-left left-filled (sym further-is ∙ rw None-found) in
         record {
           outcome = ap (λ (s : State). settled (state_of t s)) (furthered.itself None-found) ∙ ap settled rounded.state ∙ sym f.0 ∙ going.outcome;
-          begun = omega (arith, f.1, going.begun, going.most);
+          begun = omega (arith, f.1, going.begun);
           variables = furthered.variables;
           count = furthered.count ∙ rounded.count ∙ going.count;
           number = furthered.number ∙ rounded.number ∙ going.number;
         }
 
     pub to-emptied : r.found ≡ true → has_empty (state_of t r.state) ≡ true
-        → Ended t st (record { contradiction = true; begun = total - (left - 1); state = r.state })
+        → Ended t st (record { contradiction = true; begun = ended + 1; state = r.state })
     unfolding when_found
     to-emptied found e =
-        let f = round-empties t.variables (state_of t current) left some left-filled (sym further-is ∙ rw found) e in
+        let f = round-empties t.variables (state_of t current) (total - ended) some-left left-filled (sym further-is ∙ rw found) e in
         record {
           outcome = sym f.0 ∙ going.outcome;
-          begun = omega (arith, f.1, going.begun, going.most);
+          begun = omega (arith, f.1, going.begun);
           variables = furthered.variables;
           count = furthered.count ∙ rounded.count ∙ going.count;
           number = furthered.number ∙ rounded.number ∙ going.number;
         }
 
-    pub onward : r.found ≡ true → has_empty (state_of t r.state) ≡ false → Going t total st (left - 1) r.state
+    pub onward : r.found ≡ true → has_empty (state_of t r.state) ≡ false → Going t total st (ended + 1) r.state
     unfolding when_found
     onward found e =
-        let f = round-goes-on t.variables (state_of t current) left some left-filled (sym further-is ∙ rw found) e in
+        let less : total - ended - 1 ≡ total - (ended + 1) = omega arith in
+        let f = rw less at (round-goes-on t.variables (state_of t current) (total - ended) some-left left-filled (sym further-is ∙ rw found) e) in
         record {
-          most = omega (arith, going.most);
           variables = furthered.variables;
           count = furthered.count ∙ rounded.count ∙ going.count;
           number = furthered.number ∙ rounded.number ∙ going.number;
           low = (further-low _ t.variables (round t.variables (state_of t current)) low-left {sv = state_of t r.state} (sym further-is ∙ rw found)).board;
           outcome = sym f.0 ∙ going.outcome;
-          begun = omega (arith, f.1, going.begun, going.most);
+          begun = omega (arith, f.1, going.begun);
         }
 
-pub to_last : {t : Table} {total : ℕ} {st : State} {left : ℕ} {current : State} → Going t total st left current → left ≡ 0
+pub to_last : {t : Table} {total : ℕ} {st : State} {ended : ℕ} {current : State} → Going t total st ended current → ended ≡ total
     → Ended t st (record { contradiction = false; begun = total; state = current })
-to_last {t} {total} {st} {left} {current} going e =
-    let f = none_left t.variables (state_of t current) left e in
+to_last {t} {total} {st} {ended} {current} going e =
+    let f = none_left t.variables (state_of t current) (total - ended) (omega arith) in
     record {
       outcome = sym f.0 ∙ going.outcome;
-      begun = omega (arith, f.1, going.begun);
+      begun = omega (arith, f.1, going.begun, e);
       variables = going.variables;
       count = going.count;
       number = going.number;

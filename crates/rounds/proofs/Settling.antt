@@ -1,9 +1,9 @@
 -- Turns of the variables and findings of pairs, one after the other, from a board above the settled one: what they have left so far, and where they end.
-use mathlib.Core.Path.{◌≡◌, refl, sym, ap, ◌∙◌, subst}
-use mathlib.Core.Bool.{Bool, true, false}
+use mathlib.Core.Path.{◌≡◌, sym, ap, ◌∙◌, subst}
+use mathlib.Core.Bool.{true, false}
 use mathlib.Core.List.{List}
 use mathlib.Core.Option.{none}
-use Prim.Native.Nat.{ℕ, ◌+◌, ◌<◌, ◌≤◌}
+use Prim.Native.Nat.{ℕ, ◌+◌, ◌≤◌}
 use native.Mathlib.Omega.{arith}
 use lib.IntN.{ℤ}
 use lib.ListN.{length}
@@ -12,7 +12,7 @@ use Rattle.rules.specs.Rounds.{search_board}
 use Rattle.sign_laws.specs.Booleans.{never_both}
 use Rattle.ending_laws.specs.Searches.{board-none-at}
 use Rattle.turn_laws.specs.AfterTurns.{AfterTurns, no_turn, after_both, Floor, floor-later}
-use Rattle.turn_laws.specs.Afresh.{PairsIdle, afresh-after}
+use Rattle.turn_laws.specs.Afresh.{afresh-after}
 use Rattle.terms.specs.declared.Board.{Board}
 use Rattle.terms.specs.View.{few, sets_of, length-numbers}
 use Rattle.table.specs.declared.Atoms.{Atoms}

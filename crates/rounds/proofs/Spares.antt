@@ -1,21 +1,18 @@
 -- The signs that sets can lose, as the code counts them: by the three bits of each, one set after the other.
 use mathlib.Core.Path.{◌≡◌, refl, sym, ◌∙◌, ap, subst}
-use mathlib.Core.Bool.{true, false}
-use mathlib.Core.Logic.{⊎_elim}
-use mathlib.Core.List.{List, []}
-use Prim.Native.Nat.{ℕ, zero, suc, ◌+◌, ◌-◌, ◌/◌, ◌%◌, ◌<◌, ◌≤◌, max}
-use native.Mathlib.Nat.{sub-zero}
+use mathlib.Core.List.{List}
+use Prim.Native.Nat.{ℕ, zero, suc, ◌+◌, ◌-◌, ◌/◌, ◌%◌, ◌<◌, ◌≤◌}
 use native.Mathlib.Omega.{arith}
 use lib.Dec.{eqb}
 use lib.IntN.{ℤ}
 use lib.ListN.{get_or}
-use Rattle.rules.specs.Signs.{SignSet, negative, nought, positive, only, has, bit}
+use Rattle.rules.specs.Signs.{SignSet, only, has, bit}
 use Rattle.rules.specs.Count.{run_count}
 use Rattle.ending_laws.specs.Sizes.{size, spare, spare-at-most}
 use Rattle.ending_laws.specs.Cuts.{spare_all}
 use Rattle.terms.specs.View.{numbers_from, numbers-cons, numbers-nil, sets_of}
 use Rattle.table.specs.declared.Atoms.{Atoms}
-use Rattle.table.specs.Table.{Table, atoms_of}
+use Rattle.table.specs.Table.{atoms_of}
 use Rattle.round.specs.declared.State.{State}
 use Rattle.round.specs.Views.{table_of, state_of}
 use Rattle.rules.specs.Rounds.{start, enough}

@@ -1,9 +1,10 @@
--- Rounds on the board alone: so many are left at the board at hand, and those begun and the rest are all that are begun from the first board.
+-- Rounds on the board alone: so many have ended at the board at hand, and those and the rest are all that are begun from the first board.
 use mathlib.Core.Path.{◌≡◌, refl, sym, ◌∙◌, ap, subst}
 use mathlib.Core.Bool.{Bool, true, false}
 use mathlib.Core.List.{List}
 use mathlib.Core.Option.{Option, none, some, some-injective, none-ne-some}
-use Prim.Native.Nat.{ℕ, zero, suc, ◌+◌, ◌-◌, ◌<◌, ◌≤◌, max}
+use Prim.Native.Nat.{ℕ, zero, suc, ◌+◌, ◌-◌, ◌<◌, max}
+use native.Mathlib.Nat.{sub-zero}
 use native.Mathlib.Omega.{arith}
 use lib.IntN.{ℤ}
 use Rattle.rules.specs.Signs.{SignSet}
@@ -89,7 +90,7 @@ module _ {t : Table} {a : Atoms} {b floor next : Sets} {ss : List SignSet} (boun
     bounded = searched-bounded turned-bounded s;
   }
 
--- ---- so many are left
+-- ---- so many have ended
 
 pub above-over : (cs : List ℤ) (ms ts : List ℕ) {n m : ℕ} → n ≡ m → {su : State} {floor : Sets} → AboveFloor (table_of cs ms ts n) su floor
     → AboveFloor (table_of cs ms ts m) su floor
@@ -103,16 +104,15 @@ pub turned-on-over : (cs : List ℤ) (ms ts : List ℕ) {n m : ℕ} → n ≡ m 
     → TurnedOn (table_of cs ms ts n) a b floor r ss → TurnedOn (table_of cs ms ts m) a b floor r ss
 turned-on-over cs ms ts same {a} {b} {floor} {r} {ss} = subst (λ (k : ℕ). TurnedOn (table_of cs ms ts k) a b floor r ss) same
 
-pub record Standing (t : Table) (a : Atoms) (total left : ℕ) (first board floor : Sets) (ss : List SignSet) : Type 0 where
-  pub most : left ≤ total
+pub record Standing (t : Table) (a : Atoms) (total ended : ℕ) (first board floor : Sets) (ss : List SignSet) : Type 0 where
   pub variables : board.variables ≡ t.variables
   pub ready : Ready t (sets_of board) a ss
   pub bounded : BoundedBy t (record { board = board; atoms = a }) floor
-  pub counts : (total - left) + turned_rounds t.variables (atoms_of t a) left (sets_of board) ≡ turned_rounds t.variables (atoms_of t a) total (sets_of first)
+  pub counts : ended + turned_rounds t.variables (atoms_of t a) (total - ended) (sets_of board) ≡ turned_rounds t.variables (atoms_of t a) total (sets_of first)
 
 pub stand-first : {t : Table} {a : Atoms} (total : ℕ) {board floor : Sets} {ss : List SignSet} → board.variables ≡ t.variables → Ready t (sets_of board) a ss
-    → BoundedBy t (record { board = board; atoms = a }) floor → Standing t a total total board board floor ss
-stand-first total v r f = record { most = omega arith; variables = v; ready = r; bounded = f; counts = omega arith }
+    → BoundedBy t (record { board = board; atoms = a }) floor → Standing t a total 0 board board floor ss
+stand-first total v r f = record { variables = v; ready = r; bounded = f; counts = rw sub-zero (omega arith) }
 
 -- what a round of turns counts: no more, if no further one is begun, or what the board counts that it begins with
 no_further : (still : Bool) (found : Option Board) (next : Board) (more : Board → ℕ) → further_from still found next ≡ none → unless_still still found next more ≡ 0
@@ -146,36 +146,40 @@ left-by-bound bounded before h k =
     let most = onward-at-most bounded.above.afresh bounded.low k in
     sym (no_larger (omega (arith, most, h, bounded.lowest)))
 
-module _ {t : Table} {a : Atoms} {total left : ℕ} {first board floor : Sets} {ss zs : List SignSet} {r : OfBoard}
-    (s : Standing t a total left first board floor ss) (some_left : 0 < left) (on : TurnedOn t a board floor r zs) where
-  pub stand-rest : r.found ≡ false → total - (left - 1) ≡ turned_rounds t.variables (atoms_of t a) total (sets_of first)
+module _ {t : Table} {a : Atoms} {total ended : ℕ} {first board floor : Sets} {ss zs : List SignSet} {r : OfBoard}
+    (s : Standing t a total ended first board floor ss) (more : ended < total) (on : TurnedOn t a board floor r zs) where
+  some_left : 0 < total - ended
+  some_left = omega arith
+
+  pub stand-rest : r.found ≡ false → ended + 1 ≡ turned_rounds t.variables (atoms_of t a) total (sets_of first)
   unfolding when_found
   stand-rest e =
-      let last = last-round t.variables (atoms_of t a) (sets_of board) left some_left (sym on.found ∙ rw e) in
-      omega (arith, last, s.counts, s.most, some_left)
+      let last = last-round t.variables (atoms_of t a) (sets_of board) (total - ended) some_left (sym on.found ∙ rw e) in
+      omega (arith, last, s.counts)
 
-  pub stand-on : r.found ≡ true → Standing t a total (left - 1) first r.board floor zs
+  pub stand-on : r.found ≡ true → Standing t a total (ended + 1) first r.board floor zs
   unfolding when_found
   stand-on e =
-      let more = one-round t.variables (atoms_of t a) (sets_of board) left some_left {found = sets_of r.board} (sym on.found ∙ rw e) in
+      let less : total - ended - 1 ≡ total - (ended + 1) = omega arith in
+      let one = rw less at (one-round t.variables (atoms_of t a) (sets_of board) (total - ended) some_left {found = sets_of r.board} (sym on.found ∙ rw e)) in
       record {
-        most = omega (arith, s.most);
         variables = on.variables;
         ready = on.ready;
         bounded = on.bounded;
-        counts = omega (arith, more, s.counts, s.most, some_left);
+        counts = omega (arith, one, s.counts);
       }
 
-module _ {t : Table} {a : Atoms} {total left : ℕ} {first board floor : Sets} {ss : List SignSet} (s : Standing t a total left first board floor ss) where
-  pub stand-last : left ≡ 0 → total ≡ turned_rounds t.variables (atoms_of t a) total (sets_of first)
+module _ {t : Table} {a : Atoms} {total ended : ℕ} {first board floor : Sets} {ss : List SignSet} (s : Standing t a total ended first board floor ss) where
+  pub stand-last : ended ≡ total → total ≡ turned_rounds t.variables (atoms_of t a) total (sets_of first)
   unfolding turned_rounds
   stand-last e =
-      let none_left : turned_rounds t.variables (atoms_of t a) left (sets_of board) ≡ 0 = rw e in
-      omega (arith, none_left, s.counts)
+      let none : total - ended ≡ 0 = omega arith in
+      let none_left : turned_rounds t.variables (atoms_of t a) (total - ended) (sets_of board) ≡ 0 = rw none in
+      omega (arith, none_left, s.counts, e)
 
-  pub stand-left : (before : ℕ) {largest : ℕ} → before + (total - left) + spare_all (sets_of board) < largest + spare_all (sets_of floor)
+  pub stand-left : (before : ℕ) {largest : ℕ} → before + ended + spare_all (sets_of board) < largest + spare_all (sets_of floor)
       → largest ≡ max largest (before + turned_rounds t.variables (atoms_of t a) total (sets_of first))
   stand-left before {largest} h =
-      let all : before + (total - left) + turned_rounds t.variables (atoms_of t a) left (sets_of board) ≡ before + turned_rounds t.variables (atoms_of t a) total (sets_of first) =
+      let all : before + ended + turned_rounds t.variables (atoms_of t a) (total - ended) (sets_of board) ≡ before + turned_rounds t.variables (atoms_of t a) total (sets_of first) =
       omega (arith, s.counts) in
-      left-by-bound s.bounded (before + (total - left)) h left ∙ ap (max largest) all
+      left-by-bound s.bounded (before + ended) h (total - ended) ∙ ap (max largest) all

@@ -1,8 +1,8 @@
 -- A run that cuts no atom, from the state that it settled in: the atoms of the start have their settled sets, and its rounds are counted on the board.
 use mathlib.Core.Path.{◌≡◌, refl, sym, ◌∙◌, ap, ap₂, subst}
-use mathlib.Core.Bool.{Bool, true, false, false≢true}
-use mathlib.Core.List.{List, [], ◌∷◌, map}
-use Prim.Native.Nat.{ℕ, zero, suc}
+use mathlib.Core.Bool.{true, false, false≢true}
+use mathlib.Core.List.{List, [], ◌∷◌}
+use Prim.Native.Nat.{ℕ}
 use native.Mathlib.Omega.{arith}
 use lib.Dec.{eqb}
 use lib.IntN.{ℤ}
@@ -19,14 +19,14 @@ use Rattle.count_laws.specs.Boards.{turned_rounds, counted-by-turns}
 use Rattle.terms.specs.View.{numbers_from}
 use Rattle.terms.specs.View.{sets_of as board_of}
 use Rattle.table.specs.declared.Atoms.{Atoms}
-use Rattle.table.specs.Table.{Table, atoms_from, atoms_of, many}
+use Rattle.table.specs.Table.{Table, atoms_of, many}
 use Rattle.round.specs.declared.State.{State}
 use Rattle.round.specs.Views.{table_of, state_of}
 use Rattle.rounds.specs.declared.Ran.{Ran}
 use Rattle.rounds.specs.declared.Counted.{Counted}
 use Rattle.rounds.specs.Ended.{Ended}
 use Rattle.rounds.specs.Bounded.{BoundedBy, bounded-settled}
-use Rattle.rounds.specs.Run.{polynomials_of, NonVariable, RunOf, CountedRun, Uncut}
+use Rattle.rounds.specs.Run.{polynomials_of, RunOf, CountedRun, Uncut}
 use Rattle.rounds.proofs.Ends.{sets-are, length-atoms, ended-over}
 use Rattle.rounds.proofs.Standing.{bounded-over}
 use Rattle.rounds.proofs.Beginnings.{started-low}

@@ -1,8 +1,8 @@
 -- What rounds run afresh start from: some of the atoms that carry the sets of a state that rounds settled in.
 -- And sets at which no pair finds anything of a variable, on each board above the settled one (02, #111).
-use Rattle.std.specs.Prelude.{◌≡◌, refl, false, List, [], ◌∷◌, ℕ, zero, suc, ◌<◌, ◌≤◌, eqb, get_or}
-use Rattle.std.proofs.Common.{sym, ◌∙◌, ap, arith, lit<, eq-eqb}
-use Rattle.rules.specs.Signs.{SignSet, empty, full}
+use Rattle.std.specs.Prelude.{◌≡◌, false, List, [], ◌∷◌, ℕ, zero, suc, ◌≤◌, eqb, get_or}
+use Rattle.std.proofs.Common.{◌∙◌, arith, lit<, eq-eqb}
+use Rattle.rules.specs.Signs.{empty, full}
 use Rattle.rules.specs.Polynomial.{Atom}
 use Rattle.rules.specs.Polynomial.{Board as Sets}
 use Rattle.rules.specs.Deduce.{any_empty}

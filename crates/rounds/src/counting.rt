@@ -21,7 +21,7 @@ use terms::{Board, few};
 pub fn larger(a: usize, b: usize) -> usize
     ensures { result ≡ max a b }
 {
-    if a < b { b } else { a }
+    a.max(b)
 }
 
 // How many signs a set can lose and still have one.
@@ -29,10 +29,7 @@ fn spare(set: u8) -> usize
     ensures { (result ≡ spare_of set) × (result ≤ 2) }
 {
     let size = (set / 4 % 2) + (set / 2 % 2) + (set % 2);
-    if size == 0 {
-        return 0;
-    }
-    (size - 1) as usize
+    size.saturating_sub(1) as usize
 }
 
 // The same of the first n sets together.
@@ -41,11 +38,8 @@ pub fn spares(sets: &[u8], n: usize) -> usize
     ensures { (result ≡ spare_all (numbers_from sets.now 0 n)) × (result ≤ 32) }
 {
     let mut sum = 0;
-    let mut i = 0;
-    while i < n {
-        let set = sets[i];
-        i += 1;
-        sum += spare(set);
+    for set in &sets[..n] {
+        sum += spare(*set);
     }
     sum
 }

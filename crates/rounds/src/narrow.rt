@@ -64,12 +64,13 @@ pub fn narrowed(
         floor,
         order,
     );
-    let left = passed.board;
-    let turns = passed.order;
     Beginning {
         still: passed.still,
-        state: State { board: left, atoms },
-        order: turns,
+        state: State {
+            board: passed.board,
+            atoms,
+        },
+        order: passed.order,
     }
 }
 
@@ -85,18 +86,16 @@ fn settling(
     floor: Board,
     order: Order,
 ) -> Passed
-    requires fact { let t = lent_table coefficient monomial terms board.variables in
+    requires forms { let t = lent_table coefficient monomial terms board.variables in
         Forms t × (length sign.old ≡ 1280) }
-    requires fact_2 { let t = lent_table coefficient monomial terms board.variables in
+    requires above_floor { let t = lent_table coefficient monomial terms board.variables in
         AboveFloor t (record { board = board; atoms = atoms }) floor × Floor board.variables (atoms_of t atoms) (sets_of board) (sets_of floor) }
     ensures { let t = lent_table coefficient.entry monomial.entry terms.entry board.variables in
         Settling t atoms board result }
 {
     let mut at = board;
     let mut turns = order;
-    let mut left = 2 * board.variables + 1;
-    while 0 < left {
-        left -= 1;
+    for _ in 0..2 * board.variables + 1 {
         let passed = ahead(coefficient, monomial, terms, sign, at, atoms, floor, turns);
         if !passed.still {
             return passed;
@@ -146,12 +145,13 @@ fn settled_start(
         floor,
         order,
     );
-    let left = passed.board;
-    let turns = passed.order;
     Beginning {
         still: passed.still,
-        state: State { board: left, atoms },
-        order: turns,
+        state: State {
+            board: passed.board,
+            atoms,
+        },
+        order: passed.order,
     }
 }
 

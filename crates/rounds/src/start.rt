@@ -62,11 +62,9 @@ pub fn start(
         number: [0; 64],
         set: [0; 64],
     };
-    let mut i = 0;
-    while i < end {
+    for i in 0..end {
         let number = list.number[i];
         let set = list.set[i];
-        i += 1;
         let k = (number % 64) as usize;
         let holds = which(coefficient, monomial, terms, variables, k);
         board = placed(board, holds, SignSet(set));

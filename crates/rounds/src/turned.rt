@@ -79,11 +79,9 @@ pub fn turned_largest(
     let enough = 2 * (board.variables + many(atoms.count)) + 1;
     let mut sign = [0u8; 1280];
     sign_list(board, monomial, terms, atoms, &mut sign);
-    let mut left = enough;
     let mut stood = board;
-    while 0 < left {
-        left -= 1;
-        let begun = before + (enough - left);
+    for ended in 0..enough {
+        let begun = before + ended + 1;
         let onward = turned_round(coefficient, monomial, terms, &mut sign, stood, atoms, floor);
         if !onward.found {
             return larger(largest, begun);

@@ -12,31 +12,25 @@ ghost use Rattle.rounds.specs.Run.{NonVariable};
 
 use block::Held;
 use forms::WorkingTable;
-use frames::Kind;
+use frames::answer_each;
 use round::State;
 use round::list::many;
 use std::io;
-use std::io::{Read, Write};
+use std::io::Write;
 use table::Atoms;
 
 // The list: the tokens behind the AND.
 fn list_of(held: Held) -> Atoms {
     let token = held.token;
-    let tokens = held.tokens;
+    let count = held.tokens.saturating_sub(1).min(64);
     let mut number = [0u8; 64];
     let mut set = [0u8; 64];
-    let mut i = 0;
-    while i < 64 && i + 1 < tokens {
+    for i in 0..count {
         let atom = token[i + 1];
         number[i] = (atom / 8 % 64) as u8;
         set[i] = (atom % 8) as u8;
-        i += 1;
     }
-    Atoms {
-        count: i,
-        number,
-        set,
-    }
+    Atoms { count, number, set }
 }
 
 // So many sets as digits, behind a space.
@@ -145,40 +139,18 @@ fn tell_rounds<W: Write>(out: &mut W, held: Held) -> io::Result<()>
 }
 
 fn tell<W: Write>(out: &mut W, block: &[u8]) -> io::Result<()> {
-    let outcome = block::read(block);
-    if outcome.refusal != 0 {
+    let Ok(held) = block::read(block) else {
         return out.write_all(b"REFUSED\n");
-    }
-    tell_rounds(out, outcome.held)
+    };
+    tell_rounds(out, held)
 }
 
-// One frame; whether there may be more.
-fn one<R: Read, W: Write>(input: &mut R, out: &mut W, space: &mut [u8]) -> io::Result<bool> {
-    let frame = frames::next(input, space)?;
-    let n = frame.length;
-    let kind = frame.kind;
-    match kind {
-        Kind::Block => {
-            tell(out, &space[..n])?;
-            Ok(true)
-        }
-        Kind::CutOff => {
-            out.write_all(b"CUT OFF\n")?;
-            Ok(false)
-        }
-        Kind::End => Ok(false),
-    }
-}
-
-// A proved loop has to end, and nothing says that standard input does: the turns are counted up to a number that no run reaches.
 fn main(rt: HostRuntime) -> io::Result<()> {
-    let mut input = rt.stdin();
-    let mut out = rt.stdout();
     let mut space = [0u8; 65536];
-    for _ in 0..u64::MAX {
-        if !one(&mut input, &mut out, &mut space)? {
-            break;
-        }
-    }
-    Ok(())
+    answer_each(
+        &mut rt.stdin(),
+        &mut rt.stdout(),
+        &mut space,
+        |out, block| tell(out, block),
+    )
 }

@@ -1,6 +1,6 @@
 -- What the entries say: what is returned, and what the lent text holds afterwards, is what the book tells of the bytes.
 -- And what was read stands in the arrays as the script's writer asks for it.
-use Rattle.std.specs.Prelude.{Bool, true, false, List, ◌++◌, ◌≡◌, ℕ, ◌+◌, ◌<◌, ◌≤◌, leb, ℤ, pos, length, take, drop, replicate}
+use Rattle.std.specs.Prelude.{Bool, true, false, Result, Ok, Err, List, ◌++◌, ◌≡◌, ℕ, ◌+◌, ◌<◌, ◌≤◌, leb, ℤ, pos, length, take, drop, replicate}
 use Rattle.std.proofs.Math.Path.{refl, ap, subst}
 use Rattle.std.proofs.Common.{sym, ◌∙◌, zero-add, arith, le-leb, length-append}
 use Rattle.std.proofs.lemmas.Bool.{lt-leb}
@@ -15,7 +15,8 @@ use Rattle.block_laws.specs.Blocks.{accepted-within, accepted-below-32768, reads
 use Rattle.length_laws.specs.NewWithin.{new-within}
 use Rattle.block.specs.declared.Held.{Held}
 use Rattle.block.specs.declared.Contents.{Contents}
-use Rattle.block.specs.declared.Contents.TheVariants.{Refused as NoBlock, Numbers}
+use Rattle.block.specs.declared.Refusal.{Refusal as BlockRefusal}
+use Rattle.block.specs.Refusals as reader
 use Rattle.block.specs.Held.{held_by, held_over}
 use Rattle.block.specs.Steps.{ContentsOf, ContentsFound}
 use Rattle.writer.specs.Written.{PartsHeld}
@@ -25,7 +26,8 @@ use Rattle.array_laws.specs.Writing.{stored-holds}
 use Rattle.answer.specs.declared.Verdict.{Verdict}
 use Rattle.answer.specs.declared.Counts.{Counts}
 use Rattle.answer.specs.declared.Answer.{Answer}
-use Rattle.answer.specs.declared.Answer.TheVariants.{Refused as NoAnswer, Answered}
+use Rattle.answer.specs.declared.Refusal.{Refusal as AnswerRefusal}
+use Rattle.answer.specs.Refusals as simplifier
 use Rattle.answer.specs.Answered.{answer_of, length_in, answer-accepted}
 use Rattle.answer.specs.Entry.{Answers}
 use Rattle.lines.specs.Written.{Wrote, front-whole, front-end}
@@ -33,29 +35,30 @@ use Rattle.rules.specs.Text.{script_of}
 use Rattle.script_laws.specs.Length.{script-length}
 use Rattle.rules.specs.Scripts.{Scripted, refused_by, scripted, unless_longer, script_within, script_read, simplified_read, script_answer, script_written, script_number}
 use Rattle.script_text.specs.Tree.{Table, Stands, SomeStands}
-use Rattle.script.specs.declared.Outcome.{Outcome}
-use Rattle.script.specs.declared.Outcome.TheVariants.{Refused, Written}
+use Rattle.script.specs.declared.Refusal.{Refusal}
+use Rattle.script.specs.declared.Refusal.TheVariants.{TextShort}
+use Rattle.script.specs.Refusals.{number_of, by_number}
 
--- What the book tells, as the code returns it.
-unfoldable pub script_in : Scripted → Outcome
-script_in (refused_by number) = Refused number
-script_in (scripted bytes) = Written (length bytes)
+-- What the book tells, as the code returns it, by the refusal's number.
+unfoldable pub script_in : Scripted → Result ℕ ℕ
+script_in (refused_by number) = Err number
+script_in (scripted bytes) = Ok (length bytes)
 
-pub record Tells (told : Scripted) (before after : List ℕ) (r : Outcome) : Type 0 where
-  pub returns : r ≡ script_in told
+pub record Tells (told : Scripted) (before after : List ℕ) (r : Result ℕ Refusal) : Type 0 where
+  pub returns : by_number r ≡ script_in told
   pub text : after ≡ script_written told before
 
 -- ---- the script of a block that the arrays hold
 
 module _ (block : Block) (before : List ℕ) where
-  pub tells-long : length before < length (script_of block) → Tells (script_within (length before) block) before before (Refused 24)
+  pub tells-long : length before < length (script_of block) → Tells (script_within (length before) block) before before (Err TextShort)
   unfolding script_within unless_longer script_in script_written
   tells-long h = rw (lt-leb (length (script_of block)) (length before) h) (record { returns = refl; text = refl })
 
   pub tells-script : {after : List ℕ} {size next : ℕ} → size ≡ length (script_of block) → length (script_of block) ≤ length before
-      → Wrote before after 0 (script_of block) next → Tells (script_within (length before) block) before after (Written size)
+      → Wrote before after 0 (script_of block) next → Tells (script_within (length before) block) before after (Ok size)
   unfolding script_within unless_longer script_in script_written
-  tells-script e h w = rw (le-leb (length (script_of block)) (length before) h) (record { returns = ap Written e; text = front-whole h w })
+  tells-script e h w = rw (le-leb (length (script_of block)) (length before) h) (record { returns = ap Ok e; text = front-whole h w })
 
 pub measured : (block : Block) {before after : List ℕ} {size : ℕ} → Wrote before after 0 (script_of block) size → size ≡ length (script_of block)
 measured block w = w.behind ∙ zero-add (length (script_of block))
@@ -73,19 +76,19 @@ pub record SomeRead (bytes : List ℕ) : Type 0 where
   pub stream : Stream
   pub accepted : read_block bytes ≡ read given stream
 
-module _ {bytes : List ℕ} {cs : List ℤ} {ms ts token : List ℕ} {contents : Contents}
+module _ {bytes : List ℕ} {cs : List ℤ} {ms ts token : List ℕ} {contents : Result Contents BlockRefusal}
     (found : ContentsFound bytes (replicate 1024 (pos 0)) cs (replicate 1024 0) ms (replicate 64 0) ts (replicate 255 0) token contents) where
-  pub found-refused : {number : ℕ} → contents ≡ NoBlock number → read_block bytes ≡ refused number
+  pub found-refused : {refusal : BlockRefusal} → contents ≡ Err refusal → read_block bytes ≡ refused (reader.number_of refusal)
   unfolding ContentsOf
   found-refused e = (rw e at found).found
 
-  pub found-read : {variables polynomials root count : ℕ} → contents ≡ Numbers variables polynomials root count → SomeRead bytes
+  pub found-read : {given : Contents} → contents ≡ Ok given → SomeRead bytes
   unfolding ContentsOf
   found-read e = let stored = (rw e at found).found in record { given = stored.block; stream = stored.rest; accepted = stored.reading }
 
-  pub found-standing : {variables polynomials root count : ℕ} → contents ≡ Numbers variables polynomials root count → Standing bytes variables root cs ms ts token
+  pub found-standing : {given : Contents} → contents ≡ Ok given → Standing bytes given.variables given.root cs ms ts token
   unfolding ContentsOf
-  found-standing {variables} {polynomials} {root} {count} e =
+  found-standing {given} e =
       let stored = (rw e at found).found in
       let block = stored.block in
       let within : BlockWithin block = accepted-within bytes stored.reading in
@@ -109,11 +112,11 @@ module _ {bytes : List ℕ} {cs : List ℤ} {ms ts token : List ℕ} {contents :
 
 -- ---- the script of a block in bytes
 
-pub tells-refused : (room : ℕ) {reading : Reading Block} {number : ℕ} {text : List ℕ} → reading ≡ refused number → Tells (script_read room reading) text text (Refused number)
+pub tells-refused : (room : ℕ) {reading : Reading Block} {refusal : Refusal} {text : List ℕ} → reading ≡ refused (number_of refusal) → Tells (script_read room reading) text text (Err refusal)
 unfolding script_read script_in script_written
 tells-refused room e = rw e (record { returns = refl; text = refl })
 
-pub tells-read : (room : ℕ) {reading : Reading Block} {block : Block} {stream : Stream} {before after : List ℕ} {r : Outcome} → reading ≡ read block stream
+pub tells-read : (room : ℕ) {reading : Reading Block} {block : Block} {stream : Stream} {before after : List ℕ} {r : Result ℕ Refusal} → reading ≡ read block stream
     → Tells (script_within room block) before after r → Tells (script_read room reading) before after r
 unfolding script_read
 tells-read room e t = rw e t
@@ -124,11 +127,11 @@ pub simplified-refused : (bytes : List ℕ) {number : ℕ} → read_block bytes 
 unfolding simplified_read
 simplified-refused bytes e = rw e refl
 
-IsAnswered : Answer → Type 0
-IsAnswered (NoAnswer number) = ⊥
-IsAnswered (Answered verdict length counts) = Unit {0}
+IsAnswered : Result Answer ℕ → Type 0
+IsAnswered (Err number) = ⊥
+IsAnswered (Ok answer) = Unit {0}
 
-module _ {bytes before after : List ℕ} {returned : Answer} (long : length before ≡ 32768) (given : SomeRead bytes) (answers : Answers bytes before after returned) where
+module _ {bytes before after : List ℕ} {returned : Result Answer AnswerRefusal} (long : length before ≡ 32768) (given : SomeRead bytes) (answers : Answers bytes before after returned) where
   enough : length bytes ≤ length before
   enough = omega (arith, long, accepted-below-32768 bytes given.accepted)
 
@@ -142,31 +145,31 @@ module _ {bytes before after : List ℕ} {returned : Answer} (long : length befo
   abbrev its-answer : book.Answer
   its-answer = book.answered (book.verdict_of (book.simplified given.given)) new-bytes (book.counts_of given.given new)
 
-  is-answered : returned ≡ answer_of its-answer
+  is-answered : simplifier.by_number returned ≡ answer_of its-answer
   is-answered = answers.returns ∙ ap answer_of (answer-accepted (length before) bytes enough given.accepted)
 
-  pub never-refused : {number : ℕ} → returned ≡ NoAnswer number → ⊥
+  pub never-refused : {refusal : AnswerRefusal} → returned ≡ Err refusal → ⊥
   unfolding answer_of IsAnswered
-  never-refused e = subst IsAnswered (sym is-answered ∙ e) tt
+  never-refused e = subst IsAnswered (sym is-answered ∙ ap simplifier.by_number e) tt
 
-  module _ {verdict : Verdict} {size : ℕ} {counts : Counts} (e : returned ≡ Answered verdict size counts) where
-    its-size : size ≡ length new-bytes
+  module _ {answer : Answer} (e : returned ≡ Ok answer) where
+    its-size : answer.length ≡ length new-bytes
     unfolding answer_of
-    its-size = ap length_in (sym e ∙ is-answered)
+    its-size = ap length_in (sym (ap simplifier.by_number e) ∙ is-answered)
 
     its-output : after ≡ new-bytes ++ drop (length new-bytes) before
     unfolding written
     its-output = answers.output ∙ ap (λ (a : book.Answer). written a before) (answer-accepted (length before) bytes enough given.accepted)
 
     -- The answer is the output's first part,
-    pub answer-inside : size ≤ length after
+    pub answer-inside : answer.length ≤ length after
     answer-inside = rw (its-size, its-output, length-append new-bytes (drop (length new-bytes) before)) (omega arith)
 
-    answer-part : take size after ≡ new-bytes
+    answer-part : take answer.length after ≡ new-bytes
     answer-part = rw (its-size, its-output) (take-append_seam new-bytes (drop (length new-bytes) before))
 
     -- and its script is told.
-    pub tells-answer : (room : ℕ) {first last : List ℕ} {r : Outcome} → Tells (script_read room (read_block (take size after))) first last r
+    pub tells-answer : (room : ℕ) {first last : List ℕ} {r : Result ℕ Refusal} → Tells (script_read room (read_block (take answer.length after))) first last r
         → Tells (script_read room (simplified_read (read_block bytes))) first last r
     unfolding script_read simplified_read
     tells-answer room t =
@@ -175,13 +178,13 @@ module _ {bytes before after : List ℕ} {returned : Answer} (long : length befo
 
 -- ---- one number for C
 
-unfoldable pub size_in : Outcome → ℕ
-size_in (Refused number) = 0
-size_in (Written size) = size
+unfoldable pub size_in : Result ℕ ℕ → ℕ
+size_in (Err number) = 0
+size_in (Ok size) = size
 
-unfoldable pub number_in : Outcome → ℕ
-number_in (Refused number) = number
-number_in (Written size) = 65536 + size
+unfoldable pub number_in : Result ℕ ℕ → ℕ
+number_in (Err number) = number
+number_in (Ok size) = 65536 + size
 
 within-small : (room : ℕ) (block : Block) → BlockWithin block → size_in (script_in (script_within room block)) ≤ 2024782
 unfolding size_in script_in script_within unless_longer

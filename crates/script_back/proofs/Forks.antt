@@ -2,26 +2,24 @@
 use mathlib.Core.Bool.{Bool, true, false, ◌||◌, ◌&&◌, false≢true}
 use mathlib.Core.List.{List, [], ◌∷◌, ◌++◌}
 use mathlib.Core.Path.{◌≡◌, refl, sym, ap, ◌∙◌}
-use Prim.Native.Nat.{ℕ, zero, suc, ◌+◌, ◌-◌, ◌<◌, ◌≤◌}
+use Prim.Native.Nat.{ℕ, suc, ◌+◌, ◌-◌, ◌<◌, ◌≤◌}
 use native.Mathlib.Omega.{arith}
-use borrow.Author.Tests.{lt-ltb, le-ltb, eq-eqb, ne_eqb, eqb-true, eqb-false, ltb-true, ltb-false}
+use borrow.Author.Tests.{lt-ltb, eq-eqb, ne_eqb, eqb-true, eqb-false, ltb-true}
 use lib.Dec.{eqb, ltb}
 use lib.ListN.{length, drop, get_or, length-append}
 use lib.Seq.{get_or-drop}
-use Rattle.rules.specs.Block.{Block}
 use Rattle.rules.specs.Reader.{Reader, give, stuck, ask}
 use Rattle.rules.specs.Combine.{given, say, ◌union◌, one_of, open_combine}
 use Rattle.rules.specs.Text.{bytes, letter, declaration}
 use Rattle.rules.specs.Reading.{choice, root, declarations_from}
 use Rattle.script_laws.specs.Steps.{Part, got, stop, read_part, and_then}
 use Rattle.script_polynomial.specs.At.{read_at}
-use Rattle.script_back.specs.Runs.{just, Stand, SaidBy, Said}
-use Rattle.script_back.specs.Whole.{all_declared, AllDeclared, DeclaredBy, DeclaredFound}
-use Rattle.script_back.specs.declared.runs.Step.{Step}
-use Rattle.script_back.specs.declared.runs.Step.TheVariants.{Stopped as NotSaid, Read as IsSaid}
+use Rattle.script_back.specs.Runs.{just, SaidBy, Said}
+use Rattle.script_back.specs.Whole.{all_declared, DeclaredBy, DeclaredFound}
 use Rattle.script_back.specs.declared.declarations.Declared.{Declared}
-use Rattle.script_back.specs.declared.declarations.Declared.TheVariants.{Stopped as NotDeclared, Read as IsDeclared}
 use Rattle.script_back.proofs.Positions.{say-then, first_byte, byte_at, stands-inside}
+use Rattle.std.specs.Prelude.{Result, Ok, Err}
+use Rattle.script_polynomial.specs.declared.Stop.{Stop}
 
 one-back : (p : ℕ) → suc p - 1 ≡ p
 one-back p = omega arith
@@ -39,18 +37,18 @@ say-append p (c ∷ xs) ys r (b ∷ t) = by-test (eqb b c) (say-append (suc p) x
     by-test true later = later
     by-test false later = refl
 
-module _ {text : List ℕ} {at : ℕ} {xs : List ℕ} (ys : List ℕ) {step : Step} (h : Said text at xs step) where
+module _ {text : List ℕ} {at : ℕ} {xs : List ℕ} (ys : List ℕ) {step : Result ℕ Stop} (h : Said text at xs step) where
   both_runs : read_at text at (just (xs ++ ys)) ≡ and_then (read_at text at (just xs)) (λ x q u. read_part q (just ys) u)
   both_runs = say-append at xs ys (give 0) (drop at text) ∙ say-then at xs (just ys) (drop at text)
 
-  pub said-stops : {position : ℕ} → step ≡ NotSaid position → Said text at (xs ++ ys) (NotSaid position)
+  pub said-stops : {halt : Stop} → step ≡ Err halt → Said text at (xs ++ ys) (Err halt)
   unfolding SaidBy and_then
   said-stops e = record { by_step = both_runs ∙ ap (λ (x : Part ℕ). and_then x (λ x q u. read_part q (just ys) u)) (rw e at h).by_step }
 
-  pub said-both : {next : ℕ} {last : Step} → step ≡ IsSaid next → Said text next ys last → Said text at (xs ++ ys) last
+  pub said-both : {next : ℕ} {last : Result ℕ Stop} → step ≡ Ok next → Said text next ys last → Said text at (xs ++ ys) last
   unfolding SaidBy and_then
-  said-both {last = NotSaid position} e g = record { by_step = both_runs ∙ ap (λ (x : Part ℕ). and_then x (λ x q u. read_part q (just ys) u)) (rw e at h).by_step.reading ∙ g.by_step }
-  said-both {last = IsSaid behind} e g =
+  said-both {last = Err halt} e g = record { by_step = both_runs ∙ ap (λ (x : Part ℕ). and_then x (λ x q u. read_part q (just ys) u)) (rw e at h).by_step.reading ∙ g.by_step }
+  said-both {last = Ok behind} e g =
       let first = (rw e at h).by_step in
       let second = g.by_step in
       record {
@@ -64,7 +62,7 @@ module _ {text : List ℕ} {at : ℕ} {xs : List ℕ} (ys : List ℕ) {step : St
 -- ---- one byte and a run
 
 module _ (text : List ℕ) (at c : ℕ) (ys : List ℕ) where
-  pub byte-stops : (get_or text at 0 ≡ c → ⊥) → Said text at (c ∷ ys) (NotSaid at)
+  pub byte-stops : (get_or text at 0 ≡ c → ⊥) → Said text at (c ∷ ys) (Err (record { at = at }))
   unfolding SaidBy read_part open_combine
   byte-stops unlike = record { by_step = by-list (drop at text) (λ e. unlike (sym (byte_at text at) ∙ e)) }
     where
@@ -72,11 +70,11 @@ module _ (text : List ℕ) (at c : ℕ) (ys : List ℕ) where
       by-list [] h = refl
       by-list (b ∷ t) h = rw (ne_eqb b c h, read_part) (ap stop (one-back at))
 
-  pub byte-said : {last : Step} → 0 < c → get_or text at 0 ≡ c → Said text (at + 1) ys last → Said text at (c ∷ ys) last
+  pub byte-said : {last : Result ℕ Stop} → 0 < c → get_or text at 0 ≡ c → Said text (at + 1) ys last → Said text at (c ∷ ys) last
   unfolding SaidBy read_part open_combine
-  byte-said some e g = said-both ys {step = IsSaid (at + 1)} one_byte refl g
+  byte-said some e g = said-both ys {step = Ok (at + 1)} one_byte refl g
     where
-      one_byte : Said text at (c ∷ []) (IsSaid (at + 1))
+      one_byte : Said text at (c ∷ []) (Ok (at + 1))
       one_byte = record {
         by_step = record {
           reading = ap (read_part at (just (c ∷ []))) (first_byte text at c e some) ∙ rw (eq-eqb c c refl, read_part) (ap (λ (q : ℕ). got 0 q (drop (at + 1) text)) (omega arith));
@@ -190,7 +188,7 @@ no_more text at i most e = by-test (eqb i 16) refl e
 
 -- ---- what the code finds
 
-pub said-inside : {text : List ℕ} {at : ℕ} {run : List ℕ} {step : Step} → Said text at run step → {next : ℕ} → step ≡ IsSaid next → next ≤ length text
+pub said-inside : {text : List ℕ} {at : ℕ} {run : List ℕ} {step : Result ℕ Stop} → Said text at run step → {next : ℕ} → step ≡ Ok next → next ≤ length text
 unfolding SaidBy
 said-inside h e = (rw e at h).by_step.inside
 
@@ -205,15 +203,15 @@ module _ (text : List ℕ) (at i : ℕ) where
   pub by-second : (i ≡ 16 → ⊥) → (i ≡ 0 → ⊥) → {second : ℕ} → second ≡ get_or text (at + 1) 0 → eqb second 97 ≡ all_declared text at i
   by-second last none e = let some : 0 < i = omega arith in rw (ne_eqb i 16 last, lt-ltb 0 i some, e)
 
-module _ {text : List ℕ} {at i : ℕ} {step : Step} where
+module _ {text : List ℕ} {at i : ℕ} {step : Result ℕ Stop} where
   module _ (h : Said text at (bytes "(assert ") step) (last : NoMore text at i) where
-    pub assert-stops : {position : ℕ} → step ≡ NotSaid position → DeclaredFound text at i (NotDeclared position)
+    pub assert-stops : {halt : Stop} → step ≡ Err halt → DeclaredFound text at i (Err halt)
     unfolding DeclaredBy SaidBy and_then
     assert-stops e = record {
       by_declared = last.reading ∙ say-then at (bytes "(assert ") (root i) (drop at text) ∙ ap (λ (x : Part ℕ). and_then x (λ x q u. read_part q (root i) u)) (rw e at h).by_step;
     }
 
-    pub assert-reads : {next : ℕ} → i ≤ 16 → step ≡ IsSaid next → DeclaredFound text at i (IsDeclared i next)
+    pub assert-reads : {next : ℕ} → i ≤ 16 → step ≡ Ok next → DeclaredFound text at i (Ok (record { variables = i; next = next }))
     unfolding DeclaredBy SaidBy and_then
     assert-reads most e =
         let stand = (rw e at h).by_step in
@@ -227,18 +225,18 @@ module _ {text : List ℕ} {at i : ℕ} {step : Step} where
         }
 
   module _ (h : Said text at (declaration i) step) (more : OneMore text at i) where
-    pub declaration-stops : {position : ℕ} → step ≡ NotSaid position → DeclaredFound text at i (NotDeclared position)
+    pub declaration-stops : {halt : Stop} → step ≡ Err halt → DeclaredFound text at i (Err halt)
     unfolding DeclaredBy SaidBy and_then
     declaration-stops e = record {
       by_declared = more.reading ∙ say-then at (declaration i) (declarations_from (i + 1) (16 - (i + 1))) (drop at text) ∙ ap (λ (x : Part ℕ). and_then x (λ x q u. read_part q (declarations_from (i + 1) (16 - (i + 1))) u)) (rw e at h).by_step;
     }
 
-    pub declaration-reads : {next : ℕ} {declared : Declared} → step ≡ IsSaid next → DeclaredFound text next (i + 1) declared → DeclaredFound text at i declared
+    pub declaration-reads : {next : ℕ} {declared : Result Declared Stop} → step ≡ Ok next → DeclaredFound text next (i + 1) declared → DeclaredFound text at i declared
     unfolding DeclaredBy SaidBy and_then
-    declaration-reads {declared = NotDeclared position} e rest = record {
+    declaration-reads {declared = Err halt} e rest = record {
       by_declared = more.reading ∙ say-then at (declaration i) (declarations_from (i + 1) (16 - (i + 1))) (drop at text) ∙ ap (λ (x : Part ℕ). and_then x (λ x q u. read_part q (declarations_from (i + 1) (16 - (i + 1))) u)) (rw e at h).by_step.reading ∙ rest.by_declared;
     }
-    declaration-reads {declared = IsDeclared n behind} e rest =
+    declaration-reads {declared = Ok later} e rest =
         let all = rest.by_declared in
         record {
           by_declared = record {

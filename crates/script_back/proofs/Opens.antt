@@ -6,7 +6,7 @@ use Prim.Native.Nat.{ℕ, suc, ◌+◌, ◌-◌, ◌<◌, ◌≤◌}
 use native.Mathlib.Omega.{arith}
 use borrow.Author.Tests.{ne_eqb}
 use lib.Dec.{eqb}
-use lib.ListN.{length, drop, get_or}
+use lib.ListN.{drop, get_or}
 use Rattle.rules.specs.Polynomial.{Atom}
 use Rattle.rules.specs.Formula.{Node}
 use Rattle.rules.specs.Reader.{Reader, give, stuck, ask}
@@ -15,12 +15,11 @@ use Rattle.rules.specs.Text.{bytes, opening}
 use Rattle.script_laws.specs.Steps.{Part, stop, read_part, and_then}
 use Rattle.script_polynomial.specs.At.{read_at}
 use Rattle.script_back.specs.Runs.{SaidBy, Said}
-use Rattle.script_back.specs.Opening.{Further, one, one_given, either, any, Only, OnlyGiven, OfAtom, Allowed, Begins, OpenedBy, Opened}
-use Rattle.script_back.specs.declared.runs.Step.{Step}
-use Rattle.script_back.specs.declared.runs.Step.TheVariants.{Stopped as NotSaid, Read as IsSaid}
+use Rattle.script_back.specs.Opening.{Further, one, one_given, either, any, Only, OnlyGiven, OfAtom, Allowed, OpenedBy, Opened}
 use Rattle.script_back.specs.declared.opening.Opening.{Opening}
-use Rattle.script_back.specs.declared.opening.Opening.TheVariants.{Stopped, Found}
 use Rattle.script_back.proofs.Positions.{say-then, two_bytes, first_byte, byte_at}
+use Rattle.std.specs.Prelude.{Result, Ok, Err}
+use Rattle.script_polynomial.specs.declared.Stop.{Stop}
 
 one-back : (p : ℕ) → suc p - 1 ≡ p
 one-back p = omega arith
@@ -116,23 +115,23 @@ none-second false false further p (c ∷ t) other =
 -- ---- what the functions find
 
 -- What is found behind the first bytes is found of the whole.
-pub opened-by : {text : List ℕ} {at next : ℕ} {whole rest : Further → Reader (Node Atom)} {May May' : ℕ → Type 0} {o : Opening}
+pub opened-by : {text : List ℕ} {at next : ℕ} {whole rest : Further → Reader (Node Atom)} {May May' : ℕ → Type 0} {o : Result Opening Stop}
     → ((further : Further) → read_at text at (whole further) ≡ read_at text next (rest further)) → ((which : ℕ) → May which → May' which)
     → Opened text next rest May o → Opened text at whole May' o
 unfolding OpenedBy
-opened-by {o = Stopped position} e m h = record { by_opening = λ further. e further ∙ h.by_opening further }
-opened-by {o = Found which behind} e m h =
+opened-by {o = Err halt} e m h = record { by_opening = λ further. e further ∙ h.by_opening further }
+opened-by {o = Ok found} e m h =
     let b = h.by_opening in
-    record { by_opening = record { reading = λ further. e further ∙ b.reading further; inside = b.inside; may = m which b.may } }
+    record { by_opening = record { reading = λ further. e further ∙ b.reading further; inside = b.inside; may = m found.which b.may } }
 
-module _ {text : List ℕ} {at : ℕ} {run : List ℕ} {step : Step} (h : Said text at run step) (which : ℕ) where
-  pub beginning-stops : {position : ℕ} → step ≡ NotSaid position → Opened text at (one run which) (Only which) (Stopped position)
+module _ {text : List ℕ} {at : ℕ} {run : List ℕ} {step : Result ℕ Stop} (h : Said text at run step) (which : ℕ) where
+  pub beginning-stops : {halt : Stop} → step ≡ Err halt → Opened text at (one run which) (Only which) (Err halt)
   unfolding OpenedBy SaidBy and_then
   beginning-stops e = record {
     by_opening = λ further. say-then at run (further which) (drop at text) ∙ ap (λ (x : Part ℕ). and_then x (λ u q rest. read_part q (further which) rest)) (rw e at h).by_step;
   }
 
-  pub beginning-found : {next : ℕ} → step ≡ IsSaid next → Opened text at (one run which) (Only which) (Found which next)
+  pub beginning-found : {next : ℕ} → step ≡ Ok next → Opened text at (one run which) (Only which) (Ok (record { which = which; next = next }))
   unfolding OpenedBy SaidBy and_then
   beginning-found e =
       let stand = (rw e at h).by_step in
@@ -145,11 +144,11 @@ module _ {text : List ℕ} {at : ℕ} {run : List ℕ} {step : Step} (h : Said t
       }
 
 -- An AND or an OR that is not allowed.
-pub joining-stops : (text : List ℕ) (at : ℕ) {allowed : Bool} (run : List ℕ) (which : ℕ) → allowed ≡ false → Opened text at (one_given allowed run which) (OnlyGiven allowed which) (Stopped (at - 1))
+pub joining-stops : (text : List ℕ) (at : ℕ) {allowed : Bool} (run : List ℕ) (which : ℕ) → allowed ≡ false → Opened text at (one_given allowed run which) (OnlyGiven allowed which) (Err (record { at = at - 1 }))
 unfolding OpenedBy given read_part
 joining-stops text at run which e = record { by_opening = λ further. rw e }
 
-pub joining-goes-on : {text : List ℕ} {at : ℕ} {allowed : Bool} (run : List ℕ) {which : ℕ} {o : Opening} → allowed ≡ true → Opened text at (one run which) (Only which) o
+pub joining-goes-on : {text : List ℕ} {at : ℕ} {allowed : Bool} (run : List ℕ) {which : ℕ} {o : Result Opening Stop} → allowed ≡ true → Opened text at (one run which) (Only which) o
     → Opened text at (one_given allowed run which) (OnlyGiven allowed which) o
 unfolding given
 joining-goes-on run e h = opened-by (λ further. rw e) (λ found is. record { that = is.that; is_allowed = e }) h
@@ -170,7 +169,7 @@ unfolding read_part open_combine
 strict set further p [] h = refl
 strict set further p (b ∷ t) h = rw (ne_eqb b 61 h, read_part) (ap (λ (r : Reader (Node Atom)). read_part (suc p) r t) (union-none (given (eqb b 32) (further set))))
 
-module _ {text : List ℕ} {at set : ℕ} (some : 0 < set) (few : set ≤ 4) {o : Opening} where
+module _ {text : List ℕ} {at set : ℕ} (some : 0 < set) (few : set ≤ 4) {o : Result Opening Stop} where
   pub compared-zero : get_or text at 0 ≡ 61 → Opened text at (one (bytes "= ") (set + 2)) (Only (set + 2)) o → Opened text at (either set) OfAtom o
   compared-zero e h =
       let there = first_byte text at 61 e (omega arith) in
@@ -182,7 +181,7 @@ module _ {text : List ℕ} {at set : ℕ} (some : 0 < set) (few : set ≤ 4) {o 
 
 -- All beginnings by their first two bytes.
 module _ (text : List ℕ) (at : ℕ) (ands ors : Bool) where
-  pub node-stops : (get_or text at 0 ≡ 40 → ⊥) → Opened text at (any ands ors) (Allowed ands ors) (Stopped at)
+  pub node-stops : (get_or text at 0 ≡ 40 → ⊥) → Opened text at (any ands ors) (Allowed ands ors) (Err (record { at = at }))
   unfolding OpenedBy
   node-stops unlike = record { by_opening = λ further. none_first ands ors further at (drop at text) (λ e. unlike (sym (byte_at text at) ∙ e)) }
 
@@ -196,7 +195,7 @@ module _ (text : List ℕ) (at : ℕ) (ands ors : Bool) where
     of-atom : (found : ℕ) → 0 < found → found ≤ 6 → Allowed ands ors found
     of-atom found some few = record { some = some; most = omega arith; an_and = λ e. absurd (omega arith); an_or = λ e. absurd (omega arith) }
 
-    module _ {o : Opening} where
+    module _ {o : Result Opening Stop} where
       pub node-below : get_or text (at + 1) 0 ≡ 60 → Opened text (at + 2) (either 4) OfAtom o → Opened text at (any ands ors) (Allowed ands ors) o
       node-below e = opened-by (λ further. after_two 60 (any ands ors further) (either 4 further) e (omega arith) (below ands ors further at)) (λ found is. of-atom found is.some is.most)
 
@@ -217,7 +216,7 @@ module _ (text : List ℕ) (at : ℕ) (ands ors : Bool) where
       node-or e = opened-by (λ further. after_two 111 (any ands ors further) (one_given ors (bytes "r") 8 further) e (omega arith) (disjunction ands ors further at))
           (λ found is. record { some = omega (arith, is.that); most = omega (arith, is.that); an_and = λ e. absurd (omega (arith, is.that)); an_or = λ e. is.is_allowed })
 
-    pub node-other : NoSecond (get_or text (at + 1) 0) → Opened text at (any ands ors) (Allowed ands ors) (Stopped (at + 1))
+    pub node-other : NoSecond (get_or text (at + 1) 0) → Opened text at (any ands ors) (Allowed ands ors) (Err (record { at = at + 1 }))
     unfolding OpenedBy
     node-other other = record {
       by_opening = λ further.

@@ -8,14 +8,14 @@ use native.Mathlib.Omega.{arith}
 use borrow.Author.Tests.{ltb-true, ltb-false}
 use lib.Dec.{eqb, ltb}
 use lib.ListN.{length, drop, get_or, drop_of_length-le, get_or-eq_default}
-use lib.Seq.{drop-cons, get_or-drop, drop-drop}
-use Rattle.rules.specs.Reader.{Reader, give, stuck, ask}
+use lib.Seq.{drop-cons, get_or-drop}
+use Rattle.rules.specs.Reader.{Reader, give}
 use Rattle.rules.specs.Combine.{given, say}
-use Rattle.script_laws.specs.Steps.{Part, got, stop, read_part, and_then, part-said, part-unsaid}
+use Rattle.script_laws.specs.Steps.{stop, read_part, and_then, part-said, part-unsaid}
 use Rattle.script_polynomial.specs.At.{read_at}
 use Rattle.script_back.specs.Runs.{just, SaidBy, Said}
-use Rattle.script_back.specs.declared.runs.Step.{Step}
-use Rattle.script_back.specs.declared.runs.Step.TheVariants.{Stopped, Read}
+use Rattle.std.specs.Prelude.{Result, Ok, Err}
+use Rattle.script_polynomial.specs.declared.Stop.{Stop}
 
 module _ {A : Type 0} where
   -- Behind bytes that must stand there comes the rest.
@@ -69,14 +69,14 @@ sofar-none text at bytes h = record { reading = rw (add-zero at); few = omega ar
 
 module _ {text : List ℕ} {at : ℕ} {bytes : List ℕ} {i : ℕ} (s : Sofar text at bytes i) where
   -- The text ends,
-  pub run_ends : i < length bytes → length text ≤ at + i → Said text at bytes (Stopped (at + i))
+  pub run_ends : i < length bytes → length text ≤ at + i → Said text at bytes (Err (record { at = at + i }))
   unfolding SaidBy read_part say
   run_ends more h = record {
     by_step = s.reading ∙ rw (drop-cons bytes i 0 more, drop_of_length-le text h);
   }
 
   -- another byte stands there,
-  pub run-differs : i < length bytes → at + i < length text → (get_or text (at + i) 0 ≡ get_or bytes i 0 → ⊥) → Said text at bytes (Stopped (at + i))
+  pub run-differs : i < length bytes → at + i < length text → (get_or text (at + i) 0 ≡ get_or bytes i 0 → ⊥) → Said text at bytes (Err (record { at = at + i }))
   unfolding SaidBy read_part say given
   run-differs more h unlike = record {
     by_step = s.reading ∙ rw (drop-cons bytes i 0 more, drop-cons text (at + i) 0 h, part-unsaid {A = ℕ} (at + i) (get_or text (at + i) 0) (get_or bytes i 0) (drop (suc i) bytes) (give 0) (drop (suc (at + i)) text) unlike) (ap stop (omega arith));
@@ -94,12 +94,12 @@ module _ {text : List ℕ} {at : ℕ} {bytes : List ℕ} {i : ℕ} (s : Sofar te
       }
 
   -- or all stand there.
-  pub run-stands : length bytes ≤ i → Said text at bytes (Read (at + i))
+  pub run-stands : length bytes ≤ i → Said text at bytes (Ok (at + i))
   unfolding SaidBy read_part say
   run-stands h = record {
     by_step = record { reading = s.reading ∙ rw (drop_of_length-le bytes h); behind = omega (arith, s.few); inside = s.inside };
   }
 
 -- Bytes that are known by another name.
-pub said-as : {text : List ℕ} {at : ℕ} {xs ys : List ℕ} {step : Step} → xs ≡ ys → Said text at xs step → Said text at ys step
+pub said-as : {text : List ℕ} {at : ℕ} {xs ys : List ℕ} {step : Result ℕ Stop} → xs ≡ ys → Said text at xs step → Said text at ys step
 said-as {text} {at} {step = step} e h = subst (λ (run : List ℕ). Said text at run step) e h

@@ -1,8 +1,7 @@
 -- The root by its first byte, the end, and the whole text: the arrays then hold the block that the book reads.
-use mathlib.Core.Bool.{Bool, true, false}
 use mathlib.Core.List.{List, [], ◌∷◌, map}
 use mathlib.Core.Path.{◌≡◌, refl, sym, ap, ◌∙◌}
-use Prim.Native.Nat.{ℕ, suc, ◌+◌, ◌-◌, ◌<◌, ◌≤◌}
+use Prim.Native.Nat.{ℕ, ◌+◌, ◌<◌, ◌≤◌}
 use native.Mathlib.Nat.{zero-add}
 use native.Mathlib.Omega.{arith}
 use borrow.Author.Tests.{ne_eqb}
@@ -10,43 +9,40 @@ use lib.IntN.{ℤ}
 use lib.ListN.{length, drop, get_or, set, drop_of_length-le}
 use lib.Seq.{sets, drop-cons}
 use Rattle.rules.specs.Polynomial.{Polynomial, Atom}
-use Rattle.rules.specs.Formula.{Parts, end, Node, leaf, all_of, any_of, before, alone, each_atom, each_atom_of, children, nodes}
+use Rattle.rules.specs.Formula.{end, Node, leaf, all_of, any_of, before, alone, each_atom, each_atom_of, children, nodes}
 use Rattle.rules.specs.Block.{Block}
 use Rattle.rules.specs.Limits.{no_polynomials}
 use Rattle.rules.specs.Answer.{used, numbered, block_of}
 use Rattle.block.specs.Held.{slots, tokens, kind_of, held_by, held_over}
-use Rattle.rules.specs.Reader.{Reader, give, stuck, ask, Outcome, held, stopped}
-use Rattle.rules.specs.Combine.{say, ◌then◌, ◌union◌, one_of, open_combine}
+use Rattle.rules.specs.Reader.{give, Outcome}
+use Rattle.rules.specs.Combine.{say, open_combine}
 use Rattle.rules.specs.Text.{bytes, opening}
-use Rattle.rules.specs.Reading.{choice, atom_with, node_by, node, root, declarations_from, script, read_text}
+use Rattle.rules.specs.Reading.{atom_with, node_by, node, root, declarations_from, script, read_text}
 use Rattle.script_laws.specs.Steps.{Part, got, stop, read_part, and_then, whole_text, part_then, part-whole}
 use Rattle.script_polynomial.specs.At.{read_at}
 use Rattle.script_polynomial.specs.Tabled.{Tabled, SomeTabled}
 use Rattle.script_back.specs.Runs.{just, SaidBy, Said}
-use Rattle.script_back.specs.Tree.{Ready, Finds, Found, NodeStored, NodeFound}
-use Rattle.script_back.specs.Whole.{root_tree, Lent, Blank, NoneStored, NoneFound, RootFound, end_at, EndRead, EndBy, EndFound, BlockStored, ScriptBy, Scripts}
+use Rattle.script_back.specs.Tree.{Finds, NodeFound}
+use Rattle.script_back.specs.Whole.{root_tree, Blank, NoneFound, RootFound, end_at, EndBy, EndFound, ScriptBy, Scripts}
 use Rattle.script_back.specs.Whole.{AllDeclared, DeclaredBy, DeclaredFound, AssertionFound, RestFound, ScriptFound}
-use Rattle.script_back.specs.declared.runs.Step.{Step}
-use Rattle.script_back.specs.declared.runs.Step.TheVariants.{Stopped as NotSaid, Read as IsSaid}
 use Rattle.script_back.specs.declared.declarations.Declared.{Declared}
-use Rattle.script_back.specs.declared.declarations.Declared.TheVariants.{Stopped as NotDeclared, Read as IsDeclared}
 use Rattle.script_back.specs.declared.tree.Place.{Place}
 use Rattle.script_back.specs.declared.tree.Branch.{Branch}
-use Rattle.script_back.specs.declared.tree.Branch.TheVariants.{Stopped as NoBranch, Read as IsBranch}
 use Rattle.script_back.specs.declared.whole_script.Script.{Script}
-use Rattle.script_back.specs.declared.whole_script.Script.TheVariants.{Stopped, Numbers}
 use Rattle.script_back.proofs.Positions.{say-then, byte_at, first_byte}
 use Rattle.script_back.proofs.Tokens.{each-nodes}
 use Rattle.script_back.proofs.Walk.{found-mapped, found-same}
+use Rattle.std.specs.Prelude.{Result, Ok, Err}
+use Rattle.script_polynomial.specs.declared.Stop.{Stop}
 
 -- ---- an AND or an OR of none
 
-module _ {text : List ℕ} {at : ℕ} {run : List ℕ} {kind : ℕ} {token : List ℕ} {step : Step} (h : Said text at run step) where
-  pub none-stops : {position : ℕ} {token' : List ℕ} → step ≡ NotSaid position → NoneFound text at run kind token token' (NoBranch position)
+module _ {text : List ℕ} {at : ℕ} {run : List ℕ} {kind : ℕ} {token : List ℕ} {step : Result ℕ Stop} (h : Said text at run step) where
+  pub none-stops : {halt : Stop} {token' : List ℕ} → step ≡ Err halt → NoneFound text at run kind token token' (Err halt)
   unfolding SaidBy Finds
   none-stops e = record { finds = (rw e at h).by_step }
 
-  pub none_reads : {next : ℕ} → step ≡ IsSaid next → NoneFound text at run kind token (set token 0 16777216) (IsBranch (record { at = next; room = 254; known = 0; tokens = 1 }) kind)
+  pub none_reads : {next : ℕ} → step ≡ Ok next → NoneFound text at run kind token (set token 0 16777216) (Ok (record { behind = record { at = next; room = 254; known = 0; tokens = 1 }; kind = kind }))
   unfolding SaidBy Finds
   none_reads e =
       let stand = (rw e at h).by_step in
@@ -100,7 +96,7 @@ blank-some {n} {cs} {ms} {ts} blank = record {
 }
 
 module _ {text : List ℕ} {at n : ℕ} {cs : List ℤ} {ms ts token : List ℕ} (blank : Blank n cs ms ts token) where
-  pub root-is-true : {token' : List ℕ} {branch : Branch} → get_or text at 0 ≡ 116 → NoneFound text at (bytes "true") 1 token token' branch → RootFound text at n cs cs ms ms ts ts token token' branch
+  pub root-is-true : {token' : List ℕ} {branch : Result Branch Stop} → get_or text at 0 ≡ 116 → NoneFound text at (bytes "true") 1 token token' branch → RootFound text at n cs cs ms ms ts ts token token' branch
   unfolding used alone before tokens each_atom_of each_atom nodes children kind_of read_part
   root-is-true e h =
       let there = first_byte text at 116 e (omega arith) in
@@ -117,7 +113,7 @@ module _ {text : List ℕ} {at n : ℕ} {cs : List ℤ} {ms ts token : List ℕ}
       })
       h
 
-  pub root-is-false : {token' : List ℕ} {branch : Branch} → get_or text at 0 ≡ 102 → NoneFound text at (bytes "false") 2 token token' branch → RootFound text at n cs cs ms ms ts ts token token' branch
+  pub root-is-false : {token' : List ℕ} {branch : Result Branch Stop} → get_or text at 0 ≡ 102 → NoneFound text at (bytes "false") 2 token token' branch → RootFound text at n cs cs ms ms ts ts token token' branch
   unfolding used alone before tokens each_atom_of each_atom nodes children kind_of read_part
   root-is-false e h =
       let there = first_byte text at 102 e (omega arith) in
@@ -134,7 +130,7 @@ module _ {text : List ℕ} {at n : ℕ} {cs : List ℤ} {ms ts token : List ℕ}
       })
       h
 
-  pub root-is-node : {cs' : List ℤ} {ms' ts' token' : List ℕ} {branch : Branch} → (get_or text at 0 ≡ 116 → ⊥) → (get_or text at 0 ≡ 102 → ⊥)
+  pub root-is-node : {cs' : List ℤ} {ms' ts' token' : List ℕ} {branch : Result Branch Stop} → (get_or text at 0 ≡ 116 → ⊥) → (get_or text at 0 ≡ 102 → ⊥)
       → NodeFound text n 6 0 (record { at = at; room = 254; known = 0; tokens = 0 }) cs cs' ms ms' ts ts' token token' branch → RootFound text at n cs cs' ms ms' ts ts' token token' branch
   root-is-node h k found =
       found-same (root_node n at (drop at text) (λ e. h (sym (byte_at text at) ∙ e)) (λ e. k (sym (byte_at text at) ∙ e))) (λ node after kind stored. stored)
@@ -146,20 +142,20 @@ end-as : (text : List ℕ) (at : ℕ) (block : Block) (x : Part ℕ) → read_at
 unfolding read_part
 end-as text at block x e = ap whole_text (say-then at (bytes ")\n") (give block) (drop at text) ∙ ap (λ (x : Part ℕ). and_then x (λ u q rest. got block q rest)) e)
 
-got-said : {text : List ℕ} {at : ℕ} {run : List ℕ} {step : Step} → Said text at run step → {next : ℕ} → step ≡ IsSaid next → read_at text at (just run) ≡ got 0 next (drop next text)
+got-said : {text : List ℕ} {at : ℕ} {run : List ℕ} {step : Result ℕ Stop} → Said text at run step → {next : ℕ} → step ≡ Ok next → read_at text at (just run) ≡ got 0 next (drop next text)
 unfolding SaidBy
 got-said h e = (rw e at h).by_step.reading
 
-module _ {text : List ℕ} (place : Place) {step : Step} (h : Said text place.at (bytes ")\n") step) where
-  pub end-stops : {n kind position : ℕ} → step ≡ NotSaid position → EndFound text place kind n (Stopped position)
+module _ {text : List ℕ} (place : Place) {step : Result ℕ Stop} (h : Said text place.at (bytes ")\n") step) where
+  pub end-stops : {n kind : ℕ} {halt : Stop} → step ≡ Err halt → EndFound text place kind n (Err halt)
   unfolding SaidBy EndBy and_then whole_text
-  end-stops {position = position} e = record { ends = λ block. end-as text place.at block (stop position) (rw e at h).by_step }
+  end-stops {halt = halt} e = record { ends = λ block. end-as text place.at block (stop halt.at) (rw e at h).by_step }
 
-  pub end-goes-on : {n kind next : ℕ} → step ≡ IsSaid next → next < length text → EndFound text place kind n (Stopped next)
+  pub end-goes-on : {n kind next : ℕ} → step ≡ Ok next → next < length text → EndFound text place kind n (Err (record { at = next }))
   unfolding EndBy and_then whole_text
   end-goes-on {next = next} e more = record { ends = λ block. end-as text place.at block (got 0 next (drop next text)) (got-said h e) ∙ rw (drop-cons text next 0 more) }
 
-  pub end_reads : {n kind next : ℕ} → step ≡ IsSaid next → length text ≤ next → EndFound text place kind n (Numbers n place.known kind place.tokens)
+  pub end_reads : {n kind next : ℕ} → step ≡ Ok next → length text ≤ next → EndFound text place kind n (Ok (record { variables = n; polynomials = place.known; root = kind; tokens = place.tokens }))
   unfolding EndBy and_then whole_text
   end_reads {next = next} e past = record {
     ends = record {
@@ -194,24 +190,30 @@ root-then : (text : List ℕ) (at n : ℕ) (x : Part (Node Atom)) → read_at te
 unfolding root
 root-then text at n x e = part_then at (root_tree n) (λ tree. say (bytes ")\n") (give (block_of n tree))) (drop at text) ∙ ap (λ (x : Part (Node Atom)). and_then x (behind_tree n)) e
 
-module _ {text : List ℕ} {at n : ℕ} {cs cs' : List ℤ} {ms ms' ts ts' token token' : List ℕ} {branch : Branch} (h : RootFound text at n cs cs' ms ms' ts ts' token token' branch) where
-  pub assertion-stops : {position : ℕ} → branch ≡ NoBranch position → AssertionFound text at n cs cs' ms ms' ts ts' token token' (Stopped position)
+module _ {text : List ℕ} {at n : ℕ} {cs cs' : List ℤ} {ms ms' ts ts' token token' : List ℕ} {branch : Result Branch Stop} (h : RootFound text at n cs cs' ms ms' ts ts' token token' branch) where
+  pub assertion-stops : {halt : Stop} → branch ≡ Err halt → AssertionFound text at n cs cs' ms ms' ts ts' token token' (Err halt)
   unfolding Finds ScriptBy and_then whole_text
-  assertion-stops {position} e = record { found = ap whole_text (root-then text at n (stop position) (rw e at h).finds) }
+  assertion-stops {halt} e = record { found = ap whole_text (root-then text at n (stop halt.at) (rw e at h).finds) }
 
-  module _ {place : Place} {kind : ℕ} (e : branch ≡ IsBranch place kind) where
+  module _ {one : Branch} (e : branch ≡ Ok one) where
+    abbrev place : Place
+    place = one.behind
+
+    abbrev kind : ℕ
+    kind = one.kind
+
     pub root-inside : place.at ≤ length text
     unfolding Finds
     root-inside = (rw e at h).finds.inside
 
-    pub assertion-ends : {script : Script} → EndFound text place kind n script → AssertionFound text at n cs cs' ms ms' ts ts' token token' script
+    pub assertion-ends : {script : Result Script Stop} → EndFound text place kind n script → AssertionFound text at n cs cs' ms ms' ts ts' token token' script
     unfolding Finds ScriptBy and_then EndBy block_of
-    assertion-ends {script = Stopped position} end-found =
+    assertion-ends {script = Err halt} end-found =
         let reached = (rw e at h).finds in
         record {
           found = ap whole_text (root-then text at n (got reached.part place.at (drop place.at text)) reached.reading) ∙ end-found.ends (block_of n reached.part);
         }
-    assertion-ends {script = Numbers n' polynomials kind' count} end-found =
+    assertion-ends {script = Ok numbers} end-found =
         let reached = (rw e at h).finds in
         let tree = reached.part in
         let stored = reached.stored in
@@ -229,42 +231,42 @@ module _ {text : List ℕ} {at n : ℕ} {cs cs' : List ℤ} {ms ms' ts ts' token
 -- ---- the rest, and the whole text
 
 module _ {outcome outcome' : Outcome Block} where
-  pub scripts-as : {cs cs' : List ℤ} {ms ms' ts ts' token token' : List ℕ} {found : Script} → outcome' ≡ outcome → Scripts outcome cs cs' ms ms' ts ts' token token' found
+  pub scripts-as : {cs cs' : List ℤ} {ms ms' ts ts' token token' : List ℕ} {found : Result Script Stop} → outcome' ≡ outcome → Scripts outcome cs cs' ms ms' ts ts' token token' found
       → Scripts outcome' cs cs' ms ms' ts ts' token token' found
   unfolding ScriptBy
-  scripts-as {found = Stopped position} e h = record { found = e ∙ h.found }
-  scripts-as {found = Numbers n polynomials kind count} e h =
+  scripts-as {found = Err halt} e h = record { found = e ∙ h.found }
+  scripts-as {found = Ok numbers} e h =
       let b = h.found in
       record { found = record { block = b.block; reading = e ∙ b.reading; stored = b.stored } }
 
-module _ {text : List ℕ} {at : ℕ} {declared : Declared} (h : DeclaredFound text at 0 declared) where
-  pub rest-stops : {position : ℕ} {cs cs' : List ℤ} {ms ms' ts ts' token token' : List ℕ} → declared ≡ NotDeclared position → RestFound text at cs cs' ms ms' ts ts' token token' (Stopped position)
+module _ {text : List ℕ} {at : ℕ} {declared : Result Declared Stop} (h : DeclaredFound text at 0 declared) where
+  pub rest-stops : {halt : Stop} {cs cs' : List ℤ} {ms ms' ts ts' token token' : List ℕ} → declared ≡ Err halt → RestFound text at cs cs' ms ms' ts ts' token token' (Err halt)
   unfolding DeclaredBy ScriptBy whole_text
   rest-stops e = record { found = ap whole_text (rw e at h).by_declared }
 
-  pub declared-all : {n next : ℕ} → declared ≡ IsDeclared n next → AllDeclared text at 0 n next
+  pub declared-all : {all : Declared} → declared ≡ Ok all → AllDeclared text at 0 all.variables all.next
   unfolding DeclaredBy
   declared-all e = (rw e at h).by_declared
 
-  pub rest-reads : {n next : ℕ} {cs cs' : List ℤ} {ms ms' ts ts' token token' : List ℕ} {found : Script} → declared ≡ IsDeclared n next
-      → AssertionFound text next n cs cs' ms ms' ts ts' token token' found → RestFound text at cs cs' ms ms' ts ts' token token' found
+  pub rest-reads : {all : Declared} {cs cs' : List ℤ} {ms ms' ts ts' token token' : List ℕ} {found : Result Script Stop} → declared ≡ Ok all
+      → AssertionFound text all.next all.variables cs cs' ms ms' ts ts' token token' found → RestFound text at cs cs' ms ms' ts ts' token token' found
   rest-reads e assertion = scripts-as (ap whole_text (declared-all e).reading) assertion
 
 abbrev logic : List ℕ
 logic = bytes "(set-logic QF_NIA)\n"
 
-module _ {text : List ℕ} {step : Step} (h : Said text 0 logic step) where
+module _ {text : List ℕ} {step : Result ℕ Stop} (h : Said text 0 logic step) where
   by_logic : (x : Part ℕ) → read_at text 0 (just logic) ≡ x → read_text text ≡ whole_text (and_then x (λ u q rest. read_part q (declarations_from 0 16) rest))
   unfolding read_text script
   by_logic x e =
       part-whole 0 script text
       ∙ ap whole_text (say-then 0 logic (declarations_from 0 16) text ∙ ap (λ (x : Part ℕ). and_then x (λ u q rest. read_part q (declarations_from 0 16) rest)) e)
 
-  pub script-stops : {position : ℕ} {cs cs' : List ℤ} {ms ms' ts ts' token token' : List ℕ} → step ≡ NotSaid position → ScriptFound text cs cs' ms ms' ts ts' token token' (Stopped position)
+  pub script-stops : {halt : Stop} {cs cs' : List ℤ} {ms ms' ts ts' token token' : List ℕ} → step ≡ Err halt → ScriptFound text cs cs' ms ms' ts ts' token token' (Err halt)
   unfolding SaidBy ScriptBy and_then whole_text
-  script-stops {position} e = record { found = by_logic (stop position) (rw e at h).by_step }
+  script-stops {halt} e = record { found = by_logic (stop halt.at) (rw e at h).by_step }
 
-  pub script-reads : {next : ℕ} {cs cs' : List ℤ} {ms ms' ts ts' token token' : List ℕ} {found : Script} → step ≡ IsSaid next
+  pub script-reads : {next : ℕ} {cs cs' : List ℤ} {ms ms' ts ts' token token' : List ℕ} {found : Result Script Stop} → step ≡ Ok next
       → RestFound text next cs cs' ms ms' ts ts' token token' found → ScriptFound text cs cs' ms ms' ts ts' token token' found
   unfolding and_then
   script-reads {next} e rest = scripts-as (by_logic (got 0 next (drop next text)) (got-said h e)) rest

@@ -2,17 +2,15 @@
 use mathlib.Core.Bool.{Bool, true, false, ◌||◌, false≢true}
 use mathlib.Core.List.{List, [], ◌∷◌, ◌++◌, append-nil}
 use mathlib.Core.Path.{◌≡◌, refl, sym, ap, ap₂, ◌∙◌}
-use Prim.Native.Nat.{ℕ, zero, suc, ◌+◌, ◌*◌, ◌<◌}
-use native.Mathlib.Numerals.{one-add}
+use Prim.Native.Nat.{ℕ, suc, ◌+◌, ◌*◌, ◌<◌}
 use native.Mathlib.Omega.{arith}
 use lib.ListN.{length, set}
 use lib.Seq.{sets, set_comm}
 use Rattle.rules.specs.Polynomial.{Polynomial, Atom, same}
 use Rattle.rules.specs.Formula.{Parts, end, atom, and, or, Node, leaf, all_of, any_of, before, alone, each_atom, each_atom_of, children, nodes}
-use Rattle.rules.specs.Block.{NumberedAtom}
 use Rattle.rules.specs.Answer.{knows, added_unless, used, here_or, number_in, numbered}
 use Rattle.level_laws.specs.Written.{added-knows, used-keeps}
-use Rattle.block.specs.Held.{tokens, kind_of}
+use Rattle.block.specs.Held.{tokens}
 use Rattle.block.specs.Tokens.{length-tokens}
 use Rattle.script_back.specs.Tree.{node_tokens, parts_tokens}
 

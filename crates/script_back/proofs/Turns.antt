@@ -1,25 +1,24 @@
 -- Children one behind the other, as the book reads them: the byte behind so many children decides.
-use mathlib.Core.Bool.{Bool, true, false, false≢true}
+use mathlib.Core.Bool.{Bool, true, false}
 use mathlib.Core.List.{List, [], ◌∷◌}
 use mathlib.Core.Path.{◌≡◌, refl, sym, ap, ◌∙◌}
 use Prim.Native.Nat.{ℕ, zero, suc, ◌+◌, ◌-◌, ◌<◌, ◌≤◌}
 use native.Mathlib.Omega.{arith}
 use borrow.Author.Tests.{lt-ltb, ltb-true, ne_eqb}
 use lib.Dec.{ltb}
-use lib.ListN.{length, drop, get_or}
+use lib.ListN.{drop, get_or}
 use Rattle.rules.specs.Polynomial.{Polynomial, Atom}
 use Rattle.rules.specs.Formula.{Parts, end, Node, before, alone}
 use Rattle.rules.specs.Answer.{used}
-use Rattle.rules.specs.Reader.{Reader, give, stuck, ask}
-use Rattle.rules.specs.Combine.{given, say, ◌then◌, ◌union◌, one_of, open_combine}
+use Rattle.rules.specs.Reader.{Reader, give}
+use Rattle.rules.specs.Combine.{say, ◌then◌, one_of, open_combine}
 use Rattle.rules.specs.Text.{bytes}
 use Rattle.rules.specs.Reading.{choice, room_behind, later_kids, kids_by}
 use Rattle.script_laws.specs.Steps.{Part, got, stop, read_part, and_then, part_then}
-use Rattle.script_polynomial.specs.At.{read_at}
 use Rattle.script_back.specs.Tree.{One, kids_after, put_before, one_more, Ends, GoesOn, TurnOf, TurnFound}
-use Rattle.script_back.specs.declared.tree.Turn.{Turn}
-use Rattle.script_back.specs.declared.tree.Turn.TheVariants.{Stopped, End, More}
+use Rattle.script_back.specs.declared.tree.Turn.TheVariants.{End, More}
 use Rattle.script_back.proofs.Positions.{say-then, stands-inside, first_byte, byte_at}
+use Rattle.std.specs.Prelude.{Ok, Err}
 
 one-back : (p : ℕ) → suc p - 1 ≡ p
 one-back p = omega arith
@@ -130,14 +129,14 @@ module _ (one : One) (known : List Polynomial) (room p : ℕ) where
 -- ---- what the code finds
 
 module _ (text : List ℕ) (at room : ℕ) where
-  stop-there : (j : ℕ) → ((one : One) (known : List Polynomial) → read_part at (kids_after one j known room) (drop at text) ≡ stop at) → TurnFound text at room j (Stopped at)
+  stop-there : (j : ℕ) → ((one : One) (known : List Polynomial) → read_part at (kids_after one j known room) (drop at text) ≡ stop at) → TurnFound text at room j (Err (record { at = at }))
   unfolding TurnOf
   stop-there j h = record { turns = h }
 
-  pub turn-few : (j : ℕ) → j < 2 → (get_or text at 0 ≡ 32 → ⊥) → TurnFound text at room j (Stopped at)
+  pub turn-few : (j : ℕ) → j < 2 → (get_or text at 0 ≡ 32 → ⊥) → TurnFound text at room j (Err (record { at = at }))
   turn-few j few unlike = stop-there j (λ one known. few-stop one known room at j (drop at text) few (λ e. unlike (sym (byte_at text at) ∙ e)))
 
-  pub turn-stops : (j : ℕ) → 2 ≤ j → (get_or text at 0 ≡ 41 → ⊥) → (0 < room → get_or text at 0 ≡ 32 → ⊥) → TurnFound text at room j (Stopped at)
+  pub turn-stops : (j : ℕ) → 2 ≤ j → (get_or text at 0 ≡ 41 → ⊥) → (0 < room → get_or text at 0 ≡ 32 → ⊥) → TurnFound text at room j (Err (record { at = at }))
   unfolding kids_after
   turn-stops zero few unlike other = absurd (omega arith)
   turn-stops (suc zero) few unlike other = absurd (omega arith)
@@ -149,7 +148,7 @@ module _ (text : List ℕ) (at room : ℕ) where
   next-is : suc at ≡ at + 1
   next-is = omega arith
 
-  pub turn-ends : (j : ℕ) → 2 ≤ j → get_or text at 0 ≡ 41 → TurnFound text at room j End
+  pub turn-ends : (j : ℕ) → 2 ≤ j → get_or text at 0 ≡ 41 → TurnFound text at room j (Ok End)
   unfolding kids_after TurnOf
   turn-ends zero few e = absurd (omega arith)
   turn-ends (suc zero) few e = absurd (omega arith)
@@ -161,17 +160,17 @@ module _ (text : List ℕ) (at room : ℕ) where
           ∙ later-end one known room at (253 - j) (drop (at + 1) text)
           ∙ ap (λ (q : ℕ). got end q (drop (at + 1) text)) next-is
 
-      ends : Ends text at room (suc (suc j)) → TurnFound text at room (suc (suc j)) End
+      ends : Ends text at room (suc (suc j)) → TurnFound text at room (suc (suc j)) (Ok End)
       ends h = record { turns = h }
 
-  goes : {j left : ℕ} → GoesOn text at room j left → TurnFound text at room j (More left)
+  goes : {j left : ℕ} → GoesOn text at room j left → TurnFound text at room j (Ok (More left))
   unfolding TurnOf
   goes h = record { turns = h }
 
   module _ (e : get_or text at 0 ≡ 32) where
     goes_on : (j left : ℕ) → left + 1 + (2 - (j + 1)) ≡ room + (2 - j)
         → ((one : One) (known : List Polynomial) (u : List ℕ) → read_part at (kids_after one j known room) (32 ∷ u) ≡ one_more (suc at) u one j known left)
-        → TurnFound text at room j (More left)
+        → TurnFound text at room j (Ok (More left))
     goes_on j left less law = goes (record {
       reading = λ one known.
           ap (read_part at (kids_after one j known room)) (first_byte text at 32 e (omega arith))
@@ -181,12 +180,12 @@ module _ (text : List ℕ) (at room : ℕ) where
       less = less;
     })
 
-    pub turn_one : (j : ℕ) → j < 2 → TurnFound text at room j (More room)
+    pub turn_one : (j : ℕ) → j < 2 → TurnFound text at room j (Ok (More room))
     turn_one zero few = goes_on zero room (omega arith) (λ one known u. first-kid one known room at u)
     turn_one (suc zero) few = goes_on (suc zero) room (omega arith) (λ one known u. second-kid one known room at u)
     turn_one (suc (suc j)) few = absurd (omega arith)
 
-    pub turn_more : (j : ℕ) → 2 ≤ j → 0 < room → room + j ≤ 254 → TurnFound text at room j (More (room - 1))
+    pub turn_more : (j : ℕ) → 2 ≤ j → 0 < room → room + j ≤ 254 → TurnFound text at room j (Ok (More (room - 1)))
     turn_more zero few some most = absurd (omega arith)
     turn_more (suc zero) few some most = absurd (omega arith)
     turn_more (suc (suc j)) few some most = goes_on (suc (suc j)) (room - 1) (omega arith) (λ one known u. later-kid one known room at u j some (omega arith))

@@ -1,45 +1,41 @@
 -- The reader of the tree, step by step: a node by what it begins with, children one behind the other, and what is stored then.
 use mathlib.Core.Bool.{Bool, true, false, not, ◌&&◌, false≢true}
-use mathlib.Core.List.{List, [], ◌∷◌, ◌++◌, append-nil}
-use mathlib.Core.Path.{◌≡◌, refl, sym, ap, ap₂, subst, ◌∙◌}
+use mathlib.Core.List.{List, append-nil}
+use mathlib.Core.Path.{◌≡◌, refl, sym, ap, ap₂, ◌∙◌}
 use Prim.Native.Nat.{ℕ, zero, suc, ◌+◌, ◌-◌, ◌*◌, ◌<◌, ◌≤◌}
 use native.Mathlib.Nat.{add-zero, zero-add}
 use native.Mathlib.Omega.{arith}
 use borrow.Author.Tests.{lt-ltb, le-ltb, ltb-true, leb-true, eqb-true, eqb-false, eq-eqb, ne_eqb}
 use lib.Dec.{eqb, ltb, leb}
 use lib.IntN.{ℤ}
-use lib.ListN.{length, drop, set, length-set}
+use lib.ListN.{length, drop, set}
 use lib.Seq.{sets, length-sets}
 use Rattle.rules.specs.Polynomial.{Polynomial, Atom}
 use Rattle.rules.specs.Formula.{Parts, end, Node, leaf, all_of, any_of, before, alone, each_atom, each_atom_of, children, nodes}
-use Rattle.rules.specs.Answer.{used, number_in, numbered}
+use Rattle.rules.specs.Answer.{used, numbered}
 use Rattle.bits.proofs.Stores.{sets-append}
 use Rattle.block.specs.Held.{tokens, kind_of}
-use Rattle.rules.specs.Reader.{Reader, give, stuck, ask}
+use Rattle.rules.specs.Reader.{Reader, give, stuck}
 use Rattle.rules.specs.Combine.{say, ◌then◌, open_combine}
 use Rattle.rules.specs.Text.{closing, opening}
-use Rattle.script_laws.specs.Known.{with}
 use Rattle.rules.specs.Reading.{known_polynomial, atom_with, node_by, room_behind, kids_by, node}
 use Rattle.script_laws.specs.Steps.{Part, got, stop, read_part, and_then, part_then}
-use Rattle.script_polynomial.specs.At.{read_at, Stops, Reaches}
+use Rattle.script_polynomial.specs.At.{read_at, Stops}
 use Rattle.script_polynomial.specs.Tabled.{Tabled, SomeTabled, Listed, PieceOf, PieceFound}
 use Rattle.script_polynomial.specs.declared.Piece.{Piece}
-use Rattle.script_polynomial.specs.declared.Piece.TheVariants.{Stopped as NoPiece, Read as IsPiece}
-use Rattle.script_back.specs.Runs.{just, SaidBy, Said}
+use Rattle.script_back.specs.Runs.{SaidBy, Said}
 use Rattle.script_back.specs.Opening.{Further, any, Allowed, OpenedBy, Opened}
 use Rattle.script_back.specs.Tree.{Ready, Kids, Reached, Finds, Found, node_tokens, parts_tokens, NodeStored, atom_from, may_join, AtomFound, NodeFound}
-use Rattle.script_back.specs.Tree.{AtomClosed, Closes, One, kids_after, put_before, one_more, Ends, GoesOn, TurnOf, TurnFound, KidsStored, KidsFound}
-use Rattle.script_back.specs.declared.runs.Step.{Step}
-use Rattle.script_back.specs.declared.runs.Step.TheVariants.{Stopped as NotSaid, Read as IsSaid}
+use Rattle.script_back.specs.Tree.{Closes, One, kids_after, put_before, GoesOn, TurnOf, TurnFound, KidsStored, KidsFound}
 use Rattle.script_back.specs.declared.opening.Opening.{Opening}
-use Rattle.script_back.specs.declared.opening.Opening.TheVariants.{Stopped as NoOpening, Found as IsOpening}
 use Rattle.script_back.specs.declared.tree.Place.{Place}
 use Rattle.script_back.specs.declared.tree.Branch.{Branch}
-use Rattle.script_back.specs.declared.tree.Branch.TheVariants.{Stopped, Read}
 use Rattle.script_back.specs.declared.tree.Turn.{Turn}
-use Rattle.script_back.specs.declared.tree.Turn.TheVariants.{Stopped as NoTurn, End, More}
+use Rattle.script_back.specs.declared.tree.Turn.TheVariants.{End, More}
 use Rattle.script_back.proofs.Positions.{say-then}
 use Rattle.script_back.proofs.Tokens.{each-children, used-before, nodes-before, children-before, some_nodes, tokens-before, length-node, set_before}
+use Rattle.std.specs.Prelude.{Result, Ok, Err}
+use Rattle.script_polynomial.specs.declared.Stop.{Stop}
 
 -- ---- whether an AND or an OR may begin
 
@@ -74,45 +70,45 @@ joins nesting parent room kind e =
 -- ---- what reading finds
 
 module _ {A B : Type 0} where
-  pub found-mapped : {text : List ℕ} {at at' : ℕ} {r : Reader A} {r' : Reader B} {Stored : A → Place → ℕ → Type 0} {Stored' : B → Place → ℕ → Type 0} {b : Branch}
+  pub found-mapped : {text : List ℕ} {at at' : ℕ} {r : Reader A} {r' : Reader B} {Stored : A → Place → ℕ → Type 0} {Stored' : B → Place → ℕ → Type 0} {b : Result Branch Stop}
       (f : A → B) → read_at text at' r' ≡ and_then (read_at text at r) (λ a q u. got (f a) q u)
       → ((a : A) (place : Place) (kind : ℕ) → Stored a place kind → Stored' (f a) place kind) → Found text at r Stored b → Found text at' r' Stored' b
   unfolding Finds and_then
-  found-mapped {b = Stopped position} f e s h = record { finds = e ∙ ap (λ (x : Part A). and_then x (λ a q u. got (f a) q u)) h.finds }
-  found-mapped {b = Read place kind} f e s h =
+  found-mapped {b = Err halt} f e s h = record { finds = e ∙ ap (λ (x : Part A). and_then x (λ a q u. got (f a) q u)) h.finds }
+  found-mapped {b = Ok one} f e s h =
       let x = h.finds in
       record {
         finds = record {
           part = f x.part;
           reading = e ∙ ap (λ (x : Part A). and_then x (λ a q u. got (f a) q u)) x.reading;
           inside = x.inside;
-          stored = s x.part place kind x.stored;
+          stored = s x.part one.behind one.kind x.stored;
         };
       }
 
 module _ {A : Type 0} where
-  pub found-same : {text : List ℕ} {at at' : ℕ} {r r' : Reader A} {Stored Stored' : A → Place → ℕ → Type 0} {b : Branch}
+  pub found-same : {text : List ℕ} {at at' : ℕ} {r r' : Reader A} {Stored Stored' : A → Place → ℕ → Type 0} {b : Result Branch Stop}
       → read_at text at' r' ≡ read_at text at r → ((a : A) (place : Place) (kind : ℕ) → Stored a place kind → Stored' a place kind)
       → Found text at r Stored b → Found text at' r' Stored' b
   unfolding Finds
-  found-same {b = Stopped position} e s h = record { finds = e ∙ h.finds }
-  found-same {b = Read place kind} e s h =
+  found-same {b = Err halt} e s h = record { finds = e ∙ h.finds }
+  found-same {b = Ok one} e s h =
       let x = h.finds in
-      record { finds = record { part = x.part; reading = e ∙ x.reading; inside = x.inside; stored = s x.part place kind x.stored } }
+      record { finds = record { part = x.part; reading = e ∙ x.reading; inside = x.inside; stored = s x.part one.behind one.kind x.stored } }
 
-  found-stop : {text : List ℕ} {at : ℕ} {r : Reader A} {Stored : A → Place → ℕ → Type 0} {position : ℕ} → read_at text at r ≡ stop position → Found text at r Stored (Stopped position)
+  found-stop : {text : List ℕ} {at : ℕ} {r : Reader A} {Stored : A → Place → ℕ → Type 0} {halt : Stop} → read_at text at r ≡ stop halt.at → Found text at r Stored (Err halt)
   unfolding Finds
   found-stop e = record { finds = e }
 
 -- ---- atoms
 
-module _ {text : List ℕ} {place : Place} {s number : ℕ} {token : List ℕ} {step : Step} (h : Said text place.at (closing s) step) where
-  pub close-stops : {position : ℕ} {token' : List ℕ} → step ≡ NotSaid position → Closes text place s number token token' (Stopped position)
+module _ {text : List ℕ} {place : Place} {s number : ℕ} {token : List ℕ} {step : Result ℕ Stop} (h : Said text place.at (closing s) step) where
+  pub close-stops : {halt : Stop} {token' : List ℕ} → step ≡ Err halt → Closes text place s number token token' (Err halt)
   unfolding SaidBy
   close-stops e = found-stop (rw e at h).by_step
 
-  pub close-reads : {next : ℕ} → step ≡ IsSaid next
-      → Closes text place s number token (set token place.tokens (number * 8 + s)) (Read (record { at = next; room = place.room; known = place.known; tokens = place.tokens + 1 }) 0)
+  pub close-reads : {next : ℕ} → step ≡ Ok next
+      → Closes text place s number token (set token place.tokens (number * 8 + s)) (Ok (record { behind = record { at = next; room = place.room; known = place.known; tokens = place.tokens + 1 }; kind = 0 }))
   unfolding SaidBy Finds
   close-reads e =
       let stand = (rw e at h).by_step in
@@ -135,7 +131,7 @@ atom-then text at n table s x e = part_then at (known_polynomial n table) _ (dro
 
 -- The polynomial was read, and the atom is closed behind it.
 listed-closes : {text : List ℕ} {n s : ℕ} (place : Place) {cs₀ : List ℤ} {ms₀ ts₀ : List ℕ} {table : List Polynomial} {cs' : List ℤ} {ms' ts' token token' : List ℕ}
-    {number known behind : ℕ} {branch : Branch} → Listed text place.at n cs₀ ms₀ ts₀ table cs' ms' ts' number known behind
+    {number known behind : ℕ} {branch : Result Branch Stop} → Listed text place.at n cs₀ ms₀ ts₀ table cs' ms' ts' number known behind
     → Closes text (record { at = behind; room = place.room; known = known; tokens = place.tokens }) s number token token' branch
     → Found text place.at (atom_from n table s) (NodeStored n cs₀ ms₀ ts₀ table place.tokens place.room cs' ms' ts' token token') branch
 unfolding and_then read_part used alone before tokens each_atom_of numbered nodes kind_of
@@ -154,31 +150,31 @@ listed-closes {text} {n} {s} place {table = table} {token = token} {behind = beh
     })
     closes
 
-module _ {text : List ℕ} {n : ℕ} (place : Place) {cs cs' : List ℤ} {ms ms' ts ts' : List ℕ} {piece : Piece}
+module _ {text : List ℕ} {n : ℕ} (place : Place) {cs cs' : List ℤ} {ms ms' ts ts' : List ℕ} {piece : Result Piece Stop}
     (h : PieceFound text place.at n place.known cs cs' ms ms' ts ts' piece) where
-  piece-stops : {position : ℕ} → piece ≡ NoPiece position → {cs₀ : List ℤ} {ms₀ ts₀ : List ℕ} {table : List Polynomial} → Tabled n cs₀ ms₀ ts₀ table cs ms ts → length table ≡ place.known
-      → Stops text place.at (known_polynomial n table) position
+  piece-stops : {halt : Stop} → piece ≡ Err halt → {cs₀ : List ℤ} {ms₀ ts₀ : List ℕ} {table : List Polynomial} → Tabled n cs₀ ms₀ ts₀ table cs ms ts → length table ≡ place.known
+      → Stops text place.at (known_polynomial n table) halt.at
   unfolding PieceOf
   piece-stops e tabled counted = ((rw e at h).found _ _ _ _ tabled counted).0
 
-  piece-listed : {number known behind : ℕ} → piece ≡ IsPiece number known behind → {cs₀ : List ℤ} {ms₀ ts₀ : List ℕ} {table : List Polynomial} → Tabled n cs₀ ms₀ ts₀ table cs ms ts
-      → length table ≡ place.known → Listed text place.at n cs₀ ms₀ ts₀ table cs' ms' ts' number known behind
+  piece-listed : {one : Piece} → piece ≡ Ok one → {cs₀ : List ℤ} {ms₀ ts₀ : List ℕ} {table : List Polynomial} → Tabled n cs₀ ms₀ ts₀ table cs ms ts
+      → length table ≡ place.known → Listed text place.at n cs₀ ms₀ ts₀ table cs' ms' ts' one.number one.known one.behind
   unfolding PieceOf
   piece-listed e tabled counted = (rw e at h).found _ _ _ _ tabled counted
 
-  pub atom-stops : {s position : ℕ} {token token' : List ℕ} → piece ≡ NoPiece position → AtomFound text n place s cs cs' ms ms' ts ts' token token' (Stopped position)
+  pub atom-stops : {s : ℕ} {halt : Stop} {token token' : List ℕ} → piece ≡ Err halt → AtomFound text n place s cs cs' ms ms' ts ts' token token' (Err halt)
   unfolding and_then
-  atom-stops {s} {position} e = record {
-    found = λ cs₀ ms₀ ts₀ table tabled counted. found-stop (atom-then text place.at n table s (stop position) (piece-stops e tabled counted).reading);
+  atom-stops {s} {halt} e = record {
+    found = λ cs₀ ms₀ ts₀ table tabled counted. found-stop (atom-then text place.at n table s (stop halt.at) (piece-stops e tabled counted).reading);
   }
 
-  pub atom-reads : {s number known behind : ℕ} {token token' : List ℕ} {branch : Branch} → piece ≡ IsPiece number known behind
-      → Closes text (record { at = behind; room = place.room; known = known; tokens = place.tokens }) s number token token' branch
+  pub atom-reads : {one : Piece} {s : ℕ} {token token' : List ℕ} {branch : Result Branch Stop} → piece ≡ Ok one
+      → Closes text (record { at = one.behind; room = place.room; known = one.known; tokens = place.tokens }) s one.number token token' branch
       → AtomFound text n place s cs cs' ms ms' ts ts' token token' branch
   atom-reads e closes = record { found = λ cs₀ ms₀ ts₀ table tabled counted. listed-closes place (piece-listed e tabled counted) closes }
 
   -- The polynomial that was read is one of at most 64.
-  pub atom-number : {number known behind : ℕ} → piece ≡ IsPiece number known behind → SomeTabled n place.known cs ms ts → (number < 64) × (behind ≤ length text)
+  pub atom-number : {one : Piece} → piece ≡ Ok one → SomeTabled n place.known cs ms ts → (one.number < 64) × (one.behind ≤ length text)
   atom-number e some =
       let listed = piece-listed e some.tabled some.counted in
       (omega (arith, listed.small, listed.counted, listed.tabled.polynomials), listed.reaches.inside)
@@ -266,16 +262,22 @@ pub record Tests (nesting parent room : ℕ) (ands ors : Bool) : Type 0 where
 pub tested : (nesting parent room : ℕ) {ands ors : Bool} → ands ≡ may_join nesting parent room 1 → ors ≡ may_join nesting parent room 2 → Tests nesting parent room ands ors
 tested nesting parent room e f = record { is_ands = e; is_ors = f }
 
-module _ {text : List ℕ} (n : ℕ) {nesting parent : ℕ} (place : Place) {ands ors : Bool} {opening : Opening} (h : Opened text place.at (any ands ors) (Allowed ands ors) opening)
+module _ {text : List ℕ} (n : ℕ) {nesting parent : ℕ} (place : Place) {ands ors : Bool} {opening : Result Opening Stop} (h : Opened text place.at (any ands ors) (Allowed ands ors) opening)
     (tests : Tests nesting parent place.room ands ors) where
-  pub node-stopped : {position : ℕ} {cs cs' : List ℤ} {ms ms' ts ts' token token' : List ℕ} → opening ≡ NoOpening position
-      → NodeFound text n nesting parent place cs cs' ms ms' ts ts' token token' (Stopped position)
+  pub node-stopped : {halt : Stop} {cs cs' : List ℤ} {ms ms' ts ts' token token' : List ℕ} → opening ≡ Err halt
+      → NodeFound text n nesting parent place cs cs' ms ms' ts ts' token token' (Err halt)
   unfolding OpenedBy
   node-stopped e = record {
     found = λ cs₀ ms₀ ts₀ table tabled counted. found-stop (at-any text place.at n nesting parent table place.room tests.is_ands tests.is_ors ∙ (rw e at h).by_opening (behind_it n nesting table place.room));
   }
 
-  module _ {which next : ℕ} (e : opening ≡ IsOpening which next) where
+  module _ {one : Opening} (e : opening ≡ Ok one) where
+    abbrev which : ℕ
+    which = one.which
+
+    abbrev next : ℕ
+    next = one.next
+
     begins : (known : List Polynomial) → read_at text place.at (node n nesting parent known place.room) ≡ read_at text next (behind_it n nesting known place.room which)
     unfolding OpenedBy
     begins known = at-any text place.at n nesting parent known place.room tests.is_ands tests.is_ors ∙ (rw e at h).by_opening.reading (behind_it n nesting known place.room)
@@ -296,7 +298,7 @@ module _ {text : List ℕ} (n : ℕ) {nesting parent : ℕ} (place : Place) {and
         by-test true w = joins nesting parent place.room 1 (sym tests.is_ands ∙ beginning-allowed.an_and (eqb-true which 7 w))
         by-test false w = joins nesting parent place.room 2 (sym tests.is_ors ∙ beginning-allowed.an_or (let other = eqb-false which 7 w in omega (arith, beginning-allowed.most)))
 
-    pub node-atom : {cs cs' : List ℤ} {ms ms' ts ts' token token' : List ℕ} {branch : Branch} → which < 7
+    pub node-atom : {cs cs' : List ℤ} {ms ms' ts ts' token token' : List ℕ} {branch : Result Branch Stop} → which < 7
         → AtomFound text n (record { at = next; room = place.room; known = place.known; tokens = place.tokens }) which cs cs' ms ms' ts ts' token token' branch
         → NodeFound text n nesting parent place cs cs' ms ms' ts ts' token token' branch
     node-atom few atom = record {
@@ -304,7 +306,7 @@ module _ {text : List ℕ} (n : ℕ) {nesting parent : ℕ} (place : Place) {and
           found-same (begins table ∙ behind-atom text next n nesting table place.room which few) (λ node after kind stored. stored) (atom.found cs₀ ms₀ ts₀ table tabled counted);
     }
 
-    pub node-join : {cs cs' : List ℤ} {ms ms' ts ts' token token' : List ℕ} {branch : Branch} → 7 ≤ which
+    pub node-join : {cs cs' : List ℤ} {ms ms' ts ts' token token' : List ℕ} {branch : Result Branch Stop} → 7 ≤ which
         → KidsFound text n (nesting - 1) (which - 6) place.tokens 0 (record { at = next; room = place.room - 2; known = place.known; tokens = place.tokens + 1 }) cs cs' ms ms' ts ts' token token' branch
         → NodeFound text n nesting parent place cs cs' ms ms' ts ts' token token' branch
     node-join some kids = record {
@@ -317,18 +319,18 @@ module _ {text : List ℕ} (n : ℕ) {nesting parent : ℕ} (place : Place) {and
 
 -- ---- children
 
-module _ {text : List ℕ} {n nesting kind own j : ℕ} (place : Place) {turn : Turn} (h : TurnFound text place.at place.room j turn) where
-  pub kids-stopped : {position : ℕ} {cs cs' : List ℤ} {ms ms' ts ts' token token' : List ℕ} → turn ≡ NoTurn position
-      → KidsFound text n nesting kind own j place cs cs' ms ms' ts ts' token token' (Stopped position)
+module _ {text : List ℕ} {n nesting kind own j : ℕ} (place : Place) where
+  pub kids-stopped : {halt : Stop} {cs cs' : List ℤ} {ms ms' ts ts' token token' : List ℕ} → TurnFound text place.at place.room j (Err halt)
+      → KidsFound text n nesting kind own j place cs cs' ms ms' ts ts' token token' (Err halt)
   unfolding TurnOf
-  kids-stopped e = record { found = λ cs₀ ms₀ ts₀ table tabled counted. found-stop ((rw e at h).turns (node n nesting kind) table) }
+  kids-stopped h = record { found = λ cs₀ ms₀ ts₀ table tabled counted. found-stop (h.turns (node n nesting kind) table) }
 
   -- Their parent ends: its token has their number.
-  pub kids-ended : {cs : List ℤ} {ms ts token : List ℕ} → turn ≡ End
+  pub kids-ended : {cs : List ℤ} {ms ts token : List ℕ} {turn : Turn} → TurnFound text place.at place.room j (Ok turn) → turn ≡ End
       → KidsFound text n nesting kind own j place cs cs ms ms ts ts token (set token own (16777216 + j))
-      (Read (record { at = place.at + 1; room = place.room; known = place.known; tokens = place.tokens }) kind)
+      (Ok (record { behind = record { at = place.at + 1; room = place.room; known = place.known; tokens = place.tokens }; kind = kind }))
   unfolding TurnOf Finds used tokens each_atom nodes children
-  kids-ended {token = token} e =
+  kids-ended {token = token} h e =
       let ends = (rw e at h).turns in
       record {
         found = λ cs₀ ms₀ ts₀ table tabled counted. record {
@@ -349,7 +351,7 @@ module _ {text : List ℕ} {n nesting kind own j : ℕ} (place : Place) {turn : 
       }
 
 -- Another child comes.
-pub turn-goes : {text : List ℕ} {at room j : ℕ} {turn : Turn} → TurnFound text at room j turn → {left : ℕ} → turn ≡ More left → GoesOn text at room j left
+pub turn-goes : {text : List ℕ} {at room j : ℕ} {turn : Turn} → TurnFound text at room j (Ok turn) → {left : ℕ} → turn ≡ More left → GoesOn text at room j left
 unfolding TurnOf
 turn-goes h e = (rw e at h).turns
 
@@ -357,17 +359,17 @@ abbrev pub child_at : Place → ℕ → Place
 child_at place left = record { at = place.at + 1; room = left; known = place.known; tokens = place.tokens }
 
 -- Its node was read.
-pub child-reached : {text : List ℕ} {n nesting kind : ℕ} {place after : Place} {k : ℕ} {cs cs₁ : List ℤ} {ms ms₁ ts ts₁ token token₁ : List ℕ} {branch : Branch}
-    → NodeFound text n nesting kind place cs cs₁ ms ms₁ ts ts₁ token token₁ branch → branch ≡ Read after k
+pub child-reached : {text : List ℕ} {n nesting kind : ℕ} {place after : Place} {k : ℕ} {cs cs₁ : List ℤ} {ms ms₁ ts ts₁ token token₁ : List ℕ} {branch : Result Branch Stop}
+    → NodeFound text n nesting kind place cs cs₁ ms ms₁ ts ts₁ token token₁ branch → branch ≡ Ok (record { behind = after; kind = k })
     → {cs₀ : List ℤ} {ms₀ ts₀ : List ℕ} {table : List Polynomial} → Tabled n cs₀ ms₀ ts₀ table cs ms ts → length table ≡ place.known
     → Reached text place.at (node n nesting kind table place.room) (NodeStored n cs₀ ms₀ ts₀ table place.tokens place.room cs₁ ms₁ ts₁ token token₁) after k
 unfolding Finds
 child-reached h e tabled counted = ((rw e at h).found _ _ _ _ tabled counted).finds
 
-child-stops : {text : List ℕ} {n nesting kind : ℕ} {place : Place} {position : ℕ} {cs cs₁ : List ℤ} {ms ms₁ ts ts₁ token token₁ : List ℕ} {branch : Branch}
-    → NodeFound text n nesting kind place cs cs₁ ms ms₁ ts ts₁ token token₁ branch → branch ≡ Stopped position
+child-stops : {text : List ℕ} {n nesting kind : ℕ} {place : Place} {halt : Stop} {cs cs₁ : List ℤ} {ms ms₁ ts ts₁ token token₁ : List ℕ} {branch : Result Branch Stop}
+    → NodeFound text n nesting kind place cs cs₁ ms ms₁ ts ts₁ token token₁ branch → branch ≡ Err halt
     → {cs₀ : List ℤ} {ms₀ ts₀ : List ℕ} {table : List Polynomial} → Tabled n cs₀ ms₀ ts₀ table cs ms ts → length table ≡ place.known
-    → Stops text place.at (node n nesting kind table place.room) position
+    → Stops text place.at (node n nesting kind table place.room) halt.at
 unfolding Finds
 child-stops h e tabled counted = record { reading = ((rw e at h).found _ _ _ _ tabled counted).finds }
 
@@ -375,9 +377,9 @@ child-stops h e tabled counted = record { reading = ((rw e at h).found _ _ _ _ t
 abbrev others : One → ℕ → List Polynomial → ℕ → Node Atom → ℕ → List ℕ → Part (Parts Atom)
 others one j known room kid q u = put_before kid (read_part q (kids_after one (suc j) (used known (alone kid)) (room_behind room kid)) u)
 
-pub child-stopped : {text : List ℕ} {n nesting kind own j : ℕ} (place : Place) {left position : ℕ} {cs cs₁ cs' : List ℤ} {ms ms₁ ms' ts ts₁ ts' token token₁ token' : List ℕ} {branch : Branch}
-    → GoesOn text place.at place.room j left → NodeFound text n nesting kind (child_at place left) cs cs₁ ms ms₁ ts ts₁ token token₁ branch → branch ≡ Stopped position
-    → KidsFound text n nesting kind own j place cs cs' ms ms' ts ts' token token' (Stopped position)
+pub child-stopped : {text : List ℕ} {n nesting kind own j : ℕ} (place : Place) {left : ℕ} {halt : Stop} {cs cs₁ cs' : List ℤ} {ms ms₁ ms' ts ts₁ ts' token token₁ token' : List ℕ} {branch : Result Branch Stop}
+    → GoesOn text place.at place.room j left → NodeFound text n nesting kind (child_at place left) cs cs₁ ms ms₁ ts ts₁ token token₁ branch → branch ≡ Err halt
+    → KidsFound text n nesting kind own j place cs cs' ms ms' ts ts' token token' (Err halt)
 unfolding and_then
 child-stopped {n = n} {nesting} {kind} {j = j} place {left} goes h e = record {
   found = λ cs₀ ms₀ ts₀ table tabled counted. found-stop (
@@ -412,9 +414,9 @@ kids-stored {table = table} {own} {j} {count} {token = token} {token₁} kid res
       kind_is = b.kind_is;
     }
 
-pub kids-more : {text : List ℕ} {n nesting kind own j : ℕ} (place : Place) {left : ℕ} {cs cs₁ cs' : List ℤ} {ms ms₁ ms' ts ts₁ ts' token token₁ token' : List ℕ} {branch result : Branch}
+pub kids-more : {text : List ℕ} {n nesting kind own j : ℕ} (place : Place) {left : ℕ} {cs cs₁ cs' : List ℤ} {ms ms₁ ms' ts ts₁ ts' token token₁ token' : List ℕ} {branch result : Result Branch Stop}
     {between : Place} {k : ℕ} → GoesOn text place.at place.room j left → NodeFound text n nesting kind (child_at place left) cs cs₁ ms ms₁ ts ts₁ token token₁ branch
-    → branch ≡ Read between k → KidsFound text n nesting kind own (j + 1) between cs₁ cs' ms₁ ms' ts₁ ts' token₁ token' result
+    → branch ≡ Ok (record { behind = between; kind = k }) → KidsFound text n nesting kind own (j + 1) between cs₁ cs' ms₁ ms' ts₁ ts' token₁ token' result
     → KidsFound text n nesting kind own j place cs cs' ms ms' ts ts' token token' result
 unfolding and_then put_before room_behind
 kids-more {text} {n} {nesting} {kind} {own} {j} place {left} {between = between} goes h e rest = record {
@@ -436,8 +438,8 @@ kids-more {text} {n} {nesting} {kind} {own} {j} place {left} {between = between}
 -- ---- what the next call asks for
 
 -- Behind a child the arrays hold the table with its polynomials,
-pub child-tabled : {text : List ℕ} {n nesting kind : ℕ} {place after : Place} {k : ℕ} {cs cs₁ : List ℤ} {ms ms₁ ts ts₁ token token₁ : List ℕ} {branch : Branch}
-    → NodeFound text n nesting kind place cs cs₁ ms ms₁ ts ts₁ token token₁ branch → branch ≡ Read after k → SomeTabled n place.known cs ms ts → SomeTabled n after.known cs₁ ms₁ ts₁
+pub child-tabled : {text : List ℕ} {n nesting kind : ℕ} {place after : Place} {k : ℕ} {cs cs₁ : List ℤ} {ms ms₁ ts ts₁ token token₁ : List ℕ} {branch : Result Branch Stop}
+    → NodeFound text n nesting kind place cs cs₁ ms ms₁ ts ts₁ token token₁ branch → branch ≡ Ok (record { behind = after; kind = k }) → SomeTabled n place.known cs ms ts → SomeTabled n after.known cs₁ ms₁ ts₁
 child-tabled h e some =
     let stored = (child-reached h e some.tabled some.counted).stored in
     record {
@@ -455,8 +457,8 @@ pub record Between (text token₁ : List ℕ) (place after : Place) (own j : ℕ
   pub kids : Kids after own (j + 1)
   pub further : place.tokens < after.tokens
 
-pub child-ready : {text : List ℕ} {n nesting kind own j left : ℕ} (place : Place) {after : Place} {k : ℕ} {cs cs₁ : List ℤ} {ms ms₁ ts ts₁ token token₁ : List ℕ} {branch : Branch}
-    → GoesOn text place.at place.room j left → NodeFound text n nesting kind (child_at place left) cs cs₁ ms ms₁ ts ts₁ token token₁ branch → branch ≡ Read after k
+pub child-ready : {text : List ℕ} {n nesting kind own j left : ℕ} (place : Place) {after : Place} {k : ℕ} {cs cs₁ : List ℤ} {ms ms₁ ts ts₁ token token₁ : List ℕ} {branch : Result Branch Stop}
+    → GoesOn text place.at place.room j left → NodeFound text n nesting kind (child_at place left) cs cs₁ ms ms₁ ts ts₁ token token₁ branch → branch ≡ Ok (record { behind = after; kind = k })
     → SomeTabled n place.known cs ms ts → Ready text token place (2 - j) → Kids place own j → Between text token₁ place after own j
 child-ready place {after} {token = token} goes h e some ready kids =
     let child = child-reached h e some.tabled some.counted in
@@ -473,6 +475,6 @@ child-ready place {after} {token = token} goes h e some ready kids =
     }
 
 -- Where the parent ends there is a byte.
-pub turn-ended : {text : List ℕ} {at room j : ℕ} {turn : Turn} → TurnFound text at room j turn → turn ≡ End → at + 1 ≤ length text
+pub turn-ended : {text : List ℕ} {at room j : ℕ} {turn : Turn} → TurnFound text at room j (Ok turn) → turn ≡ End → at + 1 ≤ length text
 unfolding TurnOf
 turn-ended h e = (rw e at h).turns.inside

@@ -1,6 +1,6 @@
 -- #112, what is told for a text: "25 with the position of the first byte at which no such text goes on"; or its block in edition 1, "1 if the output is
 -- shorter than the finished block, after 25"; and what the lent output holds then.
-use Rattle.std.specs.Prelude.{Bool, true, false, List, ◌≡◌, ℕ, ◌+◌, ◌<◌, ◌≤◌, leb, ℤ, pos, length, replicate}
+use Rattle.std.specs.Prelude.{Bool, true, false, List, ◌≡◌, ℕ, ◌+◌, ◌<◌, ◌≤◌, leb, ℤ, pos, length, replicate, Result, Ok, Err}
 use Rattle.std.proofs.Math.Path.{refl, subst}
 use Rattle.std.proofs.Common.{sym, ap, ◌∙◌, arith}
 use Rattle.std.proofs.lemmas.List.{length-replicate}
@@ -9,22 +9,24 @@ use Rattle.rules.specs.Limits.{BlockWithin}
 use Rattle.rules.specs.Convert.{Conversion, not_converted, converted, if_room_for, converted_to, convert, converted_into}
 use Rattle.block_laws.specs.Blocks.{reads-back}
 use Rattle.block_laws.specs.Sizes.{longest, longest-block, length-block, block-below-32768}
-use Rattle.block.specs.Held.{nothing, held_by, held_of}
+use Rattle.block.specs.Held.{held_by, held_of}
 use Rattle.writer.specs.Written.{Writable}
 use Rattle.array_laws.specs.Writing.{writable}
-use Rattle.convert.specs.declared.Converted.{Converted}
+use Rattle.convert.specs.declared.Refusal.{Refusal as ConvertRefusal}
+use Rattle.convert.specs.Refusals as convert_refusals
 use Rattle.convert.specs.Converted.{outcome_of, Finishes, Converts}
-use Rattle.convert.specs.Exported.{exported, number_of, Short}
+use Rattle.convert.specs.Exported.{exported}
 use Rattle.rules.specs.Reader.{Outcome as Held, held, stopped}
 use Rattle.rules.specs.Text.{script_of, Plain}
 use Rattle.rules.specs.Reading.{read_text}
 use Rattle.script_laws.specs.Laws.{text-reads-back, text-accepted}
-use Rattle.script_back.specs.Whole.{BlockStored, ScriptBy, Scripts, ScriptFound}
-use Rattle.script_back.specs.declared.Outcome.{Outcome}
-use Rattle.script_back.specs.declared.Outcome.TheVariants.{Stopped, Read}
-use Rattle.script_back.specs.declared.Reading.{Reading}
+use Rattle.script_back.specs.Whole.{ScriptBy, ScriptFound}
 use Rattle.script_back.specs.declared.whole_script.Script.{Script}
-use Rattle.script_back.specs.declared.whole_script.Script.TheVariants.{Stopped as NoScript, Numbers}
+use Rattle.script_polynomial.specs.declared.Stop.{Stop}
+use Rattle.script_back.specs.declared.Refusal.{Refusal}
+use Rattle.script_back.specs.declared.Refusal.TheVariants.{Stopped}
+use Rattle.script_back.specs.Refusals.{by_number, passed_on, told}
+use Rattle.block.specs.declared.Held.{Held as Arrays}
 
 pub data Back : Type 0 where
   stops_at : ℕ → Back
@@ -58,16 +60,17 @@ back_position (ends given) = 0
 -- ---- what the entries say
 
 -- What the book reads, as `read_script` returns it.
-unfoldable pub reading_of : Held Block → Reading
-reading_of (stopped p) = record { refusal = 25; position = p; held = nothing }
-reading_of (held block) = record { refusal = 0; position = 0; held = held_of block }
+unfoldable pub reading_of : Held Block → Result Arrays Stop
+reading_of (stopped p) = Err (record { at = p })
+reading_of (held block) = Ok (held_of block)
 
-unfoldable pub outcome_in : Back → Outcome
-outcome_in (stops_at p) = Stopped p
-outcome_in (ends given) = Read (outcome_of given)
+-- What `block_of` returns, by the refusal's number and its position.
+unfoldable pub outcome_in : Back → Result ℕ (ℕ × ℕ)
+outcome_in (stops_at p) = Err (25, p)
+outcome_in (ends given) = told (outcome_of given)
 
-pub record GivesBack (text before after : List ℕ) (r : Outcome) : Type 0 where
-  pub returns : r ≡ outcome_in (back_from (length before) text)
+pub record GivesBack (text before after : List ℕ) (r : Result ℕ Refusal) : Type 0 where
+  pub returns : by_number r ≡ outcome_in (back_from (length before) text)
   pub output : after ≡ back_into (back_from (length before) text) before
 
 pub record ExportsBack (text before after : List ℕ) (r position : ℕ) : Type 0 where
@@ -86,7 +89,7 @@ longest-fits : (block : Block) → BlockWithin block → block_length edition1 b
 unfolding longest
 longest-fits block within = omega (arith, longest-block edition1 block within)
 
-pub converts-block : (block : Block) → BlockWithin block → {bytes before after : List ℕ} {r : Converted} → bytes ≡ write_block edition1 block → Converts edition1 bytes before after r
+pub converts-block : (block : Block) → BlockWithin block → {bytes before after : List ℕ} {r : Result ℕ ConvertRefusal} → bytes ≡ write_block edition1 block → Converts edition1 bytes before after r
     → Finishes (write_block edition1 block) before after r
 unfolding convert converted_to
 converts-block block within {before = before} e h =
@@ -103,13 +106,17 @@ pub record WasRead (text : List ℕ) (cs : List ℤ) (ms ts token : List ℕ) (v
   pub stored : held_by variables polynomials kind count cs ms ts token ≡ held_of block
   pub writes : Writable 1 (held_by variables polynomials kind count cs ms ts token) 21516 block
 
-module _ (text : List ℕ) {cs : List ℤ} {ms ts token : List ℕ} {script : Script}
+told-passed : (r : Result ℕ ConvertRefusal) → by_number (passed_on r) ≡ told (convert_refusals.by_number r)
+told-passed (Ok size) = refl
+told-passed (Err refusal) = refl
+
+module _ (text : List ℕ) {cs : List ℤ} {ms ts token : List ℕ} {script : Result Script Stop}
     (found : ScriptFound text (replicate 1024 (pos 0)) cs (replicate 1024 0) ms (replicate 64 0) ts (replicate 255 0) token script) where
-  pub text-stops : {position : ℕ} → script ≡ NoScript position → read_text text ≡ stopped position
+  pub text-stops : {halt : Stop} → script ≡ Err halt → read_text text ≡ stopped halt.at
   unfolding ScriptBy
   text-stops e = (rw e at found).found
 
-  pub text-read : {variables polynomials kind count : ℕ} → script ≡ Numbers variables polynomials kind count → WasRead text cs ms ts token variables polynomials kind count
+  pub text-read : {one : Script} → script ≡ Ok one → WasRead text cs ms ts token one.variables one.polynomials one.root one.tokens
   unfolding ScriptBy held_of edition_number edition_of
   text-read e =
       let stored = (rw e at found).found in
@@ -126,39 +133,41 @@ module _ (text : List ℕ) {cs : List ℤ} {ms ts token : List ℕ} {script : Sc
             1 21516 refl (longest-fits block within));
       }
 
-  pub reads_none : {position : ℕ} → script ≡ NoScript position → record { refusal = 25; position = position; held = nothing } ≡ reading_of (read_text text)
+  pub reads_none : {halt : Stop} → script ≡ Err halt → Err halt ≡ reading_of (read_text text)
   unfolding reading_of
   reads_none e = rw (text-stops e)
 
-  pub reads-one : {variables polynomials kind count : ℕ} → script ≡ Numbers variables polynomials kind count
-      → record { refusal = 0; position = 0; held = held_by variables polynomials kind count cs ms ts token } ≡ reading_of (read_text text)
+  pub reads-one : {one : Script} → script ≡ Ok one
+      → Ok (held_by one.variables one.polynomials one.root one.tokens cs ms ts token) ≡ reading_of (read_text text)
   unfolding reading_of
   reads-one e = let h = text-read e in rw (h.reading, h.stored)
 
-  pub gives_none : {before : List ℕ} {position : ℕ} → script ≡ NoScript position → GivesBack text before before (Stopped position)
+  pub gives_none : {before : List ℕ} {halt : Stop} → script ≡ Err halt → GivesBack text before before (Err (Stopped halt))
   unfolding back_from back_of outcome_in back_into
   gives_none e = let stops = text-stops e in record { returns = rw stops; output = rw stops }
 
-  pub gives-block : {before after : List ℕ} {variables polynomials kind count : ℕ} {r : Converted} (e : script ≡ Numbers variables polynomials kind count)
-      → Finishes (write_block edition1 (text-read e).block) before after r → GivesBack text before after (Read r)
+  pub gives-block : {before after : List ℕ} {one : Script} {r : Result ℕ ConvertRefusal} (e : script ≡ Ok one)
+      → Finishes (write_block edition1 (text-read e).block) before after r → GivesBack text before after (passed_on r)
   unfolding back_from back_of outcome_in back_into
-  gives-block e h = let reading = (text-read e).reading in record { returns = rw reading (ap Read h.returns); output = rw reading h.output }
+  gives-block {r = r} e h =
+      let reading = (text-read e).reading in
+      record { returns = rw reading (told-passed r ∙ ap told h.returns); output = rw reading h.output }
 
 -- ---- numbers for C
 
-abbrev pub number_in : Outcome → ℕ
-number_in (Stopped position) = 25
-number_in (Read given) = number_of given
+abbrev pub number_in : Result ℕ (ℕ × ℕ) → ℕ
+number_in (Err refusal) = refusal.0
+number_in (Ok size) = 65536 + size
 
-abbrev pub position_in : Outcome → ℕ
-position_in (Stopped position) = position
-position_in (Read given) = 0
+abbrev pub position_in : Result ℕ (ℕ × ℕ) → ℕ
+position_in (Err refusal) = refusal.1
+position_in (Ok size) = 0
 
-abbrev pub ShortIn : Outcome → Type 0
-ShortIn (Stopped position) = Unit {0}
-ShortIn (Read given) = Short given
+abbrev pub ShortIn : Result ℕ (ℕ × ℕ) → Type 0
+ShortIn (Err refusal) = Unit {0}
+ShortIn (Ok size) = size < 32768
 
-short-room : (room : Bool) (bytes : List ℕ) → length bytes < 32768 → Short (outcome_of (if_room_for room bytes))
+short-room : (room : Bool) (bytes : List ℕ) → length bytes < 32768 → ShortIn (told (outcome_of (if_room_for room bytes)))
 unfolding if_room_for outcome_of
 short-room true bytes short = short
 short-room false bytes short = tt
@@ -177,18 +186,19 @@ number-back (ends (not_converted number)) = refl
 number-back (ends (converted bytes)) = refl
 
 position-back : (given : Back) → position_in (outcome_in given) ≡ back_position given
-unfolding outcome_in back_position
+unfolding outcome_in back_position outcome_of
 position-back (stops_at p) = refl
-position-back (ends given) = refl
+position-back (ends (not_converted number)) = refl
+position-back (ends (converted bytes)) = refl
 
-module _ {text before after : List ℕ} {r : Outcome} (told : GivesBack text before after r) where
-  pub short-told : ShortIn r
+module _ {text before after : List ℕ} {r : Result ℕ Refusal} (gives : GivesBack text before after r) where
+  pub short-told : ShortIn (by_number r)
   unfolding back_from
-  short-told = subst ShortIn (sym told.returns) (short_back (length before) text (read_text text) refl)
+  short-told = subst ShortIn (sym gives.returns) (short_back (length before) text (read_text text) refl)
 
-  pub exports-told : {number position : ℕ} → number ≡ number_in r → position ≡ position_in r → ExportsBack text before after number position
+  pub exports-told : {number position : ℕ} → number ≡ number_in (by_number r) → position ≡ position_in (by_number r) → ExportsBack text before after number position
   exports-told e f = record {
-    returns = e ∙ ap (λ (o : Outcome). number_in o) told.returns ∙ number-back (back_from (length before) text);
-    stops = f ∙ ap (λ (o : Outcome). position_in o) told.returns ∙ position-back (back_from (length before) text);
-    output = told.output;
+    returns = e ∙ ap (λ (o : Result ℕ (ℕ × ℕ)). number_in o) gives.returns ∙ number-back (back_from (length before) text);
+    stops = f ∙ ap (λ (o : Result ℕ (ℕ × ℕ)). position_in o) gives.returns ∙ position-back (back_from (length before) text);
+    output = gives.output;
   }

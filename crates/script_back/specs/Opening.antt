@@ -1,15 +1,15 @@
 -- What a node begins with, as code reads it: each beginning by a number, and what may follow it.
-use Rattle.std.specs.Prelude.{Bool, true, List, [], ◌∷◌, ◌≡◌, ℕ, ◌+◌, ◌<◌, ◌≤◌, length}
+use Rattle.std.specs.Prelude.{Bool, true, List, [], ◌∷◌, ◌≡◌, ℕ, ◌+◌, ◌<◌, ◌≤◌, length, Result, Ok, Err}
 use Rattle.rules.specs.Polynomial.{Atom}
 use Rattle.rules.specs.Formula.{Node}
 use Rattle.rules.specs.Reader.{Reader}
-use Rattle.rules.specs.Combine.{given, say, ◌union◌, Choice, one_of}
+use Rattle.rules.specs.Combine.{given, say, ◌union◌, one_of}
 use Rattle.rules.specs.Text.{bytes, opening}
 use Rattle.rules.specs.Reading.{choice}
 use Rattle.script_laws.specs.Steps.{stop}
 use Rattle.script_polynomial.specs.At.{read_at}
 use Rattle.script_back.specs.declared.opening.Opening.{Opening}
-use Rattle.script_back.specs.declared.opening.Opening.TheVariants.{Stopped, Found}
+use Rattle.script_polynomial.specs.declared.Stop.{Stop}
 
 -- What follows each beginning.
 abbrev pub Further : Type 0
@@ -60,9 +60,9 @@ pub record Begins (text : List ℕ) (at : ℕ) (reader : Further → Reader (Nod
   pub inside : next ≤ length text
   pub may : May which
 
-unfoldable pub OpenedBy : List ℕ → ℕ → (Further → Reader (Node Atom)) → (ℕ → Type 0) → Opening → Type 0
-OpenedBy text at reader May (Stopped position) = (further : Further) → read_at text at (reader further) ≡ stop position
-OpenedBy text at reader May (Found which next) = Begins text at reader May which next
+unfoldable pub OpenedBy : List ℕ → ℕ → (Further → Reader (Node Atom)) → (ℕ → Type 0) → Result Opening Stop → Type 0
+OpenedBy text at reader May (Err halt) = (further : Further) → read_at text at (reader further) ≡ stop halt.at
+OpenedBy text at reader May (Ok found) = Begins text at reader May found.which found.next
 
-pub record Opened (text : List ℕ) (at : ℕ) (reader : Further → Reader (Node Atom)) (May : ℕ → Type 0) (opening : Opening) : Type 0 where
+pub record Opened (text : List ℕ) (at : ℕ) (reader : Further → Reader (Node Atom)) (May : ℕ → Type 0) (opening : Result Opening Stop) : Type 0 where
   pub by_opening : OpenedBy text at reader May opening

@@ -1,12 +1,12 @@
 -- What is said of the reader of the tree: each function reads what the book's reader of the same part does, the arrays then hold the table with the
 -- polynomials that are used, and the tape holds the tokens of what was read.
-use Rattle.std.specs.Prelude.{Bool, not, ◌&&◌, List, [], ◌∷◌, ◌≡◌, ℕ, zero, suc, ◌+◌, ◌-◌, ◌*◌, ◌<◌, ◌≤◌, eqb, ltb, leb, ℤ, length, drop, set}
+use Rattle.std.specs.Prelude.{Bool, not, ◌&&◌, List, ◌≡◌, ℕ, zero, suc, ◌+◌, ◌-◌, ◌*◌, ◌<◌, ◌≤◌, eqb, ltb, leb, ℤ, length, drop, set, Result, Ok, Err}
 use Rattle.std.proofs.lemmas.List.Edits.{sets}
 use Rattle.rules.specs.Polynomial.{Polynomial, Atom}
-use Rattle.rules.specs.Formula.{Parts, end, Node, leaf, all_of, any_of, before, alone, each_atom, each_atom_of, children, nodes}
+use Rattle.rules.specs.Formula.{Parts, end, Node, leaf, before, alone, each_atom, each_atom_of, children, nodes}
 use Rattle.rules.specs.Answer.{used, numbered}
 use Rattle.block.specs.Held.{tokens, kind_of}
-use Rattle.rules.specs.Reader.{Reader, give, stuck}
+use Rattle.rules.specs.Reader.{Reader, give}
 use Rattle.rules.specs.Combine.{say, ◌then◌}
 use Rattle.rules.specs.Text.{bytes, closing}
 use Rattle.rules.specs.Reading.{known_polynomial, room_behind, later_kids, kids_by, node}
@@ -16,9 +16,9 @@ use Rattle.script_polynomial.specs.Tabled.{Tabled}
 use Rattle.script_back.specs.Runs.{just}
 use Rattle.script_back.specs.declared.tree.Place.{Place}
 use Rattle.script_back.specs.declared.tree.Branch.{Branch}
-use Rattle.script_back.specs.declared.tree.Branch.TheVariants.{Stopped, Read}
 use Rattle.script_back.specs.declared.tree.Turn.{Turn}
-use Rattle.script_back.specs.declared.tree.Turn.TheVariants.{Stopped as NoTurn, End, More}
+use Rattle.script_back.specs.declared.tree.Turn.TheVariants.{End, More}
+use Rattle.script_polynomial.specs.declared.Stop.{Stop}
 
 -- The place lies in the text, and the tape has room for the nodes that are owed and those that may come.
 pub record Ready (text token : List ℕ) (place : Place) (owed : ℕ) : Type 0 where
@@ -38,11 +38,11 @@ pub record Reached {A : Type 0} (text : List ℕ) (at : ℕ) (reader : Reader A)
   pub inside : place.at ≤ length text
   pub stored : Stored part place kind
 
-unfoldable pub Finds : {A : Type 0} → List ℕ → ℕ → Reader A → (A → Place → ℕ → Type 0) → Branch → Type 0
-Finds text at reader Stored (Stopped position) = read_at text at reader ≡ stop position
-Finds text at reader Stored (Read place kind) = Reached text at reader Stored place kind
+unfoldable pub Finds : {A : Type 0} → List ℕ → ℕ → Reader A → (A → Place → ℕ → Type 0) → Result Branch Stop → Type 0
+Finds text at reader Stored (Err halt) = read_at text at reader ≡ stop halt.at
+Finds text at reader Stored (Ok branch) = Reached text at reader Stored branch.behind branch.kind
 
-pub record Found {A : Type 0} (text : List ℕ) (at : ℕ) (reader : Reader A) (Stored : A → Place → ℕ → Type 0) (branch : Branch) : Type 0 where
+pub record Found {A : Type 0} (text : List ℕ) (at : ℕ) (reader : Reader A) (Stored : A → Place → ℕ → Type 0) (branch : Result Branch Stop) : Type 0 where
   pub finds : Finds text at reader Stored branch
 
 -- ---- nodes
@@ -73,11 +73,11 @@ abbrev pub may_join : ℕ → ℕ → ℕ → ℕ → Bool
 may_join nesting parent room kind = ltb 0 nesting && (not (eqb parent kind) && leb 2 room)
 
 -- For whichever table the arrays held.
-pub record AtomFound (text : List ℕ) (n : ℕ) (place : Place) (s : ℕ) (cs cs' : List ℤ) (ms ms' ts ts' token token' : List ℕ) (branch : Branch) : Type 0 where
+pub record AtomFound (text : List ℕ) (n : ℕ) (place : Place) (s : ℕ) (cs cs' : List ℤ) (ms ms' ts ts' token token' : List ℕ) (branch : Result Branch Stop) : Type 0 where
   pub found : (cs₀ : List ℤ) (ms₀ ts₀ : List ℕ) (table : List Polynomial) → Tabled n cs₀ ms₀ ts₀ table cs ms ts → length table ≡ place.known
       → Found text place.at (atom_from n table s) (NodeStored n cs₀ ms₀ ts₀ table place.tokens place.room cs' ms' ts' token token') branch
 
-pub record NodeFound (text : List ℕ) (n nesting parent : ℕ) (place : Place) (cs cs' : List ℤ) (ms ms' ts ts' token token' : List ℕ) (branch : Branch) : Type 0 where
+pub record NodeFound (text : List ℕ) (n nesting parent : ℕ) (place : Place) (cs cs' : List ℤ) (ms ms' ts ts' token token' : List ℕ) (branch : Result Branch Stop) : Type 0 where
   pub found : (cs₀ : List ℤ) (ms₀ ts₀ : List ℕ) (table : List Polynomial) → Tabled n cs₀ ms₀ ts₀ table cs ms ts → length table ≡ place.known
       → Found text place.at (node n nesting parent table place.room) (NodeStored n cs₀ ms₀ ts₀ table place.tokens place.room cs' ms' ts' token token') branch
 
@@ -89,7 +89,7 @@ pub record AtomClosed (place : Place) (s number : ℕ) (token token' : List ℕ)
   pub tape : token' ≡ set token place.tokens (number * 8 + s)
   pub kind_is : kind ≡ 0
 
-abbrev pub Closes : List ℕ → Place → ℕ → ℕ → List ℕ → List ℕ → Branch → Type 0
+abbrev pub Closes : List ℕ → Place → ℕ → ℕ → List ℕ → List ℕ → Result Branch Stop → Type 0
 Closes text place s number token token' branch = Found text place.at (just (closing s)) (AtomClosed place s number token token') branch
 
 -- ---- children
@@ -123,12 +123,12 @@ pub record GoesOn (text : List ℕ) (at room j left : ℕ) : Type 0 where
   pub inside : at + 1 ≤ length text
   pub less : left + 1 + (2 - (j + 1)) ≡ room + (2 - j)
 
-unfoldable pub TurnOf : List ℕ → ℕ → ℕ → ℕ → Turn → Type 0
-TurnOf text at room j (NoTurn position) = (one : One) (known : List Polynomial) → read_at text at (kids_after one j known room) ≡ stop position
-TurnOf text at room j End = Ends text at room j
-TurnOf text at room j (More left) = GoesOn text at room j left
+unfoldable pub TurnOf : List ℕ → ℕ → ℕ → ℕ → Result Turn Stop → Type 0
+TurnOf text at room j (Err halt) = (one : One) (known : List Polynomial) → read_at text at (kids_after one j known room) ≡ stop halt.at
+TurnOf text at room j (Ok End) = Ends text at room j
+TurnOf text at room j (Ok (More left)) = GoesOn text at room j left
 
-pub record TurnFound (text : List ℕ) (at room j : ℕ) (turn : Turn) : Type 0 where
+pub record TurnFound (text : List ℕ) (at room j : ℕ) (turn : Result Turn Stop) : Type 0 where
   pub turns : TurnOf text at room j turn
 
 -- Children were stored behind so many, and their parent's token.
@@ -141,7 +141,7 @@ pub record KidsStored (n : ℕ) (cs₀ : List ℤ) (ms₀ ts₀ : List ℕ) (tab
   pub room_left : after.tokens + after.room ≡ count + room + (2 - j)
   pub kind_is : kind ≡ given-kind
 
-pub record KidsFound (text : List ℕ) (n nesting kind own j : ℕ) (place : Place) (cs cs' : List ℤ) (ms ms' ts ts' token token' : List ℕ) (branch : Branch) : Type 0 where
+pub record KidsFound (text : List ℕ) (n nesting kind own j : ℕ) (place : Place) (cs cs' : List ℤ) (ms ms' ts ts' token token' : List ℕ) (branch : Result Branch Stop) : Type 0 where
   pub found : (cs₀ : List ℤ) (ms₀ ts₀ : List ℕ) (table : List Polynomial) → Tabled n cs₀ ms₀ ts₀ table cs ms ts → length table ≡ place.known
       → Found text place.at (kids_after (node n nesting kind) j table place.room)
       (KidsStored n cs₀ ms₀ ts₀ table own j place.tokens place.room kind cs' ms' ts' token token') branch

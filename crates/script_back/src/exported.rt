@@ -2,11 +2,10 @@
 // To C a slice is a pointer and a length, and each outcome is one number.
 // Below 256 it is the refusal's number, else 65,536 more than the length of the finished block.
 ghost use Rattle.std.specs.Prelude.{◌≡◌, ◌+◌, ◌<◌};
-ghost use Rattle.convert.specs.Exported.{Short, number_of};
+ghost use Rattle.script_back.specs.Refusals.{by_number};
 ghost use Rattle.script_back.specs.Back.{ShortIn, number_in as number_in_of, position_in as position_in_of, ExportsBack};
 
-use crate::{Outcome, block_of};
-use convert::Converted;
+use crate::{Refusal, block_of};
 
 // A block has fewer than 32,768 bytes.
 fn above(size: usize) -> u32
@@ -17,33 +16,23 @@ fn above(size: usize) -> u32
 }
 
 // A refusal's own number, or 65,536 more than the length.
-fn converted_number(converted: Converted) -> u32
-    requires { Short converted }
-    ensures { result ≡ number_of converted }
-{
-    match converted {
-        Converted::Refused(number) => number as u32,
-        Converted::Finished(size) => above(size),
-    }
-}
-
-fn number_in(outcome: Outcome) -> u32
-    requires { ShortIn outcome }
-    ensures { result ≡ number_in_of outcome }
+fn number_in(outcome: Result<usize, Refusal>) -> u32
+    requires { ShortIn (by_number outcome) }
+    ensures { result ≡ number_in_of (by_number outcome) }
 {
     match outcome {
-        Outcome::Stopped(_) => 25,
-        Outcome::Read(converted) => converted_number(converted),
+        Err(refusal) => refusal.number() as u32,
+        Ok(size) => above(size),
     }
 }
 
 // Where the text stopped; 0 if it was read.
-fn position_in(outcome: Outcome) -> usize
-    ensures { result ≡ position_in_of outcome }
+fn position_in(outcome: Result<usize, Refusal>) -> usize
+    ensures { result ≡ position_in_of (by_number outcome) }
 {
     match outcome {
-        Outcome::Stopped(position) => position,
-        Outcome::Read(_) => 0,
+        Err(refusal) => refusal.position(),
+        Ok(_) => 0,
     }
 }
 

@@ -3,17 +3,20 @@
 
 #![tactic(auto)]
 
-ghost use Rattle.std.specs.Prelude.{◌≡◌, length};
+ghost use Rattle.std.specs.Prelude.{◌≡◌};
 ghost use Rattle.rules.specs.Block.{Block, edition1, write_block};
-ghost use Rattle.block.specs.Held.{held_by, BlockRoom, nothing};
+ghost use Rattle.block.specs.Held.{held_by, BlockRoom};
 ghost use Rattle.writer.specs.Written.{Writable, SomeWritable};
 ghost use Rattle.convert.specs.Converted.{Finishes};
 ghost use Rattle.rules.specs.Reading.{read_text};
+ghost use Rattle.script_back.specs.Refusals.{number_of, position_of};
+ghost use Rattle.script_back.specs.declared.Refusal.TheVariants.{Stopped as StoppedAt, NotFinished as Unfinished};
 ghost use Rattle.script_back.specs.Back.{GivesBack, reading_of};
 
 use block::Held;
-use convert::{Converted, to_edition1};
-use whole_script::{Script, read_into};
+use convert::to_edition1;
+use script_polynomial::Stop;
+use whole_script::read_into;
 use writer::write;
 
 mod declarations; // from the logic to the assertion
@@ -23,36 +26,55 @@ mod runs; // bytes that must stand at a position
 mod tree; // nodes and their children
 mod whole_script; // the root, the end, the whole text
 
-// What reading a script gives: 25 and the position where the text stopped, and nothing held; or 0, and what the block holds, as `block::read` gives it.
-#[derive(Clone, Copy)]
-pub struct Reading {
-    pub refusal: u8,
-    pub position: usize,
-    pub held: Held,
+// Why a text gives no block.
+#[derive(Clone, Copy, Debug, PartialEq, Eq)]
+pub enum Refusal {
+    // 25: "with the position of the first byte at which no such text goes on"
+    Stopped(Stop),
+    // the converter's: 1 if the output is shorter than the finished block
+    NotFinished(convert::Refusal),
 }
 
-fn no_script(position: usize) -> Reading
-    ensures { result ≡ record { refusal = 25; position = position; held = nothing } }
-{
-    let held = Held {
-        variables: 0,
-        polynomials: 0,
-        root: 0,
-        tokens: 0,
-        coefficient: [0; 1024],
-        monomial: [0; 1024],
-        terms: [0; 64],
-        token: [0; 255],
-    };
-    Reading {
-        refusal: 25,
-        position,
-        held,
+impl Refusal {
+    // The number that the documents give it.
+    pub fn number(self) -> u8
+        ensures { result ≡ number_of self }
+    {
+        match self {
+            Refusal::Stopped(_) => 25,
+            Refusal::NotFinished(refusal) => refusal.number(),
+        }
+    }
+
+    // Where the text stopped; 0 if it was read and its block is not finished.
+    pub fn position(self) -> usize
+        ensures { result ≡ position_of self }
+    {
+        match self {
+            Refusal::Stopped(stop) => stop.at,
+            Refusal::NotFinished(_) => 0,
+        }
     }
 }
 
-// Reads a script: every text is read, or stops somewhere.
-pub fn read_script(text: &[u8]) -> Reading
+impl From<Stop> for Refusal {
+    ghost from_gives = { λ stop given. given ≡ StoppedAt stop };
+
+    fn from(stop: Stop) -> Refusal {
+        Refusal::Stopped(stop)
+    }
+}
+
+impl From<convert::Refusal> for Refusal {
+    ghost from_gives = { λ refusal given. given ≡ Unfinished refusal };
+
+    fn from(refusal: convert::Refusal) -> Refusal {
+        Refusal::NotFinished(refusal)
+    }
+}
+
+// Reads a script: every text is read, or stops somewhere. What the block holds is given as `block::read` gives it.
+pub fn read_script(text: &[u8]) -> Result<Held, Stop>
     ensures { result ≡ reading_of (read_text text.now) }
 {
     let mut coefficient = [0i32; 1024];
@@ -65,39 +87,17 @@ pub fn read_script(text: &[u8]) -> Reading
         &mut monomial,
         &mut terms,
         &mut token,
-    );
-    match script {
-        Script::Stopped(position) => no_script(position),
-        Script::Numbers {
-            variables,
-            polynomials,
-            root,
-            tokens,
-        } => {
-            let held = Held {
-                variables,
-                polynomials,
-                root,
-                tokens,
-                coefficient,
-                monomial,
-                terms,
-                token,
-            };
-            Reading {
-                refusal: 0,
-                position: 0,
-                held,
-            }
-        }
-    }
-}
-
-// Where the text stopped (25); or the block that it is the script of, finished, or refused by 1.
-#[derive(Clone, Copy)]
-pub enum Outcome {
-    Stopped(usize),
-    Read(Converted),
+    )?;
+    Ok(Held {
+        variables: script.variables,
+        polynomials: script.polynomials,
+        root: script.root,
+        tokens: script.tokens,
+        coefficient,
+        monomial,
+        terms,
+        token,
+    })
 }
 
 // Writes the block that the arrays hold, in edition 1, if the output has room for it. It is written apart first; the longest block has 21,516 bytes.
@@ -111,7 +111,7 @@ fn put_block(
     terms: &[u8],
     token: &[u32],
     output: &mut [u8],
-) -> Converted
+) -> Result<usize, convert::Refusal>
     requires { BlockRoom coefficient.now monomial.now terms.now token.now
         × SomeWritable 1 (held_by variables polynomials root tokens coefficient.now monomial.now terms.now token.now) 21516 }
     ensures { (block : Block) → Writable 1 (held_by variables polynomials root tokens coefficient.now monomial.now
@@ -134,8 +134,8 @@ fn put_block(
     to_edition1(&finished[..size], output)
 }
 
-// Reads a script and writes its block, in edition 1, to the output's first bytes.
-pub fn block_of(text: &[u8], output: &mut [u8]) -> Outcome
+// Reads a script and writes its block, in edition 1, to the output's first bytes: it is finished, or refused by 1.
+pub fn block_of(text: &[u8], output: &mut [u8]) -> Result<usize, Refusal>
     ensures { GivesBack text.now output.old output.new result }
 {
     let mut coefficient = [0i32; 1024];
@@ -148,27 +148,17 @@ pub fn block_of(text: &[u8], output: &mut [u8]) -> Outcome
         &mut monomial,
         &mut terms,
         &mut token,
-    );
-    match script {
-        Script::Stopped(position) => Outcome::Stopped(position),
-        Script::Numbers {
-            variables,
-            polynomials,
-            root,
-            tokens,
-        } => {
-            let converted = put_block(
-                variables,
-                polynomials,
-                root,
-                tokens,
-                &coefficient,
-                &monomial,
-                &terms,
-                &token,
-                output,
-            );
-            Outcome::Read(converted)
-        }
-    }
+    )?;
+    let size = put_block(
+        script.variables,
+        script.polynomials,
+        script.root,
+        script.tokens,
+        &coefficient,
+        &monomial,
+        &terms,
+        &token,
+        output,
+    )?;
+    Ok(size)
 }

@@ -2,30 +2,28 @@
 ghost use Rattle.std.specs.Prelude.{◌<◌, ◌≤◌, length};
 ghost use Rattle.script_back.specs.Opening.{one, one_given, either, any, Only, OnlyGiven, OfAtom, Allowed, Opened};
 
-use crate::runs::{Step, said};
+use crate::runs::said;
+use script_polynomial::Stop;
 use script_polynomial::bytes::byte_at;
 
-// Where the text stopped; or what the node begins with, and the position behind that: 1 to 6 is an atom with this set, 7 is an AND, 8 is an OR.
+// What a node begins with, and the position behind that: 1 to 6 is an atom with this set, 7 is an AND, 8 is an OR.
 #[derive(Clone, Copy)]
-pub enum Opening {
-    Stopped(usize),
-    Found { which: u32, next: usize },
+pub struct Opening {
+    pub which: u32,
+    pub next: usize,
 }
 
 // The rest of one beginning.
-fn beginning(text: &[u8], at: usize, bytes: &[u8], which: u32) -> Opening
+fn beginning(text: &[u8], at: usize, bytes: &[u8], which: u32) -> Result<Opening, Stop>
     requires { at ≤ length text.now }
     ensures { Opened text.now at (one bytes.now which) (Only which) result }
 {
-    let step = said(text, at, bytes);
-    match step {
-        Step::Stopped(position) => Opening::Stopped(position),
-        Step::Read(next) => Opening::Found { which, next },
-    }
+    let next = said(text, at, bytes)?;
+    Ok(Opening { which, next })
 }
 
 // Behind `(<` or `(>`: a space, or `= ` and the set with zero.
-fn compared(text: &[u8], at: usize, set: u32) -> Opening
+fn compared(text: &[u8], at: usize, set: u32) -> Result<Opening, Stop>
     requires { (at ≤ length text.now) × (0 < set) × (set ≤ 4) }
     ensures { Opened text.now at (either set) OfAtom result }
 {
@@ -36,23 +34,23 @@ fn compared(text: &[u8], at: usize, set: u32) -> Opening
 }
 
 // The rest of an AND's or an OR's beginning, where it is allowed; else the byte before was none that goes on.
-fn joining(text: &[u8], at: usize, allowed: bool, bytes: &[u8], which: u32) -> Opening
+fn joining(text: &[u8], at: usize, allowed: bool, bytes: &[u8], which: u32) -> Result<Opening, Stop>
     requires { (0 < at) × (at ≤ length text.now) }
     ensures { Opened text.now at (one_given allowed bytes.now which) (OnlyGiven allowed which) result }
 {
     if allowed {
         return beginning(text, at, bytes, which);
     }
-    Opening::Stopped(at - 1)
+    Err(Stop { at: at - 1 })
 }
 
 // "At a node's `(`: `<` `>` `=` `n`; `a` or `o`" where an AND or an OR is allowed.
-pub fn open_node(text: &[u8], at: usize, ands: bool, ors: bool) -> Opening
+pub fn open_node(text: &[u8], at: usize, ands: bool, ors: bool) -> Result<Opening, Stop>
     requires { at ≤ length text.now }
     ensures { Opened text.now at (any ands ors) (Allowed ands ors) result }
 {
     if byte_at(text, at) != b'(' {
-        return Opening::Stopped(at);
+        return Err(Stop { at });
     }
     let second = byte_at(text, at + 1);
     if second == b'<' {
@@ -73,5 +71,5 @@ pub fn open_node(text: &[u8], at: usize, ands: bool, ors: bool) -> Opening
     if second == b'o' {
         return joining(text, at + 2, ors, b"r", 8);
     }
-    Opening::Stopped(at + 1)
+    Err(Stop { at: at + 1 })
 }

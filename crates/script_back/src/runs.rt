@@ -3,27 +3,20 @@
 ghost use Rattle.std.specs.Prelude.{◌≤◌, length};
 ghost use Rattle.script_back.specs.Runs.{Said};
 
-// Where the text stopped, or the position behind what was read.
-#[derive(Clone, Copy)]
-pub enum Step {
-    Stopped(usize),
-    Read(usize),
-}
+use script_polynomial::Stop;
 
-// These bytes.
-pub fn said(text: &[u8], at: usize, bytes: &[u8]) -> Step
+// These bytes: the position behind them is given.
+pub fn said(text: &[u8], at: usize, bytes: &[u8]) -> Result<usize, Stop>
     requires { at ≤ length text.now }
     ensures { Said text.now at bytes.now result }
 {
-    let mut i = 0;
-    while i < bytes.len() {
+    for i in 0..bytes.len() {
         if text.len() <= at + i {
-            return Step::Stopped(at + i);
+            return Err(Stop { at: at + i });
         }
         if text[at + i] != bytes[i] {
-            return Step::Stopped(at + i);
+            return Err(Stop { at: at + i });
         }
-        i += 1;
     }
-    Step::Read(at + i)
+    Ok(at + bytes.len())
 }

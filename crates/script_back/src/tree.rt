@@ -6,10 +6,10 @@ ghost use Rattle.script_polynomial.specs.Tabled.{SomeTabled};
 ghost use Rattle.script_back.specs.Runs.{Said};
 ghost use Rattle.script_back.specs.Tree.{Ready, Kids, may_join as may_join_of, TurnFound, Closes, AtomFound, NodeFound, KidsFound};
 
-use crate::opening::{Opening, open_node};
-use crate::runs::{Step, said};
+use crate::opening::open_node;
+use crate::runs::said;
 use script_polynomial::bytes::byte_at;
-use script_polynomial::{Piece, known_polynomial};
+use script_polynomial::{Stop, known_polynomial};
 
 // Where the reader stands: the next byte, how many nodes more than those that are owed may come, how many polynomials are known, how many tokens stored.
 #[derive(Clone, Copy)]
@@ -20,17 +20,17 @@ pub struct Place {
     pub tokens: usize,
 }
 
-// What reading a node finds: where the text stopped; or the place behind the node and its kind: 0 is an atom, 1 is AND, 2 is OR.
+// A node that was read: the place behind it, and its kind: 0 is an atom, 1 is AND, 2 is OR.
 #[derive(Clone, Copy)]
-pub enum Branch {
-    Stopped(usize),
-    Read(Place, u8),
+pub struct Branch {
+    pub behind: Place,
+    pub kind: u8,
 }
 
 // ---- atoms
 
 // What stands behind the polynomial of an atom with this set.
-fn closing(text: &[u8], at: usize, set: u32) -> Step
+fn closing(text: &[u8], at: usize, set: u32) -> Result<usize, Stop>
     requires { (at ≤ length text.now) × (0 < set) × (set ≤ 6) }
     ensures { Said text.now at (closing_text set) result }
 {
@@ -41,25 +41,26 @@ fn closing(text: &[u8], at: usize, set: u32) -> Step
 }
 
 // The end of an atom, whose token is stored.
-fn close_atom(text: &[u8], token: &mut [u32], place: Place, set: u32, number: u32) -> Branch
+fn close_atom(
+    text: &[u8],
+    token: &mut [u32],
+    place: Place,
+    set: u32,
+    number: u32,
+) -> Result<Branch, Stop>
     requires { Ready text.now token.old place 1 × (0 < set) × (set ≤ 6) × (number < 64) }
     ensures { Closes text.now place set number token.old token.new result }
 {
     let tokens = place.tokens;
-    let step = closing(text, place.at, set);
-    match step {
-        Step::Stopped(position) => Branch::Stopped(position),
-        Step::Read(next) => {
-            token[tokens] = number * 8 + set;
-            let behind = Place {
-                at: next,
-                room: place.room,
-                known: place.known,
-                tokens: tokens + 1,
-            };
-            Branch::Read(behind, 0)
-        }
-    }
+    let next = closing(text, place.at, set)?;
+    token[tokens] = number * 8 + set;
+    let behind = Place {
+        at: next,
+        room: place.room,
+        known: place.known,
+        tokens: tokens + 1,
+    };
+    Ok(Branch { behind, kind: 0 })
 }
 
 // The rest of an atom with this set, from its polynomial on.
@@ -72,7 +73,7 @@ fn read_atom(
     place: Place,
     variables: usize,
     set: u32,
-) -> Branch
+) -> Result<Branch, Stop>
     requires { SomeTabled variables place.known coefficient.old monomial.old terms.old
         × Ready text.now token.old place 1 × (0 < set) × (set ≤ 6) }
     ensures { AtomFound text.now variables place set coefficient.old coefficient.new monomial.old monomial.new
@@ -86,23 +87,14 @@ fn read_atom(
         place.at,
         variables,
         place.known,
-    );
-    match piece {
-        Piece::Stopped(position) => Branch::Stopped(position),
-        Piece::Read {
-            number,
-            known,
-            behind,
-        } => {
-            let end = Place {
-                at: behind,
-                room: place.room,
-                known,
-                tokens: place.tokens,
-            };
-            close_atom(text, token, end, set, number)
-        }
-    }
+    )?;
+    let end = Place {
+        at: piece.behind,
+        room: place.room,
+        known: piece.known,
+        tokens: place.tokens,
+    };
+    close_atom(text, token, end, set, piece.number)
 }
 
 // ---- nodes
@@ -120,36 +112,35 @@ fn may_join(nesting: usize, parent: u8, room: usize, kind: u8) -> bool
     2 <= room
 }
 
-// What comes behind so many children: the text stops there, or their parent ends, or another child comes, with so much room.
+// What comes behind so many children: their parent ends, or another child comes, with so much room.
 #[derive(Clone, Copy)]
 enum Turn {
-    Stopped(usize),
     End,
     More(usize),
 }
 
 // "after child j: a space iff j < 2" or there is room; "`)` iff j ≥ 2".
-fn turn_at(text: &[u8], at: usize, room: usize, children: u32) -> Turn
+fn turn_at(text: &[u8], at: usize, room: usize, children: u32) -> Result<Turn, Stop>
     requires { (at ≤ length text.now) × (room + children ≤ 254) }
     ensures { TurnFound text.now at room children result }
 {
     let next = byte_at(text, at);
     if children < 2 {
         if next == b' ' {
-            return Turn::More(room);
+            return Ok(Turn::More(room));
         }
-        return Turn::Stopped(at);
+        return Err(Stop { at });
     }
     if next == b')' {
-        return Turn::End;
+        return Ok(Turn::End);
     }
     if room == 0 {
-        return Turn::Stopped(at);
+        return Err(Stop { at });
     }
     if next == b' ' {
-        return Turn::More(room - 1);
+        return Ok(Turn::More(room - 1));
     }
-    Turn::Stopped(at)
+    Err(Stop { at })
 }
 
 // The node at a place, under a parent of that kind (0 at the root), where so many nestings are still allowed.
@@ -164,56 +155,52 @@ pub fn read_node(
     variables: usize,
     nesting: usize,
     parent: u8,
-) -> Branch
+) -> Result<Branch, Stop>
     requires { SomeTabled variables place.known coefficient.old monomial.old terms.old × Ready text.now token.old place 1 }
     ensures { NodeFound text.now variables nesting parent place coefficient.old coefficient.new
         monomial.old monomial.new terms.old terms.new token.old token.new result }
 {
     let ands = may_join(nesting, parent, place.room, 1);
     let ors = may_join(nesting, parent, place.room, 2);
-    let opening = open_node(text, place.at, ands, ors);
-    match opening {
-        Opening::Stopped(position) => Branch::Stopped(position),
-        Opening::Found { which, next } => {
-            if which < 7 {
-                let polynomial = Place {
-                    at: next,
-                    room: place.room,
-                    known: place.known,
-                    tokens: place.tokens,
-                };
-                return read_atom(
-                    text,
-                    coefficient,
-                    monomial,
-                    terms,
-                    token,
-                    polynomial,
-                    variables,
-                    which,
-                );
-            }
-            let first = Place {
-                at: next,
-                room: place.room - 2,
-                known: place.known,
-                tokens: place.tokens + 1,
-            };
-            read_kids(
-                text,
-                coefficient,
-                monomial,
-                terms,
-                token,
-                first,
-                variables,
-                nesting - 1,
-                (which - 6) as u8,
-                place.tokens,
-                0,
-            )
-        }
+    let opening = open_node(text, place.at, ands, ors)?;
+    let which = opening.which;
+    if which < 7 {
+        let polynomial = Place {
+            at: opening.next,
+            room: place.room,
+            known: place.known,
+            tokens: place.tokens,
+        };
+        return read_atom(
+            text,
+            coefficient,
+            monomial,
+            terms,
+            token,
+            polynomial,
+            variables,
+            which,
+        );
     }
+    let first = Place {
+        at: opening.next,
+        room: place.room - 2,
+        known: place.known,
+        tokens: place.tokens + 1,
+    };
+    read_kids(
+        text,
+        coefficient,
+        monomial,
+        terms,
+        token,
+        first,
+        variables,
+        nesting - 1,
+        (which - 6) as u8,
+        place.tokens,
+        0,
+    )
 }
 
 // The children behind so many, and their parent's end: its token, at its own place, has their number.
@@ -230,16 +217,15 @@ fn read_kids(
     kind: u8,
     own: usize,
     children: u32,
-) -> Branch
+) -> Result<Branch, Stop>
     requires { SomeTabled variables place.known coefficient.old monomial.old terms.old × Ready text.now token.old place (2 - children)
         × Kids place own children }
     ensures { KidsFound text.now variables nesting kind own children place coefficient.old coefficient.new
         monomial.old monomial.new terms.old terms.new token.old token.new result }
 {
     let at = place.at;
-    let turn = turn_at(text, at, place.room, children);
+    let turn = turn_at(text, at, place.room, children)?;
     match turn {
-        Turn::Stopped(position) => Branch::Stopped(position),
         Turn::End => {
             token[own] = 16777216 + children;
             let behind = Place {
@@ -248,7 +234,7 @@ fn read_kids(
                 known: place.known,
                 tokens: place.tokens,
             };
-            Branch::Read(behind, kind)
+            Ok(Branch { behind, kind })
         }
         Turn::More(room) => {
             let child = Place {
@@ -267,23 +253,20 @@ fn read_kids(
                 variables,
                 nesting,
                 kind,
-            );
-            match branch {
-                Branch::Stopped(position) => Branch::Stopped(position),
-                Branch::Read(after, _) => read_kids(
-                    text,
-                    coefficient,
-                    monomial,
-                    terms,
-                    token,
-                    after,
-                    variables,
-                    nesting,
-                    kind,
-                    own,
-                    children + 1,
-                ),
-            }
+            )?;
+            read_kids(
+                text,
+                coefficient,
+                monomial,
+                terms,
+                token,
+                branch.behind,
+                variables,
+                nesting,
+                kind,
+                own,
+                children + 1,
+            )
         }
     }
 }

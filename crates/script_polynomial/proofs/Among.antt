@@ -1,27 +1,24 @@
 -- A polynomial among those that are known: with room, any is read as if none were known; with 64 known, only as far as the text of one of them goes.
 use mathlib.Core.Bool.{Bool, true, false}
 use mathlib.Core.List.{List, [], ◌∷◌, ◌++◌, map}
-use mathlib.Core.Path.{◌≡◌, refl, sym, ap, ap₂, subst, ◌∙◌}
+use mathlib.Core.Path.{◌≡◌, refl, sym, ap, subst, ◌∙◌}
 use Prim.Native.Nat.{ℕ, zero, suc, ◌+◌, ◌-◌, ◌≤◌, ◌<◌}
-use native.Mathlib.Nat.{add-zero, add-suc, suc-add}
+use native.Mathlib.Nat.{add-zero}
 use native.Mathlib.Omega.{arith}
-use lib.Dec.{eqb, leb, ltb}
+use lib.Dec.{eqb, leb}
 use lib.ListN.{length, drop, length-append}
-use lib.Seq.{drop-append_seam}
-use borrow.Author.Tests.{lt-ltb, le-ltb, le-leb, lt-leb, leb-true, leb-false}
+use borrow.Author.Tests.{lt-ltb, le-ltb, le-leb, lt-leb}
 use Rattle.rules.specs.Polynomial.{Polynomial}
 use Rattle.rules.specs.Limits.{PolynomialWithin}
 use Rattle.rules.specs.Answer.{knows, added_unless}
-use Rattle.sign_laws.specs.Booleans.{never_both}
 use Rattle.rules.specs.Reader.{Reader, give, stuck, ask}
 use Rattle.rules.specs.Combine.{given, drop_if, after, is_some, only}
 use Rattle.script_laws.specs.Leading.{Leads, arrived, onward}
 use Rattle.script_laws.specs.CombineLaws.{Reads}
-use Rattle.rules.specs.Text.{bytes, polynomial_text}
-use Rattle.rules.specs.Reading.{beyond, polynomial, of_known, known_polynomial}
+use Rattle.rules.specs.Reading.{polynomial, of_known, known_polynomial}
 use Rattle.script_laws.specs.Polynomials.{polynomial-reads}
 use Rattle.script_laws.specs.Products.{product-reads}
-use Rattle.script_laws.specs.Known.{Table, with, MayCome, known-reads}
+use Rattle.script_laws.specs.Known.{Table, with, known-reads}
 use Rattle.script_laws.specs.Steps.{Part, got, stop, read_part}
 use Rattle.script_polynomial.specs.At.{read_at, Stops, Reaches}
 use Rattle.script_polynomial.specs.Agreement.{one_more, common}

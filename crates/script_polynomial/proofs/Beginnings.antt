@@ -2,25 +2,24 @@
 use mathlib.Core.Bool.{Bool, true, false, ◌&&◌}
 use mathlib.Core.List.{List, [], ◌∷◌}
 use mathlib.Core.Path.{◌≡◌, refl, sym, ap, ◌∙◌, fun_ext}
-use Prim.Native.Nat.{ℕ, zero, suc, ◌+◌, ◌-◌, ◌≤◌, ◌<◌}
+use Prim.Native.Nat.{ℕ, ◌+◌, ◌-◌}
 use native.Mathlib.Nat.{add-zero}
 use native.Mathlib.Omega.{arith}
 use lib.Dec.{eqb, leb, ltb}
 use lib.IntN.{ℤ, pos, neg_ℤ}
-use lib.ListN.{length, drop, get_or}
+use lib.ListN.{drop, get_or}
 use lib.Seq.{get_or-drop}
 use borrow.Author.Tests.{eq-eqb, ne_eqb, eqb-true, eqb-false}
 use Rattle.sign_laws.specs.Booleans.{and_first, and_second, and_intro, never_both}
 use Rattle.rules.specs.Polynomial.{Term, Polynomial}
-use Rattle.rules.specs.Reader.{Reader, give, stuck, ask}
+use Rattle.rules.specs.Reader.{Reader, give, stuck}
 use Rattle.rules.specs.Combine.{given, say, ◌then◌, ◌union◌, one_of}
 use Rattle.rules.specs.Text.{bytes}
-use Rattle.rules.specs.Reading.{digits_after, magnitude, number_or, constant_of, product, next_term, other_terms, polynomial, beyond}
-use Rattle.script_laws.specs.Steps.{read_part}
+use Rattle.rules.specs.Reading.{digits_after, magnitude, number_or, constant_of, product, next_term, polynomial, beyond}
 use Rattle.script_polynomial.specs.At.{read_at}
 use Rattle.script_polynomial.specs.Joined.{say-then, then-as, then-then}
 use Rattle.script_polynomial.specs.Ways.{Dead, dead, dead-behind, dead_end, Lives, lives, lives-behind, lives-end, or-stuck, union-first}
-use Rattle.script_polynomial.specs.Ways.{union-second, union-dead, first-lives, second-lives, dead-sooner}
+use Rattle.script_polynomial.specs.Ways.{union-second, union-dead, first-lives, second-lives}
 use Rattle.script_polynomial.specs.Found.{plain_number, minus_number}
 use Rattle.script_polynomial.specs.Terms.{product_term, constant_term, alone_term, others_of, sum_of_terms, opens_with}
 use Rattle.script_polynomial.proofs.Signed.{number-minus, number-plain}

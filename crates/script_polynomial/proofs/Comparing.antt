@@ -6,10 +6,9 @@ use Prim.Native.Nat.{ℕ, zero, suc, ◌+◌, ◌-◌, ◌*◌, ◌<◌, ◌≤�
 use native.Mathlib.Numerals.{add-one}
 use native.Mathlib.Omega.{arith}
 use lib.IntN.{ℤ}
-use lib.ListN.{length, get_or, take, drop, set}
-use lib.Seq.{take-suc-set, length-sets}
+use lib.ListN.{length, get_or, take, set}
+use lib.Seq.{take-suc-set}
 use Rattle.rules.specs.Polynomial.{same}
-use Rattle.rules.specs.Limits.{PolynomialWithin}
 use Rattle.terms.specs.View.{terms_from}
 use Rattle.sign_laws.specs.Booleans.{and-false}
 use Rattle.forms.specs.Slots.{slot_of}
@@ -18,7 +17,6 @@ use Rattle.lines.specs.Written.{Wrote, wrote-long, front-again}
 use Rattle.rules.specs.Text.{polynomial_text}
 use Rattle.script_laws.specs.Length.{length-polynomial}
 use Rattle.script_polynomial.specs.Agreement.{common}
-use Rattle.script_polynomial.specs.Terms.{Room}
 use Rattle.script_polynomial.specs.Slots.{same_at, larger, agreement, text_at, texts_from, SlotWithin}
 
 -- ---- Two runs of terms.

@@ -1,33 +1,34 @@
 -- The digits of a number, byte by byte: each byte ends it, goes on with it, or stops it.
+use Rattle.std.specs.Prelude.{Result, Ok, Err}
 use mathlib.Core.Bool.{Bool, true, false, ◌&&◌}
-use mathlib.Core.List.{List, [], ◌∷◌}
-use mathlib.Core.Path.{◌≡◌, refl, sym, ap, ◌∙◌}
+use mathlib.Core.List.{List}
+use mathlib.Core.Path.{◌≡◌, refl, sym, ◌∙◌}
 use Prim.Native.Nat.{ℕ, zero, suc, ◌+◌, ◌-◌, ◌*◌, ◌≤◌, ◌<◌}
 use native.Mathlib.Omega.{arith}
 use lib.Dec.{eqb, leb}
 use lib.ListN.{length, drop, get_or}
 use borrow.Author.Tests.{eq-eqb, ne_eqb, le-leb, lt-leb, leb-true}
 use Rattle.sign_laws.specs.Booleans.{and_first, and_second, and-false}
-use Rattle.rules.specs.Reader.{Reader, give, stuck, ask}
+use Rattle.rules.specs.Reader.{Reader, give}
 use Rattle.rules.specs.Combine.{given, say}
 use Rattle.script_laws.specs.Numbers.{Sized}
 use Rattle.rules.specs.Reading.{digit_may, end_or, digits_after, magnitude}
 use Rattle.script_laws.specs.Steps.{got, stop, read_part}
-use Rattle.script_polynomial.specs.At.{read_at, Stops, Reaches, byte_inside, byte-on, byte-stops, stops_as, reaches-as}
+use Rattle.script_polynomial.specs.At.{read_at, byte_inside, byte-on, byte-stops, stops_as, reaches-as}
 use Rattle.script_polynomial.specs.Found.{NumberOf, NumberFound}
-use Rattle.script_polynomial.specs.declared.numbers.Number.{Number}
-use Rattle.script_polynomial.specs.declared.numbers.Number.TheVariants.{Stopped, Read}
+use Rattle.script_polynomial.specs.declared.Read.{Read}
+use Rattle.script_polynomial.specs.declared.Stop.{Stop}
 
 -- ---- What is found, by another reader that reads the same.
 
-pub number-as : {text : List ℕ} {at at' : ℕ} {r r' : Reader ℕ} {P : ℕ → Type 0} (number : Number) → read_at text at r ≡ read_at text at' r'
+pub number-as : {text : List ℕ} {at at' : ℕ} {r r' : Reader ℕ} {P : ℕ → Type 0} (number : Result (Read ℕ) Stop) → read_at text at r ≡ read_at text at' r'
     → NumberFound text at' r' P number → NumberFound text at r P number
 unfolding NumberOf
-number-as (Stopped position) same h = record { found = stops_as same h.found }
-number-as (Read value behind) same h = record { found = (reaches-as same h.found.0, h.found.1) }
+number-as (Err stopped) same h = record { found = stops_as same h.found }
+number-as (Ok number) same h = record { found = (reaches-as same h.found.0, h.found.1) }
 
 pub number-stops : {text : List ℕ} {at : ℕ} {r : Reader ℕ} {P : ℕ → Type 0} {position : ℕ} → read_at text at r ≡ stop position
-    → NumberFound text at r P (Stopped position)
+    → NumberFound text at r P (Err (record { at = position }))
 unfolding NumberOf
 number-stops e = record { found = record { reading = e } }
 
@@ -49,7 +50,7 @@ module _ (text : List ℕ) (at last x : ℕ) where
   behind k b = end_or (eqb b last) (give x) (given (digit_may x b) (digits_after k last (10 * x + (b - 48))))
 
   pub digits-end : (most : ℕ) {b : ℕ} → b ≡ get_or text at 0 → 0 < last → b ≡ last → Sized x → NumberFound text at (digits_after most last x) Sized
-      (Read x (at + 1))
+      (Ok (record { value = x; behind = at + 1 }))
   unfolding NumberOf digits_after say given end_or read_part
   digits-end most e some same sized = record { found = (record { reading = by most; inside = omega (arith, here) }, sized) }
     where
@@ -67,19 +68,19 @@ module _ (text : List ℕ) (at last x : ℕ) where
     unlike : eqb (get_or text at 0) last ≡ false
     unlike = ne_eqb (get_or text at 0) last (λ same. other (e ∙ same))
 
-    pub digits-spent : (most : ℕ) → most ≡ 0 → NumberFound text at (digits_after most last x) Sized (Stopped at)
+    pub digits-spent : (most : ℕ) → most ≡ 0 → NumberFound text at (digits_after most last x) Sized (Err (record { at = at }))
     unfolding digits_after say given
     digits-spent most none = rw none (number-stops (byte-stops text at (λ b. given (eqb b last) (give x)) (rw unlike)))
 
     pub digits-stop : (most : ℕ) → (most ≡ 0 → ⊥) → {may : Bool} → may ≡ digit_may x b → may ≡ false → NumberFound text at
-        (digits_after most last x) Sized (Stopped at)
+        (digits_after most last x) Sized (Err (record { at = at }))
     unfolding digits_after end_or given
     digits-stop zero some m not_so = absurd (some refl)
     digits-stop (suc k) some {may} m not_so =
         let never : digit_may x (get_or text at 0) ≡ false = rw (← e) (sym m ∙ not_so) in
         number-stops (byte-stops text at (behind k) (rw (unlike, never)))
 
-    pub digits-on : (most : ℕ) → (most ≡ 0 → ⊥) → {may : Bool} → may ≡ digit_may x b → may ≡ true → {r : Number}
+    pub digits-on : (most : ℕ) → (most ≡ 0 → ⊥) → {may : Bool} → may ≡ digit_may x b → may ≡ true → {r : Result (Read ℕ) Stop}
         → NumberFound text (at + 1) (digits_after (most - 1) last (10 * x + (b - 48))) Sized r → NumberFound text at (digits_after most last x) Sized r
     unfolding digits_after end_or given
     digits-on zero some m so h = absurd (some refl)
@@ -95,15 +96,15 @@ module _ (text : List ℕ) (at last : ℕ) {b : ℕ} (e : b ≡ get_or text at 0
   abbrev first : ℕ → Reader ℕ
   first c = given (leb 49 c && leb c 57) (digits_after 9 last (c - 48))
 
-  pub magnitude-low : b < 49 → NumberFound text at (magnitude last) Sized (Stopped at)
+  pub magnitude-low : b < 49 → NumberFound text at (magnitude last) Sized (Err (record { at = at }))
   unfolding magnitude given
   magnitude-low h = number-stops (byte-stops text at first (rw (← e, lt-leb 49 b h)))
 
-  pub magnitude-high : 57 < b → NumberFound text at (magnitude last) Sized (Stopped at)
+  pub magnitude-high : 57 < b → NumberFound text at (magnitude last) Sized (Err (record { at = at }))
   unfolding magnitude given
   magnitude-high h = number-stops (byte-stops text at first (rw (← e, lt-leb b 57 h, and-false (leb 49 b))))
 
-  pub magnitude-on : 49 ≤ b → b ≤ 57 → {r : Number} → NumberFound text (at + 1) (digits_after 9 last (b - 48)) Sized r → NumberFound text at
+  pub magnitude-on : 49 ≤ b → b ≤ 57 → {r : Result (Read ℕ) Stop} → NumberFound text (at + 1) (digits_after 9 last (b - 48)) Sized r → NumberFound text at
       (magnitude last) Sized r
   unfolding magnitude given
   magnitude-on low high {r} h =

@@ -1,15 +1,16 @@
 -- A factor and the byte behind it, and one factor after the other: the product so far is one number, whose exponents are at most 15 and which is at
 -- most the limit.
-use mathlib.Core.Bool.{Bool, true, false, not, ◌&&◌}
-use mathlib.Core.List.{List, [], ◌∷◌}
-use mathlib.Core.Path.{◌≡◌, refl, sym, ap, ◌∙◌}
+use Rattle.std.specs.Prelude.{None, Some, Ok, Err}
+use mathlib.Core.Bool.{true, false, ◌&&◌}
+use mathlib.Core.List.{List}
+use mathlib.Core.Path.{◌≡◌, sym, ap, ◌∙◌}
 use Prim.Native.Nat.{ℕ, zero, suc, ◌+◌, ◌-◌, ◌*◌, ◌/◌, ◌%◌, ◌^◌, ◌≤◌, ◌<◌}
-use native.Mathlib.Nat.{suc-mul, mul_assoc, mul_comm, one-mul, mod-eq_of_lt, zero-div, zero-mul}
+use native.Mathlib.Nat.{suc-mul, mul_assoc, one-mul, mod-eq_of_lt, zero-div, zero-mul}
 use native.Mathlib.Omega.{arith}
 use lib.Dec.{eqb, leb, ltb}
 use lib.ListN.{length, drop, get_or}
 use lib.Pow.{pow-add, pow-lt}
-use borrow.Author.Tests.{eq-eqb, eqb-true, lt-ltb, le-ltb, le-leb, lt-leb, ltb-true, leb-true, not-true, not-false}
+use borrow.Author.Tests.{eq-eqb, eqb-true, lt-ltb, le-ltb, le-leb, lt-leb, ltb-true, leb-true}
 use Rattle.rules.specs.Polynomial.{exponent}
 use Rattle.terms.specs.Exponents.{exponent-shifted}
 use Rattle.sign_laws.specs.Booleans.{and_first, and_second, and_intro, and-false, never_both, never_true}
@@ -19,16 +20,13 @@ use Rattle.script_laws.specs.Products.{beyond-sixteen}
 use Rattle.rules.specs.Text.{letter}
 use Rattle.rules.specs.Reading.{factor_may, any_may, letters, after_factor}
 use Rattle.script_laws.specs.Steps.{got, stop, read_part}
-use Rattle.script_polynomial.specs.At.{read_at, Stops, Reaches, byte_inside, stops_as, reaches-as}
+use Rattle.script_polynomial.specs.At.{read_at, byte_inside, stops_as, reaches-as}
 use Rattle.script_polynomial.specs.Closing.{byte-said, byte-unsaid, ends, ends-not, goes_on}
 use Rattle.script_polynomial.specs.Found.{NumberOf, NumberFound}
 use Rattle.script_polynomial.specs.Letters.{Packed, LetterOf, LetterFound, factors_left, Onward, FactorOf, FactorFound}
-use Rattle.script_polynomial.specs.declared.numbers.Number.{Number}
-use Rattle.script_polynomial.specs.declared.numbers.Number.TheVariants.{Stopped as NoNumber, Read as ReadNumber}
-use Rattle.script_polynomial.specs.declared.products.Letter.{Letter}
-use Rattle.script_polynomial.specs.declared.products.Letter.TheVariants.{None, Followed}
+use Rattle.script_polynomial.specs.declared.Stop.{Stop}
 use Rattle.script_polynomial.specs.declared.products.Factor.{Factor}
-use Rattle.script_polynomial.specs.declared.products.Factor.TheVariants.{Stopped, Last, More}
+use Rattle.script_polynomial.specs.declared.products.Factor.TheVariants.{Last, More}
 use Rattle.script_polynomial.proofs.Letters.{some-power, here, letter-stops, letter-on}
 
 -- ---- Powers of 16 by a shift.
@@ -79,7 +77,7 @@ module _ (n limit after m byte : ℕ) (inside : after < n) where
     }
 
     pub letter-taken : n - 1 - (byte - 97) ≤ after → ((m / 2 ^ (4 * (n - 1 - (byte - 97)))) % 16 ≡ 15 → ⊥)
-        → 1 * 2 ^ (4 * (n - 1 - (byte - 97))) % 18446744073709551616 ≤ limit - m → LetterFound n limit after m byte (Followed (n - 1 - (byte - 97)))
+        → 1 * 2 ^ (4 * (n - 1 - (byte - 97))) % 18446744073709551616 ≤ limit - m → LetterFound n limit after m byte (Some (n - 1 - (byte - 97)))
     unfolding LetterOf letter factor_may exponent
     letter-taken l not_full fits =
         let j = n - 1 - (byte - 97) in
@@ -98,7 +96,7 @@ module _ (n limit after m byte : ℕ) (inside : after < n) where
 
 -- ---- The product with one factor more.
 
-module _ (n limit after m byte j : ℕ) (packed : Packed limit after m) (found : LetterFound n limit after m byte (Followed j)) where
+module _ (n limit after m byte j : ℕ) (packed : Packed limit after m) (found : LetterFound n limit after m byte (Some j)) where
   pub followed-by : (j ≤ after) × (byte ≡ letter (n - suc j)) × (factor_may n limit j (m / 16 ^ j) ≡ true)
   unfolding LetterOf
   followed-by = found.found
@@ -133,17 +131,17 @@ module _ (n limit after m byte j : ℕ) (packed : Packed limit after m) (found :
 
 module _ (text : List ℕ) (at n limit after m : ℕ) (inside : after < n) (packed : Packed limit after m) {byte : ℕ}
     (byte-is : byte ≡ get_or text at 0) where
-  pub factor-none : {letter : Letter} → LetterFound n limit after m byte letter → letter ≡ None → FactorFound text at n limit after m (Stopped at)
+  pub factor-none : LetterFound n limit after m byte None → FactorFound text at n limit after m (Err (record { at = at }))
   unfolding LetterOf FactorOf
-  factor-none h e = record {
+  factor-none h = record {
     found = λ k enough. record {
       reading = letter-stops n limit (after_factor n limit k) text at byte-is after m inside (packed.multiple after (omega arith)) packed.digit
           packed.below
-          (rw e at h).found;
+          h.found;
     };
   }
 
-  module _ (j : ℕ) (found : LetterFound n limit after m byte (Followed j)) where
+  module _ (j : ℕ) (found : LetterFound n limit after m byte (Some j)) where
     pub factor-here : at < length text
     unfolding letter
     factor-here = byte_inside text at (omega (arith, byte-is, (followed-by n limit after m byte j packed found).1))
@@ -171,7 +169,7 @@ module _ (text : List ℕ) (at n limit after m : ℕ) (inside : after < n) (pack
       ended e zero = byte-said text (at + 1) next-is 41 (give (suc (m / 16 ^ j) * 16 ^ j)) (omega arith) e
       ended e (suc k) = ends text (at + 1) next-is (suc (m / 16 ^ j) * 16 ^ j) (any_may n limit (suc (m / 16 ^ j) * 16 ^ j)) (further k) e
 
-      pub factor-last : next ≡ 41 → FactorFound text at n limit after m (Last (m + 16 ^ j) (at + 2))
+      pub factor-last : next ≡ 41 → FactorFound text at n limit after m (Ok (Last (m + 16 ^ j) (at + 2)))
       unfolding FactorOf
       factor-last e =
           let later : at + 1 < length text = byte_inside text (at + 1) (omega (arith, next-is, e)) in
@@ -185,7 +183,7 @@ module _ (text : List ℕ) (at n limit after m : ℕ) (inside : after < n) (pack
 
       -- Neither the end nor a space, or a space where no factor may come.
       pub factor-stops : (next ≡ 41 → ⊥) → (eqb next 32 && any_may 0 limit (m + 16 ^ j)) ≡ false → FactorFound text at n limit after m
-          (Stopped (at + 1))
+          (Err (record { at = at + 1 }))
       unfolding FactorOf after_factor say any_may
       factor-stops other none = record { found = λ k enough. record { reading = on k ∙ by k } }
         where
@@ -198,7 +196,7 @@ module _ (text : List ℕ) (at n limit after m : ℕ) (inside : after < n) (pack
               (λ e. rw total (no-any e))
 
       -- Another factor.
-      pub factor-more : (eqb next 32 && any_may 0 limit (m + 16 ^ j)) ≡ true → FactorFound text at n limit after m (More j (m + 16 ^ j) (at + 2))
+      pub factor-more : (eqb next 32 && any_may 0 limit (m + 16 ^ j)) ≡ true → FactorFound text at n limit after m (Ok (More j (m + 16 ^ j) (at + 2)))
       unfolding FactorOf after_factor any_may
       factor-more both =
           let later : at + 1 < length text = byte_inside text (at + 1) (omega (arith, next-is, e)) in
@@ -255,19 +253,19 @@ factors-begin text at n limit inside some high = record {
   same = rw (zero-div (16 ^ (n - 1)));
 }
 
-module _ (text : List ℕ) (at n limit : ℕ) {next after m : ℕ} (l : SoFar text at n limit next after m) {factor : Factor}
-    (found : FactorFound text next n limit after m factor) where
-  pub factors-stop : {position : ℕ} → factor ≡ Stopped position → NumberFound text at (letters n limit (after_factor n limit limit) (n - 1) 0)
-      (λ x. x ≤ limit) (NoNumber position)
+module _ (text : List ℕ) (at n limit : ℕ) {next after m : ℕ} (l : SoFar text at n limit next after m) where
+  pub factors-stop : {stop : Stop} → FactorFound text next n limit after m (Err stop)
+      → NumberFound text at (letters n limit (after_factor n limit limit) (n - 1) 0) (λ x. x ≤ limit) (Err stop)
   unfolding NumberOf FactorOf
-  factors-stop e = record { found = stops_as l.same ((rw e at found).found l.fuel l.enough) }
+  factors-stop found = record { found = stops_as l.same (found.found l.fuel l.enough) }
 
-  pub factors-end : {value behind : ℕ} → factor ≡ Last value behind
-      → NumberFound text at (letters n limit (after_factor n limit limit) (n - 1) 0) (λ x. x ≤ limit) (ReadNumber value behind)
+  pub factors-end : {factor : Factor} → FactorFound text next n limit after m (Ok factor) → {value behind : ℕ} → factor ≡ Last value behind
+      → NumberFound text at (letters n limit (after_factor n limit limit) (n - 1) 0) (λ x. x ≤ limit) (Ok (record { value = value; behind = behind }))
   unfolding NumberOf FactorOf
-  factors-end e = let f = (rw e at found).found in record { found = (reaches-as l.same (f.0 l.fuel l.enough), f.1) }
+  factors-end found e = let f = (rw e at found).found in record { found = (reaches-as l.same (f.0 l.fuel l.enough), f.1) }
 
-  module _ {after' m' behind : ℕ} (e : factor ≡ More after' m' behind) where
+  module _ {factor : Factor} (found : FactorFound text next n limit after m (Ok factor)) {after' m' behind : ℕ}
+      (e : factor ≡ More after' m' behind) where
     onward : Onward text next n limit after m after' m' behind
     unfolding FactorOf
     onward = (rw e at found).found

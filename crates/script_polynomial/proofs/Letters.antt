@@ -1,19 +1,19 @@
 -- The letters that may come next, in one step: one byte decides between all the variables from the last one on.
-use mathlib.Core.Bool.{Bool, true, false, ◌&&◌}
+use mathlib.Core.Bool.{Bool, true, false}
 use mathlib.Core.List.{List, [], ◌∷◌}
 use mathlib.Core.Path.{◌≡◌, refl, sym, ap, ◌∙◌}
 use Prim.Native.Nat.{ℕ, zero, suc, ◌+◌, ◌-◌, ◌*◌, ◌/◌, ◌%◌, ◌^◌, ◌≤◌, ◌<◌}
 use native.Mathlib.Decide.{dec_le}
 use native.Mathlib.Nat.{pow-suc, pow-zero, mul-one, mul_assoc, mul_comm, mul-div_cancel, one-le-pow}
 use native.Mathlib.Omega.{arith}
-use lib.Dec.{eqb, leb, ltb}
-use lib.ListN.{length, drop, get_or}
+use lib.Dec.{eqb}
+use lib.ListN.{length, get_or}
 use borrow.Author.Tests.{eq-eqb, ne_eqb, eqb-true, lt-ltb, le-leb}
 use Rattle.sign_laws.specs.Booleans.{and_intro}
-use Rattle.rules.specs.Reader.{Reader, give, stuck, ask}
+use Rattle.rules.specs.Reader.{Reader, stuck, ask}
 use Rattle.rules.specs.Combine.{given, say, ◌union◌}
 use Rattle.rules.specs.Text.{letter}
-use Rattle.rules.specs.Reading.{factor_may, any_may, letters}
+use Rattle.rules.specs.Reading.{factor_may, letters}
 use Rattle.script_laws.specs.Steps.{stop}
 use Rattle.script_polynomial.specs.At.{read_at, byte-on, byte-stops}
 use Rattle.script_polynomial.specs.Ways.{or-stuck}

@@ -1,18 +1,17 @@
 -- The table with one more polynomial: its number, and the arrays that hold it.
-use mathlib.Core.Bool.{Bool, true, false, cond, ◌||◌}
+use mathlib.Core.Bool.{Bool, true, false, cond}
 use mathlib.Core.List.{List, [], ◌∷◌, ◌++◌, map}
-use mathlib.Core.Path.{◌≡◌, refl, sym, ap, ap₂, subst, ◌∙◌}
-use Prim.Native.Nat.{ℕ, zero, suc, ◌+◌, ◌-◌, ◌*◌, ◌≤◌, ◌<◌}
-use native.Mathlib.Nat.{add-zero, zero-add, suc-add, add-suc}
-use native.Mathlib.Numerals.{add-one}
+use mathlib.Core.Path.{◌≡◌, refl, sym, ap, ap₂, ◌∙◌}
+use Prim.Native.Nat.{ℕ, suc, ◌+◌, ◌*◌, ◌≤◌, ◌<◌}
+use native.Mathlib.Nat.{add-zero, zero-add}
 use native.Mathlib.Omega.{arith}
 use lib.IntN.{ℤ, pos}
-use lib.ListN.{length, get_or, set, take, drop, length-append, length-map}
+use lib.ListN.{length, get_or, set, drop, length-append, length-map}
 use lib.Seq.{sets, sets-eq, get_or-drop, drop-drop}
 use Rattle.rules.specs.Polynomial.{Term, Polynomial, same}
 use Rattle.rules.specs.Limits.{PolynomialWithin, TableWithin, no_polynomials, polynomials}
 use Rattle.rules.specs.Answer.{knows, added_unless, here_or, number_in}
-use Rattle.sign_laws.specs.Booleans.{never_both, neither, never_true}
+use Rattle.sign_laws.specs.Booleans.{neither}
 use Rattle.level_laws.specs.Same.{same-itself}
 use Rattle.length_laws.specs.Table.{number-within}
 use Rattle.terms.specs.View.{terms_from}

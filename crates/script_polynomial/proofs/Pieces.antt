@@ -1,8 +1,9 @@
 -- The polynomial of an atom: old, new, or none that goes on.
-use mathlib.Core.Bool.{Bool, true, false}
-use mathlib.Core.List.{List, [], ◌∷◌, map}
-use mathlib.Core.Path.{◌≡◌, refl, sym, ap, subst, ◌∙◌}
-use Prim.Native.Nat.{ℕ, suc, ◌+◌, ◌-◌, ◌*◌, ◌≤◌, ◌<◌}
+use Rattle.std.specs.Prelude.{Result, Ok, Err}
+use mathlib.Core.Bool.{false}
+use mathlib.Core.List.{List, map}
+use mathlib.Core.Path.{◌≡◌, sym, ap, subst, ◌∙◌}
+use Prim.Native.Nat.{ℕ, ◌+◌, ◌*◌, ◌≤◌, ◌<◌}
 use native.Mathlib.Decide.{dec_lt}
 use native.Mathlib.Omega.{arith}
 use lib.IntN.{ℤ}
@@ -14,15 +15,12 @@ use Rattle.terms.specs.View.{terms_from}
 use Rattle.forms.specs.Slots.{slot_of, first_from}
 use Rattle.forms.specs.Working.{TableRead}
 use Rattle.rules.specs.Reading.{polynomial, known_polynomial}
-use Rattle.script_laws.specs.Known.{with}
-use Rattle.script_polynomial.specs.At.{Stops, Reaches}
-use Rattle.script_polynomial.specs.Terms.{Room, SumRead, SumOf, SumFound}
+use Rattle.script_polynomial.specs.At.{Stops}
+use Rattle.script_polynomial.specs.Terms.{SumRead, SumOf, SumFound}
 use Rattle.script_polynomial.specs.Slots.{agreement, spaced_text, texts_from}
-use Rattle.script_polynomial.specs.Tabled.{Tabled, SomeTabled, Listed, PieceOf, PieceFound, smaller, StopsAmong}
-use Rattle.script_polynomial.specs.declared.sums.Sum.{Sum}
-use Rattle.script_polynomial.specs.declared.sums.Sum.TheVariants.{Stopped as NoSum, Read as ReadSum}
-use Rattle.script_polynomial.specs.declared.Piece.{Piece}
-use Rattle.script_polynomial.specs.declared.Piece.TheVariants.{Stopped, Read}
+use Rattle.script_polynomial.specs.Tabled.{Tabled, SomeTabled, PieceOf, PieceFound, smaller, StopsAmong}
+use Rattle.script_polynomial.specs.declared.Read.{Read}
+use Rattle.script_polynomial.specs.declared.Stop.{Stop}
 use Rattle.script_polynomial.proofs.Among.{read-within, known_read, room-stops, full-stops, full-new}
 use Rattle.script_polynomial.proofs.Listing.{old-number, new-number, number-new, with_number, tabled-read, tabled-table, tabled-texts}
 use Rattle.script_polynomial.proofs.Listing.{tabled-first, tabled-same, tabled-more, with-one, with_none, read_back}
@@ -48,12 +46,12 @@ module _ (text : List ℕ) (at n known : ℕ) (cs : List ℤ) (ms ts : List ℕ)
     full = λ still cs₀ ms₀ ts₀ table t counted. e ∙ ap (smaller position) (reach-is t counted);
   }
 
-module _ (text : List ℕ) (at n known : ℕ) (cs : List ℤ) (ms ts : List ℕ) {vs vs' : List ℤ} {ps ps' : List ℕ} {sum : Sum}
+module _ (text : List ℕ) (at n known : ℕ) (cs : List ℤ) (ms ts : List ℕ) {vs vs' : List ℤ} {ps ps' : List ℕ} {sum : Result (Read ℕ) Stop}
     (h : SumFound text at (polynomial n) 0 vs vs' ps ps' sum) where
-  pub piece-stopped : {position r : ℕ} → sum ≡ NoSum position → StopsAmong text at n known cs ms ts position r
-      → PieceFound text at n known cs cs ms ms ts ts (Stopped r)
+  pub piece-stopped : {stop : Stop} {r : ℕ} → sum ≡ Err stop → StopsAmong text at n known cs ms ts stop.at r
+      → PieceFound text at n known cs cs ms ms ts ts (Err (record { at = r }))
   unfolding SumOf PieceOf
-  piece-stopped {position} {r} e among = record {
+  piece-stopped {stop} {r} e among = record {
     found = λ cs₀ ms₀ ts₀ table t counted. (
       by table counted (dec_lt known 64)
           (λ full. among.full full cs₀ ms₀ ts₀ table t counted),
@@ -61,11 +59,11 @@ module _ (text : List ℕ) (at n known : ℕ) (cs : List ℤ) (ms ts : List ℕ)
     );
   }
     where
-      stops : Stops text at (polynomial n) position
+      stops : Stops text at (polynomial n) stop.at
       stops = (rw e at h).is_found
 
       by : (table : List Polynomial) → length table ≡ known → Dec (known < 64) →
-          (64 ≤ known → r ≡ smaller position (at + agreement (map (spaced_text n) table) (drop at text)))
+          (64 ≤ known → r ≡ smaller stop.at (at + agreement (map (spaced_text n) table) (drop at text)))
           → Stops text at (known_polynomial n table) r
       by table counted (yes room) full =
           subst (Stops text at (known_polynomial n table)) (sym (among.with_room room))
@@ -76,7 +74,13 @@ module _ (text : List ℕ) (at n known : ℕ) (cs : List ℤ) (ms ts : List ℕ)
 
   -- ---- What was read.
 
-  module _ {count behind : ℕ} (e : sum ≡ ReadSum count behind) where
+  module _ {one : Read ℕ} (e : sum ≡ Ok one) where
+    abbrev count : ℕ
+    count = one.value
+
+    abbrev behind : ℕ
+    behind = one.behind
+
     pub read : SumRead text at (polynomial n) 0 vs vs' ps ps' count behind
     unfolding SumOf
     read = (rw e at h).is_found
@@ -100,7 +104,7 @@ module _ (text : List ℕ) (at n known : ℕ) (cs : List ℤ) (ms ts : List ℕ)
           found ∙ ap (λ (q : Polynomial). first_from (λ j. same q (slot_of cs ms ts j)) 0 known) places
           ∙ ap (λ (k : ℕ). first_from (λ j. same p (slot_of cs ms ts j)) 0 k) (sym counted) ∙ tabled-first t p
 
-      pub piece-old : number < known → PieceFound text at n known cs cs ms ms ts ts (Read number known behind)
+      pub piece-old : number < known → PieceFound text at n known cs cs ms ms ts ts (Ok (record { number = number; known = known; behind = behind }))
       unfolding PieceOf
       piece-old low = record {
         found = λ cs₀ ms₀ ts₀ table t counted.
@@ -124,7 +128,7 @@ module _ (text : List ℕ) (at n known : ℕ) (cs : List ℤ) (ms ts : List ℕ)
         new {table = table} t counted = number-new p table (omega (arith, number_is t counted, high, counted))
 
         pub piece-full : 64 ≤ known → {reach : ℕ} → reach ≡ at + agreement (texts_from n cs ms ts 0 known) (drop at text)
-            → PieceFound text at n known cs cs ms ms ts ts (Stopped reach)
+            → PieceFound text at n known cs cs ms ms ts ts (Err (record { at = reach }))
         unfolding PieceOf
         piece-full full longest = record {
           found = λ cs₀ ms₀ ts₀ table t counted. (
@@ -138,7 +142,7 @@ module _ (text : List ℕ) (at n known : ℕ) (cs : List ℤ) (ms ts : List ℕ)
         pub piece-new : known < 64 → {cs' : List ℤ} {ms' ts' : List ℕ}
             → cs' ≡ sets cs (16 * known) (map (λ u. u.coefficient) (terms_from vs' ps' 0 count)) → ms' ≡ sets ms (16 * known)
             (map (λ u. u.monomial) (terms_from vs' ps' 0 count))
-            → ts' ≡ set ts known count → PieceFound text at n known cs cs' ms ms' ts ts' (Read known (known + 1) behind)
+            → ts' ≡ set ts known count → PieceFound text at n known cs cs' ms ms' ts ts' (Ok (record { number = known; known = known + 1; behind = behind }))
         unfolding PieceOf
         piece-new room c m k = record {
           found = λ cs₀ ms₀ ts₀ table t counted.

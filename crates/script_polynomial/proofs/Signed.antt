@@ -1,32 +1,29 @@
 -- Numbers of either sign, and what else may stand at their place: a digit, or a parenthesis and a minus, decides.
-use mathlib.Core.Bool.{Bool, true, false}
+use Rattle.std.specs.Prelude.{Result, Ok, Err}
 use mathlib.Core.List.{List, [], ◌∷◌}
-use mathlib.Core.Path.{◌≡◌, refl, sym, ap, ◌∙◌}
-use Prim.Native.Nat.{ℕ, zero, suc, ◌+◌, ◌-◌, ◌^◌, ◌≤◌, ◌<◌}
+use mathlib.Core.Path.{◌≡◌, sym, ◌∙◌}
+use Prim.Native.Nat.{ℕ, zero, suc, ◌+◌, ◌-◌, ◌≤◌, ◌<◌}
 use native.Mathlib.Decide.{dec_lt}
 use native.Mathlib.Omega.{arith}
 use lib.Dec.{eqb}
-use lib.IntN.{ℤ, pos, negsuc, neg_ℤ, ◌-ℤ◌, +ℤ_idl}
+use lib.IntN.{ℤ, pos, neg_ℤ, ◌-ℤ◌, +ℤ_idl}
 use lib.ListN.{length, drop, get_or, drop_of_length-le}
 use lib.Seq.{drop-cons}
 use mir.Syntax.{w32}
 use mir.Val.{SFits, to_z, of_z}
 use mir.ValLaws.{to_z-of_z}
 use borrow.Author.Tests.{eq-eqb, ne_eqb}
-use Rattle.rules.specs.Reader.{Reader, give, stuck, ask}
+use Rattle.rules.specs.Reader.{Reader, give}
 use Rattle.rules.specs.Combine.{given, say, ◌then◌, ◌union◌, one_of}
 use Rattle.script_laws.specs.Numbers.{Sized}
-use Rattle.rules.specs.Text.{bytes}
 use Rattle.rules.specs.Reading.{magnitude, number_or}
-use Rattle.script_laws.specs.Steps.{got, stop, read_part}
+use Rattle.script_laws.specs.Steps.{read_part}
 use Rattle.script_polynomial.specs.At.{read_at, Stops, Reaches, byte_inside, byte-on, byte-stops, then-stops, then-on, stops_as, reaches-as}
 use Rattle.script_polynomial.specs.Agreement.{common, run-stops, run_on}
-use Rattle.script_polynomial.specs.Ways.{Dead, dead, dead-behind, Lives, lives, lives-behind, or-stuck, union-first, union-second}
+use Rattle.script_polynomial.specs.Ways.{dead, dead-behind, lives, lives-behind, union-first, union-second}
 use Rattle.script_polynomial.specs.Found.{NumberOf, NumberFound, plain_number, minus_number, ValueOf, ValueFound}
-use Rattle.script_polynomial.specs.declared.numbers.Number.{Number}
-use Rattle.script_polynomial.specs.declared.numbers.Number.TheVariants.{Stopped as NoNumber, Read as ReadNumber}
-use Rattle.script_polynomial.specs.declared.numbers.Value.{Value}
-use Rattle.script_polynomial.specs.declared.numbers.Value.TheVariants.{Stopped as NoValue, Read as ReadValue}
+use Rattle.script_polynomial.specs.declared.Read.{Read}
+use Rattle.script_polynomial.specs.declared.Stop.{Stop}
 
 -- ---- Signed numbers of 32 bits pass through their bits.
 
@@ -49,49 +46,49 @@ module _ {x : ℕ} (h : Sized x) where
 
 -- ---- What was found.
 
-module _ {text : List ℕ} {at : ℕ} {r : Reader ℕ} {P : ℕ → Type 0} {number : Number} (h : NumberFound text at r P number) where
-  pub number-stopped : {position : ℕ} → number ≡ NoNumber position → Stops text at r position
+module _ {text : List ℕ} {at : ℕ} {r : Reader ℕ} {P : ℕ → Type 0} where
+  pub number-stopped : {stop : Stop} → NumberFound text at r P (Err stop) → Stops text at r stop.at
   unfolding NumberOf
-  number-stopped e = (rw e at h).found
+  number-stopped h = h.found
 
-  pub number_read : {value behind : ℕ} → number ≡ ReadNumber value behind → Reaches text at r value behind × P value
+  pub number_read : {number : Read ℕ} → NumberFound text at r P (Ok number) → Reaches text at r number.value number.behind × P number.value
   unfolding NumberOf
-  number_read e = (rw e at h).found
+  number_read h = h.found
 
 module _ {text : List ℕ} {at : ℕ} {r : Reader ℤ} where
-  pub value-stops : {position : ℕ} → Stops text at r position → ValueFound text at r (NoValue position)
+  pub value-stops : {position : ℕ} → Stops text at r position → ValueFound text at r (Err (record { at = position }))
   unfolding ValueOf
   value-stops h = record { found = h }
 
-  pub value-reaches : {value : ℤ} {behind : ℕ} → Reaches text at r value behind → ValueFound text at r (ReadValue value behind)
+  pub value-reaches : {value : ℤ} {behind : ℕ} → Reaches text at r value behind → ValueFound text at r (Ok (record { value = value; behind = behind }))
   unfolding ValueOf
   value-reaches h = record { found = h }
 
-  pub value-stopped : {value : Value} {position : ℕ} → ValueFound text at r value → value ≡ NoValue position → Stops text at r position
+  pub value-stopped : {stop : Stop} → ValueFound text at r (Err stop) → Stops text at r stop.at
   unfolding ValueOf
-  value-stopped h e = (rw e at h).found
+  value-stopped h = h.found
 
-  pub value_read : {value : Value} {z : ℤ} {behind : ℕ} → ValueFound text at r value → value ≡ ReadValue z behind → Reaches text at r z behind
+  pub value_read : {number : Read ℤ} → ValueFound text at r (Ok number) → Reaches text at r number.value number.behind
   unfolding ValueOf
-  value_read h e = (rw e at h).found
+  value_read h = h.found
 
-pub value_as : {text : List ℕ} {at at' : ℕ} {r r' : Reader ℤ} (value : Value) → read_at text at r ≡ read_at text at' r' → ValueFound text at' r' value
+pub value_as : {text : List ℕ} {at at' : ℕ} {r r' : Reader ℤ} (value : Result (Read ℤ) Stop) → read_at text at r ≡ read_at text at' r' → ValueFound text at' r' value
     → ValueFound text at r value
 unfolding ValueOf
-value_as (NoValue position) same h = record { found = stops_as same h.found }
-value_as (ReadValue z behind) same h = record { found = reaches-as same h.found }
+value_as (Err stopped) same h = record { found = stops_as same h.found }
+value_as (Ok number) same h = record { found = reaches-as same h.found }
 
 -- ---- Plain numbers.
 
-module _ (last : ℕ) {text : List ℕ} {at : ℕ} {number : Number} (h : NumberFound text at (magnitude last) Sized number) where
-  pub plain-stopped : {position : ℕ} → number ≡ NoNumber position → ValueFound text at (plain_number last) (NoValue position)
-  plain-stopped e = value-stops (then-stops (λ x. give (pos x)) (number-stopped h e))
+module _ (last : ℕ) {text : List ℕ} {at : ℕ} where
+  pub plain-stopped : {stop : Stop} → NumberFound text at (magnitude last) Sized (Err stop) → ValueFound text at (plain_number last) (Err stop)
+  plain-stopped h = value-stops (then-stops (λ x. give (pos x)) (number-stopped h))
 
-  pub plain-read : {x behind : ℕ} {value : ℤ} → number ≡ ReadNumber x behind → value ≡ pos x → ValueFound text at (plain_number last)
-      (ReadValue value behind)
+  pub plain-read : {number : Read ℕ} {value : ℤ} → NumberFound text at (magnitude last) Sized (Ok number) → value ≡ pos number.value
+      → ValueFound text at (plain_number last) (Ok (record { value = value; behind = number.behind }))
   unfolding read_part
-  plain-read {x} {behind} e same =
-      let found = number_read h e in
+  plain-read h same =
+      let found = number_read h in
       rw same (value-reaches (record { reading = then-on (λ x. give (pos x)) found.0; inside = found.0.inside }))
 
 -- ---- Numbers with the minus.
@@ -101,21 +98,27 @@ abbrev pub negative : ℕ → Reader ℤ
 negative last = magnitude 41 then λ x. say (last ∷ []) (give (neg_ℤ (pos x)))
 
 module _ (text : List ℕ) (at : ℕ) {digits : ℕ} (last : ℕ) (told : digits ≡ at + common (40 ∷ 45 ∷ 32 ∷ []) (drop at text)) where
-  pub minus-unsaid : digits - at < 3 → ValueFound text at (minus_number last) (NoValue digits)
+  pub minus-unsaid : digits - at < 3 → ValueFound text at (minus_number last) (Err (record { at = digits }))
   minus-unsaid short = value-stops (run-stops (negative last) text at (40 ∷ 45 ∷ 32 ∷ []) told short)
 
   said : 3 ≤ digits - at → read_at text at (minus_number last) ≡ read_at text digits (negative last)
   said long = run_on (negative last) text at (40 ∷ 45 ∷ 32 ∷ []) told long
 
-  module _ (long : 3 ≤ digits - at) {number : Number} (h : NumberFound text digits (magnitude 41) Sized number) where
-    pub minus-stopped : {position : ℕ} → number ≡ NoNumber position → ValueFound text at (minus_number last) (NoValue position)
-    minus-stopped e = value-stops (stops_as (said long) (then-stops _ (number-stopped h e)))
+  module _ (long : 3 ≤ digits - at) where
+    pub minus-stopped : {stop : Stop} → NumberFound text digits (magnitude 41) Sized (Err stop) → ValueFound text at (minus_number last) (Err stop)
+    minus-stopped h = value-stops (stops_as (said long) (then-stops _ (number-stopped h)))
 
-    module _ {x behind : ℕ} (e : number ≡ ReadNumber x behind) where
+    module _ {number : Read ℕ} (h : NumberFound text digits (magnitude 41) Sized (Ok number)) where
+      abbrev x : ℕ
+      x = number.value
+
+      abbrev behind : ℕ
+      behind = number.behind
+
       on : read_at text at (minus_number last) ≡ read_at text behind (say (last ∷ []) (give (neg_ℤ (pos x))))
-      on = said long ∙ then-on (λ y. say (last ∷ []) (give (neg_ℤ (pos y)))) (number_read h e).0
+      on = said long ∙ then-on (λ y. say (last ∷ []) (give (neg_ℤ (pos y)))) (number_read h).0
 
-      pub minus-open : {b : ℕ} → b ≡ get_or text behind 0 → (b ≡ last → ⊥) → ValueFound text at (minus_number last) (NoValue behind)
+      pub minus-open : {b : ℕ} → b ≡ get_or text behind 0 → (b ≡ last → ⊥) → ValueFound text at (minus_number last) (Err (record { at = behind }))
       unfolding say given
       minus-open b-is other = value-stops (record {
         reading = on ∙ byte-stops text behind (λ b. given (eqb b last) (give (neg_ℤ (pos x))))
@@ -123,7 +126,7 @@ module _ (text : List ℕ) (at : ℕ) {digits : ℕ} (last : ℕ) (told : digits
       })
 
       pub minus-read : {b : ℕ} → b ≡ get_or text behind 0 → b ≡ last → 0 < last → {value : ℤ} → value ≡ neg_ℤ (pos x)
-          → ValueFound text at (minus_number last) (ReadValue value (behind + 1))
+          → ValueFound text at (minus_number last) (Ok (record { value = value; behind = behind + 1 }))
       unfolding say given read_part
       minus-read b-is same some value-is =
           let here : behind < length text = byte_inside text behind (omega (arith, b-is, same, some)) in

@@ -1,16 +1,16 @@
 -- How far a text agrees with a run of bytes, and what `say` of these bytes reads then.
-use Rattle.std.specs.Prelude.{Bool, ◌≡◌, refl, eqb, drop}
+use Rattle.std.specs.Prelude.{Bool, ◌≡◌, eqb, drop}
 use Rattle.std.proofs.Math.Bool.{true, false}
 use mathlib.Core.List.{List, [], ◌∷◌}
 use Rattle.std.proofs.Math.Path.{ap}
-use Rattle.std.proofs.Common.{sym, ◌∙◌, add-zero, zero-add, add-suc, length-drop, drop-drop, eq-eqb}
-use Prim.Native.Nat.{ℕ, zero, suc, ◌+◌, ◌-◌, ◌≤◌, ◌<◌}
+use Rattle.std.proofs.Common.{◌∙◌, add-zero, add-suc, length-drop, drop-drop}
+use Prim.Native.Nat.{ℕ, suc, ◌+◌, ◌-◌, ◌≤◌, ◌<◌}
 use Rattle.std.proofs.Math.Nat.{suc-add}
 use native.Mathlib.Omega.{arith}
 use Rattle.std.proofs.Math.ListN.{length}
-use Rattle.rules.specs.Reader.{Reader, give, stuck, ask}
+use Rattle.rules.specs.Reader.{Reader}
 use Rattle.rules.specs.Combine.{given, say}
-use Rattle.script_laws.specs.Steps.{Part, got, stop, read_part}
+use Rattle.script_laws.specs.Steps.{stop, read_part}
 use Rattle.script_polynomial.specs.At.{read_at, Stops}
 
 unfoldable pub one_more : Bool → ℕ → ℕ

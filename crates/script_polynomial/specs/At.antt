@@ -1,13 +1,13 @@
 -- Reading from a position of a text on: what the functions of this crate say is `read_part` of the book's reader there.
 -- Laws of it: the byte at the position decides; one part and then the next; a position that is reached lies in the text.
-use Rattle.std.specs.Prelude.{List, [], ◌∷◌, ◌≡◌, refl, drop, get_or}
-use Rattle.std.proofs.Common.{ap, sym, ◌∙◌, length-drop, drop_of_length-le, drop-cons}
-use Prim.Native.Nat.{ℕ, zero, suc, ◌+◌, ◌-◌, ◌≤◌, ◌<◌}
+use Rattle.std.specs.Prelude.{List, ◌≡◌, drop, get_or}
+use Rattle.std.proofs.Common.{◌∙◌, drop_of_length-le, drop-cons}
+use Prim.Native.Nat.{ℕ, suc, ◌+◌, ◌-◌, ◌≤◌, ◌<◌}
 use Rattle.std.proofs.Math.Decide.{dec_lt}
 use Rattle.std.proofs.Math.Numerals.{add-one}
 use native.Mathlib.Omega.{arith}
 use Rattle.std.proofs.Math.ListN.{length, get_or-eq_default}
-use Rattle.rules.specs.Reader.{Reader, give, stuck, ask}
+use Rattle.rules.specs.Reader.{Reader, stuck, ask}
 use Rattle.rules.specs.Combine.{◌then◌}
 use Rattle.script_laws.specs.Steps.{Part, got, stop, read_part, and_then, part_then}
 

@@ -6,7 +6,7 @@ use Rattle.std.proofs.Math.Dec.{eqb}
 use Rattle.std.proofs.Math.ListN.{length}
 use borrow.Author.Tests.{eq-eqb, ne_eqb}
 use Rattle.sign_laws.specs.Booleans.{never_both}
-use Rattle.rules.specs.Reader.{Reader, give, stuck, ask}
+use Rattle.rules.specs.Reader.{Reader, give}
 use Rattle.rules.specs.Combine.{given, say, ◌union◌, one_of}
 use Rattle.rules.specs.Text.{bytes}
 use Rattle.rules.specs.Reading.{choice}

@@ -6,7 +6,7 @@ use Rattle.std.proofs.Math.Path.{refl, ap, fun_ext}
 use Rattle.std.proofs.Common.{◌∙◌}
 use Rattle.rules.specs.Reader.{Reader, give, stuck, ask}
 use Rattle.rules.specs.Combine.{given, say, ◌then◌}
-use Rattle.script_laws.specs.Steps.{Part, got, stop, read_part, and_then, part_then}
+use Rattle.script_laws.specs.Steps.{part_then}
 use Rattle.script_polynomial.specs.At.{read_at}
 
 module _ {A B : Type 0} where

@@ -1,8 +1,8 @@
 -- The table so far in lent arrays, and what `known_polynomial` says: the polynomial of an atom is read as the book reads it behind the known ones,
 -- and the arrays hold the table with it.
-use Rattle.std.specs.Prelude.{List, map, ◌≡◌, ℕ, ◌+◌, ◌-◌, ◌<◌, ◌≤◌, ℤ, length, drop}
+use Rattle.std.specs.Prelude.{List, map, ◌≡◌, ℕ, ◌+◌, ◌-◌, ◌<◌, ◌≤◌, ℤ, length, drop, Result, Ok, Err}
 use Rattle.std.proofs.lemmas.List.Edits.{sets}
-use Rattle.rules.specs.Polynomial.{Term, Polynomial}
+use Rattle.rules.specs.Polynomial.{Polynomial}
 use Rattle.rules.specs.Limits.{TableWithin}
 use Rattle.rules.specs.Answer.{number_in}
 use Rattle.block.specs.Held.{slots}
@@ -11,7 +11,7 @@ use Rattle.rules.specs.Reading.{known_polynomial}
 use Rattle.script_polynomial.specs.At.{Stops, Reaches}
 use Rattle.script_polynomial.specs.Slots.{spaced_text, agreement}
 use Rattle.script_polynomial.specs.declared.Piece.{Piece}
-use Rattle.script_polynomial.specs.declared.Piece.TheVariants.{Stopped, Read}
+use Rattle.script_polynomial.specs.declared.Stop.{Stop}
 
 -- A table of polynomials of n variables, stored over what the arrays held before: as `block::read` stores it.
 pub record Tabled (n : ℕ) (cs₀ : List ℤ) (ms₀ ts₀ : List ℕ) (table : List Polynomial) (cs : List ℤ) (ms ts : List ℕ) : Type 0 where
@@ -45,13 +45,13 @@ pub record Listed (text : List ℕ) (at n : ℕ) (cs₀ : List ℤ) (ms₀ ts₀
   pub counted : length (with table polynomial) ≡ known
   pub tabled : Tabled n cs₀ ms₀ ts₀ (with table polynomial) cs' ms' ts'
 
-unfoldable pub PieceOf : List ℕ → ℕ → ℕ → List ℤ → List ℕ → List ℕ → List Polynomial → List ℤ → List ℕ → List ℕ → Piece → Type 0
-PieceOf text at n cs₀ ms₀ ts₀ table cs' ms' ts' (Stopped position) = Stops text at (known_polynomial n table) position
+unfoldable pub PieceOf : List ℕ → ℕ → ℕ → List ℤ → List ℕ → List ℕ → List Polynomial → List ℤ → List ℕ → List ℕ → Result Piece Stop → Type 0
+PieceOf text at n cs₀ ms₀ ts₀ table cs' ms' ts' (Err stop) = Stops text at (known_polynomial n table) stop.at
     × Tabled n cs₀ ms₀ ts₀ table cs' ms' ts'
-PieceOf text at n cs₀ ms₀ ts₀ table cs' ms' ts' (Read number known behind) = Listed text at n cs₀ ms₀ ts₀ table cs' ms' ts' number known behind
+PieceOf text at n cs₀ ms₀ ts₀ table cs' ms' ts' (Ok piece) = Listed text at n cs₀ ms₀ ts₀ table cs' ms' ts' piece.number piece.known piece.behind
 
 -- For whichever table the arrays held.
-pub record PieceFound (text : List ℕ) (at n known : ℕ) (cs cs' : List ℤ) (ms ms' ts ts' : List ℕ) (piece : Piece) : Type 0 where
+pub record PieceFound (text : List ℕ) (at n known : ℕ) (cs cs' : List ℤ) (ms ms' ts ts' : List ℕ) (piece : Result Piece Stop) : Type 0 where
   pub found : (cs₀ : List ℤ) (ms₀ ts₀ : List ℕ) (table : List Polynomial) → Tabled n cs₀ ms₀ ts₀ table cs ms ts → length table ≡ known
       → PieceOf text at n cs₀ ms₀ ts₀ table cs' ms' ts' piece
 

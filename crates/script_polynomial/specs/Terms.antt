@@ -1,5 +1,5 @@
 -- What the functions that read products, terms and polynomials say; terms are stored from a place of two arrays on.
-use Rattle.std.specs.Prelude.{Bool, ◌&&◌, List, [], ◌∷◌, map, ◌≡◌, ℕ, suc, ◌+◌, ◌-◌, ◌≤◌, ◌<◌, eqb, ℤ, pos, length, get_or, set}
+use Rattle.std.specs.Prelude.{Bool, ◌&&◌, List, [], ◌∷◌, map, ◌≡◌, ℕ, suc, ◌+◌, ◌-◌, ◌≤◌, ◌<◌, eqb, ℤ, length, get_or, set, Result, Ok, Err}
 use Rattle.std.proofs.lemmas.List.Edits.{sets}
 use Rattle.rules.specs.Polynomial.{Term, Polynomial}
 use Rattle.rules.specs.Reader.{Reader, give}
@@ -7,14 +7,11 @@ use Rattle.rules.specs.Combine.{say, ◌then◌}
 use Rattle.rules.specs.Text.{bytes}
 use Rattle.rules.specs.Reading.{number_or, letters, after_factor, product, constant_of, next_term, other_terms, beyond}
 use Rattle.script_polynomial.specs.At.{read_at, Stops, Reaches}
-use Rattle.script_polynomial.specs.declared.numbers.Number.{Number}
-use Rattle.script_polynomial.specs.declared.numbers.Number.TheVariants.{Stopped as NoNumber, Read as ReadNumber}
+use Rattle.script_polynomial.specs.declared.Read.{Read}
+use Rattle.script_polynomial.specs.declared.Stop.{Stop}
 use Rattle.script_polynomial.specs.declared.products.Product.{Product}
-use Rattle.script_polynomial.specs.declared.products.Product.TheVariants.{Stopped as NoProduct, Read as ReadProduct}
-use Rattle.script_polynomial.specs.declared.sums.Sum.{Sum}
-use Rattle.script_polynomial.specs.declared.sums.Sum.TheVariants.{Stopped as NoSum, Read as ReadSum}
 use Rattle.script_polynomial.specs.declared.sums.Step.{Step}
-use Rattle.script_polynomial.specs.declared.sums.Step.TheVariants.{Stopped as NoStep, Last, More}
+use Rattle.script_polynomial.specs.declared.sums.Step.TheVariants.{Last, More}
 
 -- ---- Products.
 
@@ -22,12 +19,12 @@ use Rattle.script_polynomial.specs.declared.sums.Step.TheVariants.{Stopped as No
 abbrev pub factors_of : ℕ → ℕ → ℤ → Reader Term
 factors_of n limit c = letters n limit (after_factor n limit limit) (n - 1) 0 then λ m. give (record { coefficient = c; monomial = m })
 
-unfoldable pub ProductOf : List ℕ → ℕ → Reader Term → ℕ → Product → Type 0
-ProductOf text at r limit (NoProduct position) = Stops text at r position
-ProductOf text at r limit (ReadProduct coefficient monomial behind) =
-    Reaches text at r (record { coefficient = coefficient; monomial = monomial }) behind × (monomial ≤ limit)
+unfoldable pub ProductOf : List ℕ → ℕ → Reader Term → ℕ → Result Product Stop → Type 0
+ProductOf text at r limit (Err stop) = Stops text at r stop.at
+ProductOf text at r limit (Ok product) =
+    Reaches text at r (record { coefficient = product.coefficient; monomial = product.monomial }) product.behind × (product.monomial ≤ limit)
 
-pub record ProductFound (text : List ℕ) (at : ℕ) (r : Reader Term) (limit : ℕ) (found : Product) : Type 0 where
+pub record ProductFound (text : List ℕ) (at : ℕ) (r : Reader Term) (limit : ℕ) (found : Result Product Stop) : Type 0 where
   pub is_found : ProductOf text at r limit found
 
 -- ---- Readers by their beginnings: a product with its parenthesis; a number as a term; a product alone; a sum, by its first term and the others.
@@ -66,11 +63,11 @@ pub record TermRead (text : List ℕ) (at : ℕ) (r : Reader Term) (place : ℕ)
   pub coefficient : cs' ≡ set cs place term.coefficient
   pub monomial : ms' ≡ set ms place term.monomial
 
-unfoldable pub TermOf : List ℕ → ℕ → Reader Term → ℕ → List ℤ → List ℤ → List ℕ → List ℕ → Number → Type 0
-TermOf text at r place cs cs' ms ms' (NoNumber position) = Stops text at r position
-TermOf text at r place cs cs' ms ms' (ReadNumber value behind) = TermRead text at r place cs cs' ms ms' value behind
+unfoldable pub TermOf : List ℕ → ℕ → Reader Term → ℕ → List ℤ → List ℤ → List ℕ → List ℕ → Result (Read ℕ) Stop → Type 0
+TermOf text at r place cs cs' ms ms' (Err stop) = Stops text at r stop.at
+TermOf text at r place cs cs' ms ms' (Ok term) = TermRead text at r place cs cs' ms ms' term.value term.behind
 
-pub record TermFound (text : List ℕ) (at : ℕ) (r : Reader Term) (place : ℕ) (cs cs' : List ℤ) (ms ms' : List ℕ) (found : Number) : Type 0 where
+pub record TermFound (text : List ℕ) (at : ℕ) (r : Reader Term) (place : ℕ) (cs cs' : List ℤ) (ms ms' : List ℕ) (found : Result (Read ℕ) Stop) : Type 0 where
   pub is_found : TermOf text at r place cs cs' ms ms' found
 
 -- or several from a place on.
@@ -82,26 +79,20 @@ pub record SumRead (text : List ℕ) (at : ℕ) (r : Reader Polynomial) (place :
   pub coefficient : cs' ≡ sets cs place (map (λ t. t.coefficient) terms)
   pub monomial : ms' ≡ sets ms place (map (λ t. t.monomial) terms)
 
-unfoldable pub SumOf : List ℕ → ℕ → Reader Polynomial → ℕ → List ℤ → List ℤ → List ℕ → List ℕ → Sum → Type 0
-SumOf text at r place cs cs' ms ms' (NoSum position) = Stops text at r position
-SumOf text at r place cs cs' ms ms' (ReadSum count behind) = SumRead text at r place cs cs' ms ms' count behind
+unfoldable pub SumOf : List ℕ → ℕ → Reader Polynomial → ℕ → List ℤ → List ℤ → List ℕ → List ℕ → Result (Read ℕ) Stop → Type 0
+SumOf text at r place cs cs' ms ms' (Err stop) = Stops text at r stop.at
+SumOf text at r place cs cs' ms ms' (Ok sum) = SumRead text at r place cs cs' ms ms' sum.value sum.behind
 
-pub record SumFound (text : List ℕ) (at : ℕ) (r : Reader Polynomial) (place : ℕ) (cs cs' : List ℤ) (ms ms' : List ℕ) (found : Sum) : Type 0 where
+pub record SumFound (text : List ℕ) (at : ℕ) (r : Reader Polynomial) (place : ℕ) (cs cs' : List ℤ) (ms ms' : List ℕ) (found : Result (Read ℕ) Stop) : Type 0 where
   pub is_found : SumOf text at r place cs cs' ms ms' found
 
 -- A number was read as a term and stored.
-unfoldable pub ConstantOf : List ℕ → ℕ → ℕ → ℕ → List ℤ → List ℤ → List ℕ → List ℕ → Step → Type 0
-ConstantOf text at last place cs cs' ms ms' (NoStep position) = Stops text at (constant_term last) position
-ConstantOf text at last place cs cs' ms ms' (Last behind) = SumRead text at (constant_term last) place cs cs' ms ms' 1 behind
-ConstantOf text at last place cs cs' ms ms' (More below behind) = ⊥
+unfoldable pub ConstantOf : List ℕ → ℕ → ℕ → ℕ → List ℤ → List ℤ → List ℕ → List ℕ → Result ℕ Stop → Type 0
+ConstantOf text at last place cs cs' ms ms' (Err stop) = Stops text at (constant_term last) stop.at
+ConstantOf text at last place cs cs' ms ms' (Ok behind) = SumRead text at (constant_term last) place cs cs' ms ms' 1 behind
 
-pub record ConstantFound (text : List ℕ) (at last place : ℕ) (cs cs' : List ℤ) (ms ms' : List ℕ) (found : Step) : Type 0 where
+pub record ConstantFound (text : List ℕ) (at last place : ℕ) (cs cs' : List ℤ) (ms ms' : List ℕ) (found : Result ℕ Stop) : Type 0 where
   pub is_found : ConstantOf text at last place cs cs' ms ms' found
-
-unfoldable pub alone_of : Step → Sum
-alone_of (NoStep position) = NoSum position
-alone_of (Last behind) = ReadSum 1 behind
-alone_of (More below behind) = NoSum behind
 
 -- ---- The terms of a sum behind its first one.
 
@@ -112,12 +103,12 @@ pub record NextTerm (text : List ℕ) (at n most above below behind : ℕ) : Typ
   pub inside : behind ≤ length text
   pub reading : read_at text at (other_terms n most above) ≡ read_at text behind (next_term n above (other_terms n (most - 1)))
 
-unfoldable pub AfterOf : List ℕ → ℕ → ℕ → ℕ → ℕ → Step → Type 0
-AfterOf text at n most above (NoStep position) = Stops text at (other_terms n most above) position
-AfterOf text at n most above (Last behind) = Reaches text at (other_terms n most above) [] behind
-AfterOf text at n most above (More below behind) = NextTerm text at n most above below behind
+unfoldable pub AfterOf : List ℕ → ℕ → ℕ → ℕ → ℕ → Result Step Stop → Type 0
+AfterOf text at n most above (Err stop) = Stops text at (other_terms n most above) stop.at
+AfterOf text at n most above (Ok (Last behind)) = Reaches text at (other_terms n most above) [] behind
+AfterOf text at n most above (Ok (More below behind)) = NextTerm text at n most above below behind
 
-pub record AfterFound (text : List ℕ) (at n most above : ℕ) (found : Step) : Type 0 where
+pub record AfterFound (text : List ℕ) (at n most above : ℕ) (found : Result Step Stop) : Type 0 where
   pub is_found : AfterOf text at n most above found
 
 -- A term was read and stored, and another is to come.
@@ -131,33 +122,21 @@ pub record Further (text : List ℕ) (at n most above place : ℕ) (cs cs' : Lis
   pub coefficient : cs' ≡ set cs place term.coefficient
   pub monomial : ms' ≡ set ms place term.monomial
 
-unfoldable pub StepOf : List ℕ → ℕ → ℕ → ℕ → ℕ → ℕ → List ℤ → List ℤ → List ℕ → List ℕ → Step → Type 0
-StepOf text at n most above place cs cs' ms ms' (NoStep position) = Stops text at (next_term n above (other_terms n most)) position
-StepOf text at n most above place cs cs' ms ms' (Last behind) = SumRead text at (next_term n above (other_terms n most)) place cs cs' ms ms' 1 behind
-StepOf text at n most above place cs cs' ms ms' (More below behind) = Further text at n most above place cs cs' ms ms' below behind
+unfoldable pub StepOf : List ℕ → ℕ → ℕ → ℕ → ℕ → ℕ → List ℤ → List ℤ → List ℕ → List ℕ → Result Step Stop → Type 0
+StepOf text at n most above place cs cs' ms ms' (Err stop) = Stops text at (next_term n above (other_terms n most)) stop.at
+StepOf text at n most above place cs cs' ms ms' (Ok (Last behind)) = SumRead text at (next_term n above (other_terms n most)) place cs cs' ms ms' 1 behind
+StepOf text at n most above place cs cs' ms ms' (Ok (More below behind)) = Further text at n most above place cs cs' ms ms' below behind
 
-pub record StepFound (text : List ℕ) (at n most above place : ℕ) (cs cs' : List ℤ) (ms ms' : List ℕ) (found : Step) : Type 0 where
+pub record StepFound (text : List ℕ) (at n most above place : ℕ) (cs cs' : List ℤ) (ms ms' : List ℕ) (found : Result Step Stop) : Type 0 where
   pub is_found : StepOf text at n most above place cs cs' ms ms' found
-
--- One term more may be counted, and is.
-unfoldable pub CountedOf : Sum → Type 0
-CountedOf (NoSum position) = Unit {0}
-CountedOf (ReadSum count behind) = suc count < 18446744073709551616
-
-pub record Counted (found : Sum) : Type 0 where
-  pub is_counted : CountedOf found
-
-unfoldable pub one_more_of : Sum → Sum
-one_more_of (NoSum position) = NoSum position
-one_more_of (ReadSum count behind) = ReadSum (count + 1) behind
 
 -- ---- The space behind a polynomial, and the terms behind the first of a sum.
 
-unfoldable pub SpaceOf : List ℕ → ℕ → ℕ → Sum → Type 0
-SpaceOf text at count (NoSum position) = (position ≡ at) × (get_or text at 0 ≡ 32 → ⊥)
-SpaceOf text at count (ReadSum count' behind) = (count' ≡ count) × (behind ≡ at + 1) × (get_or text at 0 ≡ 32)
+unfoldable pub SpaceOf : List ℕ → ℕ → ℕ → Result (Read ℕ) Stop → Type 0
+SpaceOf text at count (Err stop) = (stop.at ≡ at) × (get_or text at 0 ≡ 32 → ⊥)
+SpaceOf text at count (Ok sum) = (sum.value ≡ count) × (sum.behind ≡ at + 1) × (get_or text at 0 ≡ 32)
 
-pub record SpaceFound (text : List ℕ) (at count : ℕ) (found : Sum) : Type 0 where
+pub record SpaceFound (text : List ℕ) (at count : ℕ) (found : Result (Read ℕ) Stop) : Type 0 where
   pub is_found : SpaceOf text at count found
 
 pub record OthersRead (text : List ℕ) (at n above : ℕ) (cs cs' : List ℤ) (ms ms' : List ℕ) (count behind : ℕ) : Type 0 where
@@ -168,9 +147,9 @@ pub record OthersRead (text : List ℕ) (at n above : ℕ) (cs cs' : List ℤ) (
   pub coefficient : cs' ≡ sets cs 1 (map (λ t. t.coefficient) terms)
   pub monomial : ms' ≡ sets ms 1 (map (λ t. t.monomial) terms)
 
-unfoldable pub OthersIn : List ℕ → ℕ → ℕ → ℕ → List ℤ → List ℤ → List ℕ → List ℕ → Sum → Type 0
-OthersIn text at n above cs cs' ms ms' (NoSum position) = (t : Term) → t.monomial ≡ above → Stops text at (others_of n t) position
-OthersIn text at n above cs cs' ms ms' (ReadSum count behind) = OthersRead text at n above cs cs' ms ms' count behind
+unfoldable pub OthersIn : List ℕ → ℕ → ℕ → ℕ → List ℤ → List ℤ → List ℕ → List ℕ → Result (Read ℕ) Stop → Type 0
+OthersIn text at n above cs cs' ms ms' (Err stop) = (t : Term) → t.monomial ≡ above → Stops text at (others_of n t) stop.at
+OthersIn text at n above cs cs' ms ms' (Ok sum) = OthersRead text at n above cs cs' ms ms' sum.value sum.behind
 
-pub record OthersFound (text : List ℕ) (at n above : ℕ) (cs cs' : List ℤ) (ms ms' : List ℕ) (found : Sum) : Type 0 where
+pub record OthersFound (text : List ℕ) (at n above : ℕ) (cs cs' : List ℤ) (ms ms' : List ℕ) (found : Result (Read ℕ) Stop) : Type 0 where
   pub is_found : OthersIn text at n above cs cs' ms ms' found

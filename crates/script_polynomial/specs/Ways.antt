@@ -1,5 +1,5 @@
 -- Which of two readers a text goes on with: the one that lives, where the other is dead before.
-use Rattle.std.specs.Prelude.{List, [], ◌∷◌, ◌≡◌, ℕ, zero, suc}
+use Rattle.std.specs.Prelude.{List, [], ◌∷◌, ◌≡◌, ℕ, suc}
 use Rattle.std.proofs.Math.Path.{refl}
 use Rattle.rules.specs.Reader.{Reader, give, stuck, ask}
 use Rattle.rules.specs.Combine.{◌union◌}

@@ -17,15 +17,13 @@ pub fn agreed(text: &[u8], at: usize, bytes: &[u8]) -> usize
     requires { at ≤ length text.now }
     ensures { result ≡ at + common bytes.now (drop at text.now) }
 {
-    let mut i = 0;
-    while i < bytes.len() {
+    for i in 0..bytes.len() {
         if text.len() - at <= i {
             return at + i;
         }
         if text[at + i] != bytes[i] {
             return at + i;
         }
-        i += 1;
     }
-    at + i
+    at + bytes.len()
 }

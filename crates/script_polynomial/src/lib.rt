@@ -12,19 +12,29 @@ mod products; // a number and its factors
 mod sums; // terms and polynomials
 mod tabled; // the known polynomials
 
-use sums::{Sum, read_polynomial};
+use sums::read_polynomial;
 use tabled::{find, longest, store};
 
-// What reading the polynomial of an atom finds: the position where it stopped; or its number in the table, how many polynomials the table has
-// with it, and the position behind it and its space.
+// Where the text stopped: the position of the first byte at which nothing goes on.
+#[derive(Clone, Copy, Debug, PartialEq, Eq)]
+pub struct Stop {
+    pub at: usize,
+}
+
+// What was read, and the position behind it.
 #[derive(Clone, Copy)]
-pub enum Piece {
-    Stopped(usize),
-    Read {
-        number: u32,
-        known: usize,
-        behind: usize,
-    },
+pub struct Read<T> {
+    pub value: T,
+    pub behind: usize,
+}
+
+// The polynomial of an atom that was read: its number in the table, how many polynomials the table has with it,
+// and the position behind it and its space.
+#[derive(Clone, Copy)]
+pub struct Piece {
+    pub number: u32,
+    pub known: usize,
+    pub behind: usize,
 }
 
 fn smaller_of(a: usize, b: usize) -> usize
@@ -64,7 +74,7 @@ pub fn known_polynomial(
     at: usize,
     variables: usize,
     known: usize,
-) -> Piece
+) -> Result<Piece, Stop>
     requires { SomeTabled variables known coefficient.old monomial.old terms.old × (at ≤ length text.now) }
     ensures { PieceFound text.now at variables known coefficient.old coefficient.new
         monomial.old monomial.new terms.old terms.new result }
@@ -73,17 +83,20 @@ pub fn known_polynomial(
     let mut powers = [0u64; 16];
     let found = read_polynomial(text, &mut value, &mut powers, at, variables);
     match found {
-        Sum::Stopped(position) => Piece::Stopped(stops_at(
-            text,
-            coefficient,
-            monomial,
-            terms,
-            at,
-            variables,
-            known,
-            position,
-        )),
-        Sum::Read { count, behind } => {
+        Err(stop) => {
+            let reach = stops_at(
+                text,
+                coefficient,
+                monomial,
+                terms,
+                at,
+                variables,
+                known,
+                stop.at,
+            );
+            Err(Stop { at: reach })
+        }
+        Ok(sum) => {
             let number = find(
                 coefficient,
                 monomial,
@@ -92,32 +105,33 @@ pub fn known_polynomial(
                 &powers,
                 known,
                 variables,
-                count,
+                sum.value,
             );
             if number < known {
-                return Piece::Read {
+                return Ok(Piece {
                     number: number as u32,
                     known,
-                    behind,
-                };
+                    behind: sum.behind,
+                });
             }
             if 64 <= known {
-                return Piece::Stopped(longest(
-                    text,
-                    coefficient,
-                    monomial,
-                    terms,
-                    at,
-                    variables,
-                    known,
-                ));
+                let reach = longest(text, coefficient, monomial, terms, at, variables, known);
+                return Err(Stop { at: reach });
             }
-            store(coefficient, monomial, terms, &value, &powers, known, count);
-            Piece::Read {
+            store(
+                coefficient,
+                monomial,
+                terms,
+                &value,
+                &powers,
+                known,
+                sum.value,
+            );
+            Ok(Piece {
                 number: known as u32,
                 known: known + 1,
-                behind,
-            }
+                behind: sum.behind,
+            })
         }
     }
 }

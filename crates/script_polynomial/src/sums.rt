@@ -1,25 +1,18 @@
 // Terms and polynomials of a script, stored from a place of two lent arrays on.
 ghost use Rattle.std.specs.Prelude.{◌&&◌, ◌≡◌, ℕ, ◌+◌, ◌-◌, ◌≤◌, ◌<◌, eqb, ltb, length, get_or};
 ghost use Rattle.rules.specs.Reading.{beyond, next_term, other_terms, polynomial};
-ghost use Rattle.script_polynomial.specs.Terms.{Room, opens_with, product_term, TermFound, ConstantFound, alone_term, sum_of_terms, alone_of};
-ghost use Rattle.script_polynomial.specs.Terms.{SumFound, AfterFound, StepFound, OthersFound, Counted, one_more_of, SpaceFound};
+ghost use Rattle.script_polynomial.specs.Terms.{Room, opens_with, product_term, TermFound, ConstantFound, alone_term, sum_of_terms, SumFound};
+ghost use Rattle.script_polynomial.specs.Terms.{AfterFound, StepFound, OthersFound, SpaceFound};
 
 use crate::bytes::{agreed, byte_at};
-use crate::numbers::{Number, Value, read_number};
-use crate::products::{Product, read_product};
+use crate::numbers::read_number;
+use crate::products::read_product;
+use crate::{Read, Stop};
 
-// What reading terms finds: the position where it stopped, or how many there are and the position behind them.
-#[derive(Clone, Copy)]
-pub enum Sum {
-    Stopped(usize),
-    Read { count: usize, behind: usize },
-}
-
-// What reading the next term of a sum finds: the position where it stopped; or the position behind the sum, if it is the last;
+// What reading the next term of a sum finds: the position behind the sum, if it is the last;
 // or the monomial that the next one must stand below, and its position.
 #[derive(Clone, Copy)]
 pub enum Step {
-    Stopped(usize),
     Last(usize),
     More { below: u64, behind: usize },
 }
@@ -35,7 +28,7 @@ fn opens(text: &[u8], at: usize, byte: u8) -> bool
     byte_at(text, at + 1) == byte
 }
 
-// A product with the parenthesis before it, stored at a place.
+// A product with the parenthesis before it, stored at a place: its monomial is given.
 fn read_term(
     text: &[u8],
     coefficient: &mut [i32],
@@ -44,34 +37,25 @@ fn read_term(
     n: usize,
     limit: u64,
     place: usize,
-) -> Number
+) -> Result<Read<u64>, Stop>
     requires { (at ≤ length text.now) × (0 < n) × (n ≤ 16) × (0 < limit) × Room coefficient.old monomial.old place 1 }
     ensures { TermFound text.now at (product_term n limit) place coefficient.old coefficient.new
         monomial.old monomial.new result }
 {
     let start = agreed(text, at, b"(* ");
     if start - at < 3 {
-        return Number::Stopped(start);
+        return Err(Stop { at: start });
     }
-    let found = read_product(text, start, n, limit);
-    match found {
-        Product::Stopped(position) => Number::Stopped(position),
-        Product::Read {
-            coefficient: value,
-            monomial: powers,
-            behind,
-        } => {
-            coefficient[place] = value;
-            monomial[place] = powers;
-            Number::Read {
-                value: powers,
-                behind,
-            }
-        }
-    }
+    let found = read_product(text, start, n, limit)?;
+    coefficient[place] = found.coefficient;
+    monomial[place] = found.monomial;
+    Ok(Read {
+        value: found.monomial,
+        behind: found.behind,
+    })
 }
 
-// A number as the only or the last term, stored at a place.
+// A number as the only or the last term, stored at a place: the position behind it is given.
 fn read_constant(
     text: &[u8],
     coefficient: &mut [i32],
@@ -79,20 +63,15 @@ fn read_constant(
     at: usize,
     last: u8,
     place: usize,
-) -> Step
+) -> Result<usize, Stop>
     requires { (at ≤ length text.now) × (0 < last) × Room coefficient.old monomial.old place 1 }
     ensures { ConstantFound text.now at last place coefficient.old coefficient.new
         monomial.old monomial.new result }
 {
-    let found = read_number(text, at, last);
-    match found {
-        Value::Stopped(position) => Step::Stopped(position),
-        Value::Read { value, behind } => {
-            coefficient[place] = value;
-            monomial[place] = 0;
-            Step::Last(behind)
-        }
-    }
+    let found = read_number(text, at, last)?;
+    coefficient[place] = found.value;
+    monomial[place] = 0;
+    Ok(found.behind)
 }
 
 // May and does a product come next, below that monomial?
@@ -107,24 +86,24 @@ fn product_next(text: &[u8], at: usize, above: u64) -> bool
 }
 
 // Behind a product of a sum: its end, or a space if more terms may come.
-fn after_term(text: &[u8], at: usize, above: u64, most: usize) -> Step
+fn after_term(text: &[u8], at: usize, above: u64, most: usize) -> Result<Step, Stop>
     requires { at ≤ length text.now }
     ensures { (n : ℕ) → AfterFound text.now at n most above result }
 {
     let byte = byte_at(text, at);
     if byte == 41 {
-        return Step::Last(at + 1);
+        return Ok(Step::Last(at + 1));
     }
     if most == 0 {
-        return Step::Stopped(at);
+        return Err(Stop { at });
     }
     if byte != 32 {
-        return Step::Stopped(at);
+        return Err(Stop { at });
     }
-    Step::More {
+    Ok(Step::More {
         below: above,
         behind: at + 1,
-    }
+    })
 }
 
 // The next term of a sum, below a monomial, stored at a place; so many more may come.
@@ -137,36 +116,20 @@ fn read_next_term(
     above: u64,
     place: usize,
     most: usize,
-) -> Step
+) -> Result<Step, Stop>
     requires { (at ≤ length text.now) × (0 < n) × (n ≤ 16) × Room coefficient.old monomial.old place 1 }
     ensures { StepFound text.now at n most above place coefficient.old coefficient.new
         monomial.old monomial.new result }
 {
     if !product_next(text, at, above) {
-        return read_constant(text, coefficient, monomial, at, 41, place);
+        let behind = read_constant(text, coefficient, monomial, at, 41, place)?;
+        return Ok(Step::Last(behind));
     }
-    let found = read_term(text, coefficient, monomial, at, n, above - 1, place);
-    match found {
-        Number::Stopped(position) => Step::Stopped(position),
-        Number::Read { value, behind } => after_term(text, behind, value, most),
-    }
+    let found = read_term(text, coefficient, monomial, at, n, above - 1, place)?;
+    after_term(text, found.behind, found.value, most)
 }
 
-// The same terms and one before them.
-fn one_more(found: Sum) -> Sum
-    requires { Counted found }
-    ensures { result ≡ one_more_of found }
-{
-    match found {
-        Sum::Stopped(position) => Sum::Stopped(position),
-        Sum::Read { count, behind } => Sum::Read {
-            count: count + 1,
-            behind,
-        },
-    }
-}
-
-// The next terms of a sum, below a monomial, stored from a place on: one and at most so many more.
+// The next terms of a sum, below a monomial, stored from a place on: one and at most so many more. It is given how many there are.
 fn read_next_terms(
     text: &[u8],
     coefficient: &mut [i32],
@@ -176,15 +139,14 @@ fn read_next_terms(
     above: u64,
     place: usize,
     most: usize,
-) -> Sum
+) -> Result<Read<usize>, Stop>
     requires { (at ≤ length text.now) × (0 < n) × (n ≤ 16) × Room coefficient.old monomial.old place (most + 1) }
     ensures { SumFound text.now at (next_term n above (other_terms n most)) place coefficient.old coefficient.new
         monomial.old monomial.new result }
 {
-    let step = read_next_term(text, coefficient, monomial, at, n, above, place, most);
+    let step = read_next_term(text, coefficient, monomial, at, n, above, place, most)?;
     match step {
-        Step::Stopped(position) => Sum::Stopped(position),
-        Step::Last(behind) => Sum::Read { count: 1, behind },
+        Step::Last(behind) => Ok(Read { value: 1, behind }),
         Step::More { below, behind } => {
             let rest = read_next_terms(
                 text,
@@ -195,8 +157,11 @@ fn read_next_terms(
                 below,
                 place + 1,
                 most - 1,
-            );
-            one_more(rest)
+            )?;
+            Ok(Read {
+                value: rest.value + 1,
+                behind: rest.behind,
+            })
         }
     }
 }
@@ -211,17 +176,17 @@ fn highest(n: usize) -> u64
 }
 
 // The space behind a polynomial of so many terms.
-fn spaced(text: &[u8], at: usize, count: usize) -> Sum
+fn spaced(text: &[u8], at: usize, count: usize) -> Result<Read<usize>, Stop>
     requires { at ≤ length text.now }
     ensures { SpaceFound text.now at count result }
 {
     if byte_at(text, at) != 32 {
-        return Sum::Stopped(at);
+        return Err(Stop { at });
     }
-    Sum::Read {
-        count,
+    Ok(Read {
+        value: count,
         behind: at + 1,
-    }
+    })
 }
 
 // A product alone.
@@ -231,16 +196,13 @@ fn read_alone(
     monomial: &mut [u64],
     at: usize,
     n: usize,
-) -> Sum
+) -> Result<Read<usize>, Stop>
     requires { (at ≤ length text.now) × (0 < n) × (n ≤ 16) × Room coefficient.old monomial.old 0 16 }
     ensures { SumFound text.now at (alone_term n) 0 coefficient.old coefficient.new
         monomial.old monomial.new result }
 {
-    let found = read_term(text, coefficient, monomial, at, n, highest(n), 0);
-    match found {
-        Number::Stopped(position) => Sum::Stopped(position),
-        Number::Read { value: _, behind } => spaced(text, behind, 1),
-    }
+    let found = read_term(text, coefficient, monomial, at, n, highest(n), 0)?;
+    spaced(text, found.behind, 1)
 }
 
 // The terms behind the first one of a sum, stored from place 1 on.
@@ -251,59 +213,46 @@ fn read_others(
     at: usize,
     n: usize,
     above: u64,
-) -> Sum
+) -> Result<Read<usize>, Stop>
     requires { (at ≤ length text.now) × (0 < n) × (n ≤ 16) × Room coefficient.old monomial.old 1 15 }
     ensures { OthersFound text.now at n above coefficient.old coefficient.new
         monomial.old monomial.new result }
 {
     if byte_at(text, at) != 32 {
-        return Sum::Stopped(at);
+        return Err(Stop { at });
     }
-    let found = read_next_terms(text, coefficient, monomial, at + 1, n, above, 1, 14);
-    match found {
-        Sum::Stopped(position) => Sum::Stopped(position),
-        Sum::Read { count, behind } => spaced(text, behind, count + 1),
-    }
+    let found = read_next_terms(text, coefficient, monomial, at + 1, n, above, 1, 14)?;
+    spaced(text, found.behind, found.value + 1)
 }
 
 // A sum.
-fn read_sum(text: &[u8], coefficient: &mut [i32], monomial: &mut [u64], at: usize, n: usize) -> Sum
+fn read_sum(
+    text: &[u8],
+    coefficient: &mut [i32],
+    monomial: &mut [u64],
+    at: usize,
+    n: usize,
+) -> Result<Read<usize>, Stop>
     requires { (at ≤ length text.now) × (0 < n) × (n ≤ 16) × Room coefficient.old monomial.old 0 16 }
     ensures { SumFound text.now at (sum_of_terms n) 0 coefficient.old coefficient.new
         monomial.old monomial.new result }
 {
     let start = agreed(text, at, b"(+ ");
     if start - at < 3 {
-        return Sum::Stopped(start);
+        return Err(Stop { at: start });
     }
-    let found = read_term(text, coefficient, monomial, start, n, highest(n), 0);
-    match found {
-        Number::Stopped(position) => Sum::Stopped(position),
-        Number::Read { value, behind } => {
-            read_others(text, coefficient, monomial, behind, n, value)
-        }
-    }
+    let found = read_term(text, coefficient, monomial, start, n, highest(n), 0)?;
+    read_others(text, coefficient, monomial, found.behind, n, found.value)
 }
 
-// A term that stands alone.
-fn alone(found: Step) -> Sum
-    ensures { result ≡ alone_of found }
-{
-    match found {
-        Step::Stopped(position) => Sum::Stopped(position),
-        Step::Last(behind) => Sum::Read { count: 1, behind },
-        Step::More { below: _, behind } => Sum::Stopped(behind),
-    }
-}
-
-// A polynomial with the space behind it, stored from the first place on.
+// A polynomial with the space behind it, stored from the first place on. It is given how many terms it has.
 pub fn read_polynomial(
     text: &[u8],
     coefficient: &mut [i32],
     monomial: &mut [u64],
     at: usize,
     n: usize,
-) -> Sum
+) -> Result<Read<usize>, Stop>
     requires { (at ≤ length text.now) × (0 < n) × (n ≤ 16) × Room coefficient.old monomial.old 0 16 }
     ensures { SumFound text.now at (polynomial n) 0 coefficient.old coefficient.new
         monomial.old monomial.new result }
@@ -314,6 +263,6 @@ pub fn read_polynomial(
     if opens(text, at, 42) {
         return read_alone(text, coefficient, monomial, at, n);
     }
-    let found = read_constant(text, coefficient, monomial, at, 32, 0);
-    alone(found)
+    let behind = read_constant(text, coefficient, monomial, at, 32, 0)?;
+    Ok(Read { value: 1, behind })
 }

@@ -54,12 +54,10 @@ fn same_terms(
     ensures { result ≡ same (terms_from value.now powers.now 0 count)
         (terms_from coefficient.now monomial.now place count) }
 {
-    let mut i = 0;
-    while i < count {
+    for i in 0..count {
         if !same_term(coefficient, monomial, value, powers, place + i, i) {
             return false;
         }
-        i += 1;
     }
     true
 }
@@ -100,14 +98,12 @@ pub fn find(
     ensures { result ≡ first_from (λ j. same (terms_from value.now powers.now 0 count)
         (slot_of coefficient.now monomial.now terms.now j)) 0 known }
 {
-    let mut j = 0;
-    while j < known {
+    for j in 0..known {
         if same_slot(coefficient, monomial, terms, value, powers, j, count) {
             return j;
         }
-        j += 1;
     }
-    j
+    known
 }
 
 // ---- one more
@@ -130,12 +126,10 @@ pub fn store(
         (map (λ t. t.monomial) (terms_from value.now powers.now 0 count)))
         × (terms.new ≡ set terms.old slot count) }
 {
-    let mut i = 0;
-    while i < count {
+    for i in 0..count {
         let c = value[i];
         coefficient[16 * slot + i] = c;
         monomial[16 * slot + i] = powers[i];
-        i += 1;
     }
     terms[slot] = count as u8;
 }
@@ -184,9 +178,7 @@ pub fn longest(
         (drop at text.now) }
 {
     let mut best = at;
-    let mut i = known;
-    while 0 < i {
-        i -= 1;
+    for i in (0..known).rev() {
         let next = agreed_slot(text, coefficient, monomial, terms, at, n, i);
         best = larger_of(next, best);
     }

@@ -3,9 +3,8 @@
 
 #![tactic(auto)]
 
-use convert::Converted;
 use lines::put_hex;
-use script_back::{Outcome, block_of};
+use script_back::{Refusal, block_of};
 use std::io;
 use std::io::Write;
 
@@ -21,23 +20,26 @@ fn print_block<W: Write>(out: &mut W, block: &[u8]) -> io::Result<()> {
     out.write_all(b"\n")
 }
 
-fn print_converted<W: Write>(out: &mut W, converted: Converted, output: &[u8]) -> io::Result<()> {
-    match converted {
-        Converted::Refused(number) => writeln!(out, "REFUSED {number}"),
-        Converted::Finished(size) => {
-            if size <= output.len() {
-                print_block(out, &output[..size])?;
-            }
-            Ok(())
+fn print_refusal<W: Write>(out: &mut W, refusal: Refusal) -> io::Result<()> {
+    let number = refusal.number();
+    match refusal {
+        Refusal::Stopped(stop) => {
+            let position = stop.at;
+            writeln!(out, "REFUSED {number} {position}")
         }
+        Refusal::NotFinished(_) => writeln!(out, "REFUSED {number}"),
     }
 }
 
 // The block of a script as a line of hex pairs, or `REFUSED 25 p`, p the position.
 pub fn tell<W: Write>(out: &mut W, text: &[u8], output: &mut [u8]) -> io::Result<()> {
-    let outcome = block_of(text, output);
-    match outcome {
-        Outcome::Stopped(position) => writeln!(out, "REFUSED 25 {position}"),
-        Outcome::Read(converted) => print_converted(out, converted, output),
+    match block_of(text, output) {
+        Err(refusal) => print_refusal(out, refusal),
+        Ok(size) => {
+            if size <= output.len() {
+                print_block(out, &output[..size])?;
+            }
+            Ok(())
+        }
     }
 }

@@ -24,11 +24,8 @@ pub fn put_bytes(text: &mut [u8], at: usize, bytes: &[u8]) -> usize
     ensures { Wrote text.old text.new at bytes.now result }
 {
     let mut next = at;
-    let mut i = 0;
-    while i < bytes.len() {
-        let byte = bytes[i];
-        i += 1;
-        next = put_byte(text, next, byte);
+    for byte in bytes {
+        next = put_byte(text, next, *byte);
     }
     next
 }

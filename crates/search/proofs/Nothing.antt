@@ -2,7 +2,7 @@
 use mathlib.Core.Path.{◌≡◌, refl, sym, ◌∙◌}
 use mathlib.Core.Bool.{false}
 use mathlib.Core.List.{List, [], ◌++◌}
-use mathlib.Core.Option.{none}
+use mathlib.Core.Option.{Option, none}
 use Prim.Native.Nat.{ℕ, zero, suc, ◌+◌, ◌-◌, ◌%◌, ◌<◌, ◌≤◌}
 use native.Mathlib.Omega.{arith}
 use lib.ListN.{get_or}
@@ -16,6 +16,10 @@ use Rattle.table.specs.Table.{Table, form_at, atoms_from, atoms_of, many}
 use Rattle.round.specs.Boards.{set_at}
 use Rattle.search.specs.Search.{when_found, AtFloor, PairsFloor, SearchedBoard, SearchedAtoms}
 use Rattle.search.proofs.Firsts.{none-of-board, first_at, none-of-atoms}
+
+-- what is first found of variable j
+abbrev pub first_of_variable : Table → Sets → Atoms → ℕ → Option SignSet
+first_of_variable t b a j = first_cut (get_or (sets_of b) j full) (tries (sets_of b) (variable b.variables j) (atoms_of t a))
 
 module _ (t : Table) (b : Sets) (a : Atoms) where
   -- nothing of any variable

@@ -1,13 +1,11 @@
 -- Pairs that are left out: if the tries of each of them leave the set, those after them leave of it what all of them do.
 -- A pair of three slots whose words tell that it leaves the set is one of these.
 use mathlib.Core.Path.{◌≡◌, refl, sym, ap, ◌∙◌, subst}
-use mathlib.Core.Bool.{Bool, true, false, not, ◌&&◌}
+use mathlib.Core.Bool.{Bool, false}
 use mathlib.Core.List.{List}
-use Prim.Native.Nat.{ℕ, zero, suc, ◌+◌, ◌-◌, ◌*◌, ◌<◌, ◌≤◌}
+use Prim.Native.Nat.{ℕ, zero, suc, ◌+◌, ◌-◌, ◌<◌, ◌≤◌}
 use native.Mathlib.Decide.{dec_lt}
 use native.Mathlib.Omega.{arith}
-use borrow.Author.Tests.{eq-eqb}
-use lib.IntN.{ℤ}
 use lib.ListN.{get_or}
 use Rattle.rules.specs.Signs.{SignSet}
 use Rattle.rules.specs.Polynomial.{Polynomial, Atom, Board}
@@ -15,7 +13,8 @@ use Rattle.rules.specs.TwoAtoms.{tries_with}
 use Rattle.table.specs.declared.Atoms.{Atoms}
 use Rattle.table.specs.Table.{Table, form_at, atom_at, many}
 use Rattle.two_atoms.specs.declared.pair.Pair.{Pair}
-use Rattle.two_atoms.specs.Cuts.{cut_in, stops}
+use Rattle.two_atoms.specs.Cuts.{cut_in}
+use Rattle.two_atoms.proofs.Factors.{never-stops}
 use Rattle.masks.specs.declared.Mask.{Mask}
 use Rattle.masks.specs.Masks.{MayCut}
 use Rattle.round.specs.Views.{rest}
@@ -25,11 +24,6 @@ use Rattle.columns.specs.Columns.{Candidates, Next}
 use Rattle.search.specs.Masked.{slot_run, SlotMask, mask_at, MaskedAtoms}
 use Rattle.search.specs.Noted.{NotedAtoms}
 use Rattle.search.proofs.Walks.{Stands, walk-on, pair_tries, pair-at, with-step, with-end}
-
-never-stops : (all : Bool) (s : SignSet) → stops all s s ≡ false
-unfolding stops
-never-stops true s = refl
-never-stops false s = ap not (eq-eqb s s refl)
 
 module _ (t : Table) (a : Atoms) (board : Board) (p : Polynomial) (q1 : Atom) (all : Bool) (s : SignSet) where
   -- the pair with the atom at k leaves the set

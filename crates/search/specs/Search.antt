@@ -3,7 +3,7 @@
 use Rattle.std.specs.Prelude.{◌≡◌, refl, Bool, true, false, List, [], ℕ, ◌<◌, ◌≤◌, get_or}
 use Rattle.std.proofs.Common.{sym, ◌∙◌, true≢false, arith, eq-eqb}
 use Rattle.std.proofs.Math.Option.{Option, none, some}
-use Rattle.rules.specs.Signs.{SignSet, full, empty}
+use Rattle.rules.specs.Signs.{full, empty}
 use Rattle.rules.specs.Polynomial.{Atom, Board, variable}
 use Rattle.rules.specs.TwoAtoms.{tries, first_cut}
 use Rattle.rules.specs.Rounds.{search_board, search_atoms, search}

@@ -16,6 +16,7 @@ use table::Atoms;
 use terms::Board;
 
 // Whether a pair found something of an atom, and the atoms that this leaves.
+// kept: a public type, whose parts the contracts and the crates above name; what is left is there also where nothing was found.
 #[derive(Clone, Copy)]
 pub struct OfAtoms {
     pub found: bool,
@@ -34,15 +35,13 @@ fn search_atoms_by(
     board: Board,
     atoms: Atoms,
 ) -> OfAtoms
-    requires fact { let t = lent_table coefficient monomial terms board.variables in
+    requires ready { let t = lent_table coefficient monomial terms board.variables in
         Ready t (sets_of board) atoms sign.now × Filled (sets_of board) }
     requires words { Words coefficient.now monomial.now terms.now sign.now atoms masks.now columns.now falls }
     ensures { let t = lent_table coefficient.entry monomial.entry terms.entry board.variables in
         SearchedAtoms t board atoms result }
 {
-    let n = many(atoms.count);
-    let mut i = 0;
-    while i < n {
+    for i in 0..many(atoms.count) {
         let number = atoms.number[i];
         let set = atoms.set[i];
         let k = (number % 64) as usize;
@@ -69,7 +68,6 @@ fn search_atoms_by(
                 atoms: narrowed,
             };
         }
-        i += 1;
     }
     OfAtoms {
         found: false,

@@ -21,12 +21,8 @@ pub fn all_fall(monomial: &[u64], terms: &[u8], atoms: Atoms) -> bool
     requires { SlotPlaces monomial.now terms.now }
     ensures { result ≡ true → FallingList monomial.now terms.now atoms }
 {
-    let n = many(atoms.count);
-    let mut i = 0;
-    while i < n {
-        let number = atoms.number[i];
-        let k = (number % 64) as usize;
-        i += 1;
+    for i in 0..many(atoms.count) {
+        let k = (atoms.number[i] % 64) as usize;
         if !slot_falls(monomial, terms, k) {
             return false;
         }

@@ -24,6 +24,7 @@ pub mod variables; // the search over the variables
 pub mod atoms; // the search over the atoms
 
 // Whether a pair found something, and the state that this leaves.
+// kept: a public type, whose parts the contracts and the crates above name; what is left is there also where nothing was found.
 #[derive(Clone, Copy)]
 pub struct Found {
     pub found: bool,

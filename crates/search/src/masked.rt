@@ -54,13 +54,9 @@ pub fn mask_list(
     requires { Slots monomial.now terms.now sign.now × ((length coefficient.now ≡ 1280) × (length masks.old ≡ 128)) }
     ensures { MaskedAtoms coefficient.now monomial.now terms.now sign.now atoms masks.new }
 {
-    let n = many(atoms.count);
-    let mut i = 0;
-    while i < n {
-        let number = atoms.number[i];
-        let k = (number % 64) as usize;
+    for i in 0..many(atoms.count) {
+        let k = (atoms.number[i] % 64) as usize;
         let mask = mask_of_slot(coefficient, monomial, terms, sign, k);
         put(masks, i, mask);
-        i += 1;
     }
 }

@@ -13,12 +13,8 @@ pub fn note_list(atoms: Atoms, masks: &[u64], columns: &mut [u64])
     requires { (length masks.now ≡ 128) × (length columns.old ≡ 130) }
     ensures { NotedAtoms atoms masks.now columns.new }
 {
-    let n = many(atoms.count);
-    let mut i = 0;
-    while i < n {
-        let set = atoms.set[i];
+    for i in 0..many(atoms.count) {
         let mask = mask_at(masks, i);
-        note(mask, set, i, columns);
-        i += 1;
+        note(mask, atoms.set[i], i, columns);
     }
 }

@@ -42,9 +42,9 @@ fn cut_with(
     set: SignSet,
     all: bool,
 ) -> SignSet
-    requires fact { let t = lent_table coefficient monomial terms board.variables in
+    requires ready { let t = lent_table coefficient monomial terms board.variables in
         Ready t (sets_of board) atoms sign.now × Filled (sets_of board) }
-    requires fact_2 { let t = lent_table coefficient monomial terms board.variables in
+    requires signed { let t = lent_table coefficient monomial terms board.variables in
         (p < 80) × (SignedSlot t (sets_of board) sign.now p × (i < many_of atoms.count)) }
     requires masked_atoms { MaskedAtoms coefficient.now monomial.now terms.now sign.now atoms masks.now }
     requires slot_mask { SlotMask coefficient.now monomial.now terms.now sign.now p mask × NotedAtoms atoms masks.now columns.now }
@@ -61,6 +61,7 @@ fn cut_with(
     let mut left = candidates(mask, mask1, set1, set.0, columns);
     let mut sofar = set;
     let mut j = next(left, i + 1, n);
+    // kept: the place goes on to the next atom that may cut, by bits that change on the way; its step is not one
     while j < n {
         let second = atoms.number[j];
         let set2 = atoms.set[j];
@@ -110,20 +111,18 @@ pub fn cut_by_pairs(
     set: SignSet,
     all: bool,
 ) -> SignSet
-    requires fact { let t = lent_table coefficient monomial terms board.variables in
+    requires ready { let t = lent_table coefficient monomial terms board.variables in
         Ready t (sets_of board) atoms sign.now × Filled (sets_of board) }
-    requires fact_2 { let t = lent_table coefficient monomial terms board.variables in
+    requires signed { let t = lent_table coefficient monomial terms board.variables in
         (p < 80) × SignedSlot t (sets_of board) sign.now p }
     requires words { Words coefficient.now monomial.now terms.now sign.now atoms masks.now columns.now falls }
     ensures { let t = lent_table coefficient.entry monomial.entry terms.entry board.variables in
         result.0 ≡ cut_in all set.0 (tries (sets_of board) (form_at t p) (atoms_of t atoms)) }
 {
-    let n = many(atoms.count);
     let mask = mask_of_slot(coefficient, monomial, terms, sign, p);
     let all_fall = falls_with(monomial, terms, falls, p);
     let mut sofar = set;
-    let mut i = 0;
-    while i < n {
+    for i in 0..many(atoms.count) {
         let cut = cut_with(
             coefficient,
             monomial,
@@ -140,7 +139,6 @@ pub fn cut_by_pairs(
             sofar,
             all,
         );
-        i += 1;
         if stops(all, cut.0, sofar.0) {
             return cut;
         }

@@ -19,6 +19,7 @@ use table::Atoms;
 use terms::Board;
 
 // Whether a pair found something of a variable, and the board that this leaves.
+// kept: a public type, whose parts the contracts and the crates above name; what is left is there also where nothing was found.
 #[derive(Clone, Copy)]
 pub struct OfBoard {
     pub found: bool,
@@ -40,12 +41,9 @@ fn above(board: Board, floor: Board) -> bool
     requires { board.variables ≤ 16 }
     ensures { result ≡ false → AtFloor board floor }
 {
-    let n = board.variables;
-    let mut i = 0;
-    while i < n {
+    for i in 0..board.variables {
         let set = board.sets[i];
         let low = floor.sets[i];
-        i += 1;
         if set != low {
             return true;
         }
@@ -67,9 +65,9 @@ fn cut_variable(
     floor: Board,
     i: usize,
 ) -> SignSet
-    requires fact { let t = lent_table coefficient monomial terms board.variables in
+    requires ready { let t = lent_table coefficient monomial terms board.variables in
         Ready t (sets_of board) atoms sign.now × Filled (sets_of board) }
-    requires fact_2 { let t = lent_table coefficient monomial terms board.variables in
+    requires at_floor { let t = lent_table coefficient monomial terms board.variables in
         PairsFloor board.variables (atoms_of t atoms) (sets_of board) (sets_of floor) × (floor.variables ≡ board.variables) }
     requires words { Words coefficient.now monomial.now terms.now sign.now atoms masks.now columns.now falls }
     requires i_lt_variables { i < board.variables }
@@ -110,17 +108,15 @@ fn search_board_by(
     atoms: Atoms,
     floor: Board,
 ) -> OfBoard
-    requires fact { let t = lent_table coefficient monomial terms board.variables in
+    requires ready { let t = lent_table coefficient monomial terms board.variables in
         Ready t (sets_of board) atoms sign.now × Filled (sets_of board) }
-    requires fact_2 { let t = lent_table coefficient monomial terms board.variables in
+    requires at_floor { let t = lent_table coefficient monomial terms board.variables in
         PairsFloor board.variables (atoms_of t atoms) (sets_of board) (sets_of floor) × (floor.variables ≡ board.variables) }
     requires words { Words coefficient.now monomial.now terms.now sign.now atoms masks.now columns.now falls }
     ensures { let t = lent_table coefficient.entry monomial.entry terms.entry board.variables in
         SearchedBoard t board atoms result }
 {
-    let n = board.variables;
-    let mut i = 0;
-    while i < n {
+    for i in 0..board.variables {
         let set = board.sets[i];
         let cut = cut_variable(
             coefficient,
@@ -143,7 +139,6 @@ fn search_board_by(
                 board: narrowed,
             };
         }
-        i += 1;
     }
     OfBoard {
         found: false,
@@ -161,9 +156,9 @@ pub fn search_board(
     atoms: Atoms,
     floor: Board,
 ) -> OfBoard
-    requires fact { let t = lent_table coefficient monomial terms board.variables in
+    requires ready { let t = lent_table coefficient monomial terms board.variables in
         Ready t (sets_of board) atoms sign.now × Filled (sets_of board) }
-    requires fact_2 { let t = lent_table coefficient monomial terms board.variables in
+    requires at_floor { let t = lent_table coefficient monomial terms board.variables in
         PairsFloor board.variables (atoms_of t atoms) (sets_of board) (sets_of floor) × (floor.variables ≡ board.variables) }
     ensures { let t = lent_table coefficient.entry monomial.entry terms.entry board.variables in
         SearchedBoard t board atoms result }

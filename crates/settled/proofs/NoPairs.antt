@@ -6,8 +6,8 @@ use mathlib.Core.Option.{Option, none, some}
 use Prim.Native.Nat.{ℕ, zero, suc, ◌<◌}
 use native.Mathlib.Omega.{arith}
 use lib.ListN.{length, get_or}
-use Rattle.rules.specs.Signs.{SignSet, full, intersect}
-use Rattle.rules.specs.Polynomial.{Polynomial, Atom, Board, by_terms, same, variable, which}
+use Rattle.rules.specs.Signs.{SignSet, full}
+use Rattle.rules.specs.Polynomial.{Polynomial, Atom, by_terms, same, which}
 use Rattle.rules.specs.TwoAtoms.{tries, cut_by_all}
 use Rattle.rules.specs.Rounds.{State, or_next, listed, held, unless_same, other_than, says_in}
 use Rattle.sign_laws.specs.Sets.{PartOf, part-trans, intersect-first}
@@ -20,7 +20,7 @@ use Rattle.table.specs.Table.{Table, Forms, form_at, atoms_from, atoms_of, many}
 use Rattle.round.specs.declared.State.{State as Left}
 use Rattle.round.specs.declared.slots.Holds.{Holds}
 use Rattle.round.specs.declared.slots.Holds.TheVariants.{Variable, Form}
-use Rattle.round.specs.Views.{variable_of, state_of}
+use Rattle.round.specs.Views.{variable_of}
 use Rattle.settled.specs.Others.{OtherThan, PairsMatter, says_before_pairs}
 use Rattle.settled.proofs.ByPairs.{says-low}
 

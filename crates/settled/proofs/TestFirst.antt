@@ -1,7 +1,7 @@
 -- Whether an atom stays, by what its slot holds, and if that is a form by what the others say of it.
 -- Step 5 with the test first is step 5.
 use mathlib.Core.Path.{◌≡◌, sym, ◌∙◌}
-use mathlib.Core.Bool.{Bool, true, false, not, ◌&&◌}
+use mathlib.Core.Bool.{Bool, false, not}
 use mathlib.Core.List.{List, []}
 use Prim.Native.Nat.{ℕ, max}
 use native.Mathlib.Omega.{arith}

@@ -59,7 +59,7 @@ fn says_before_pairs(
     state: State,
     number: usize,
 ) -> SignSet
-    requires fact { let t = lent_table coefficient monomial terms variables in
+    requires ready { let t = lent_table coefficient monomial terms variables in
         Ready t (sets_of state.board) state.atoms sign.now × ((state.board.variables ≡ variables) × (number < 64)) }
     requires signed_slot { SignedSlot (lent_table coefficient monomial terms variables) (sets_of state.board) sign.now number }
     ensures { let t = lent_table coefficient.entry monomial.entry terms.entry variables in
@@ -178,9 +178,9 @@ pub fn says_inside(
     number: usize,
     bound: SignSet,
 ) -> bool
-    requires fact { let t = lent_table coefficient monomial terms variables in
+    requires ready { let t = lent_table coefficient monomial terms variables in
         Ready t (sets_of state.board) state.atoms sign.now × ((state.board.variables ≡ variables) × (number < 64)) }
-    requires fact_2 { let t = lent_table coefficient monomial terms variables in
+    requires signed_settled { let t = lent_table coefficient monomial terms variables in
         SignedSlot t (sets_of state.board) sign.now number × Settled variables (state_of t state) }
     ensures { let t = lent_table coefficient.entry monomial.entry terms.entry variables in
         result ≡ inside (says_in variables (state_of t state) (form_at t number)) bound.0 }
@@ -278,15 +278,13 @@ pub fn carried(
     let end = many(list.count);
     let mut carried = list;
     let mut next = 0;
-    let mut i = 0;
-    while i < end {
+    for i in 0..end {
         let number = list.number[i];
         let k = (number % 64) as usize;
         let holds = which(coefficient, monomial, terms, variables, k);
         let one = carried_one(board, atoms, holds, next);
         carried.set[i] = one.set;
         next = one.next;
-        i += 1;
     }
     carried
 }

@@ -26,11 +26,9 @@ pub fn other_than(list: Atoms, number: usize) -> Atoms
     let end = many(list.count);
     let mut others = list;
     let mut next = 0;
-    let mut i = 0;
-    while i < end {
+    for i in 0..end {
         let other = list.number[i];
         let set = list.set[i];
-        i += 1;
         let k = (other % 64) as usize;
         if number != k {
             others.number[next] = other;
@@ -48,9 +46,7 @@ fn silent(list: Atoms, number: usize) -> Atoms
     ensures { SilencedSlot list number result }
 {
     let mut quiet = list;
-    let mut i = many(list.count);
-    while i > 0 {
-        i -= 1;
+    for i in 0..many(list.count) {
         let other = list.number[i];
         let k = (other % 64) as usize;
         if number == k {
@@ -75,9 +71,9 @@ pub fn cut_by_others(
     number: usize,
     set: SignSet,
 ) -> SignSet
-    requires fact { let t = lent_table coefficient monomial terms variables in
+    requires ready { let t = lent_table coefficient monomial terms variables in
         Ready t (sets_of board) list sign.now × ((board.variables ≡ variables) × (number < 64)) }
-    requires fact_2 { let t = lent_table coefficient monomial terms variables in
+    requires signed_filled { let t = lent_table coefficient monomial terms variables in
         SignedSlot t (sets_of board) sign.now number × Filled (sets_of board) }
     requires words { Words coefficient.now monomial.now terms.now sign.now list masks.now columns.now falls }
     ensures { let t = lent_table coefficient.entry monomial.entry terms.entry variables in
@@ -119,9 +115,9 @@ pub fn lies_inside(
     set: SignSet,
     bound: SignSet,
 ) -> bool
-    requires fact { let t = lent_table coefficient monomial terms variables in
+    requires ready { let t = lent_table coefficient monomial terms variables in
         Ready t (sets_of board) list sign.now × ((board.variables ≡ variables) × (number < 64)) }
-    requires fact_2 { let t = lent_table coefficient monomial terms variables in
+    requires signed_filled { let t = lent_table coefficient monomial terms variables in
         SignedSlot t (sets_of board) sign.now number × Filled (sets_of board) }
     requires words { Words coefficient.now monomial.now terms.now sign.now list masks.now columns.now falls × (set.0 < 8) }
     ensures { let t = lent_table coefficient.entry monomial.entry terms.entry variables in

@@ -118,9 +118,9 @@ fn goes(
     number: usize,
     set: SignSet,
 ) -> Told
-    requires fact { let t = lent_table coefficient monomial terms variables in
+    requires ready { let t = lent_table coefficient monomial terms variables in
         Ready t (sets_of state.board) state.atoms sign.now × ((state.board.variables ≡ variables) × (number < 64)) }
-    requires fact_2 { let t = lent_table coefficient monomial terms variables in
+    requires signed_afresh { let t = lent_table coefficient monomial terms variables in
         SignedSlot t (sets_of state.board) sign.now number × AfreshFrom t state (atoms_of t others) }
     requires words { Words coefficient.now monomial.now terms.now sign.now state.atoms masks.now columns.now falls }
     ensures { let t = lent_table coefficient.entry monomial.entry terms.entry variables in
@@ -174,7 +174,7 @@ fn kept_unless(out: bool, kept: Remaining, list: Atoms, i: usize) -> Remaining
 }
 
 // Step 5 with the test first, where the signs of the state's atoms and of the list's are worked out for the state's board, and the words of the
-// state's atoms by these.
+// state's atoms by these. A common run counts the fresh ones, or each is counted by itself.
 fn remove(
     coefficient: &[i32],
     monomial: &[u64],
@@ -187,10 +187,11 @@ fn remove(
     list: Atoms,
     state: State,
     largest: usize,
+    by_common: bool,
 ) -> Removed
-    requires fact { let t = lent_table coefficient monomial terms variables in
+    requires ready_carried { let t = lent_table coefficient monomial terms variables in
         Ready t (sets_of state.board) state.atoms sign.now × CarriedFrom t state (atoms_of t list) }
-    requires fact_2 { let t = lent_table coefficient monomial terms variables in
+    requires list_ready { let t = lent_table coefficient monomial terms variables in
         Ready t (sets_of state.board) list sign.now }
     requires words { Words coefficient.now monomial.now terms.now sign.now state.atoms masks.now columns.now falls }
     ensures { let t = lent_table coefficient.entry monomial.entry terms.entry variables in
@@ -207,9 +208,11 @@ fn remove(
         keep: [false; 64],
     };
     let mut order = no_order();
-    let mut rounds = largest;
-    let mut i = 0;
-    while i < end {
+    let mut counting = Counting {
+        rounds: largest,
+        common: unknown(),
+    };
+    for i in 0..end {
         let number = list.number[i];
         let set = list.set[i];
         let k = (number % 64) as usize;
@@ -232,100 +235,32 @@ fn remove(
         );
         let out = told.yes;
         order = told.order;
-        rounds = fresh_rounds(
-            coefficient,
-            monomial,
-            terms,
-            variables,
-            others,
-            state,
-            rounds,
-        );
+        if by_common {
+            counting = counted(
+                coefficient,
+                monomial,
+                terms,
+                variables,
+                kept.atoms,
+                list,
+                i,
+                others,
+                state,
+                counting,
+                out,
+            );
+        } else {
+            counting.rounds = fresh_rounds(
+                coefficient,
+                monomial,
+                terms,
+                variables,
+                others,
+                state,
+                counting.rounds,
+            );
+        }
         kept = kept_unless(out, kept, list, i);
-        i += 1;
-    }
-    Removed {
-        remaining: kept,
-        rounds,
-    }
-}
-
-// The same, where a common run counts the fresh ones.
-fn remove_counting(
-    coefficient: &[i32],
-    monomial: &[u64],
-    terms: &[u8],
-    sign: &[u8],
-    masks: &[u64],
-    columns: &[u64],
-    falls: bool,
-    variables: usize,
-    list: Atoms,
-    state: State,
-    largest: usize,
-) -> Removed
-    requires fact { let t = lent_table coefficient monomial terms variables in
-        Ready t (sets_of state.board) state.atoms sign.now × CarriedFrom t state (atoms_of t list) }
-    requires fact_2 { let t = lent_table coefficient monomial terms variables in
-        Ready t (sets_of state.board) list sign.now }
-    requires words { Words coefficient.now monomial.now terms.now sign.now state.atoms masks.now columns.now falls }
-    ensures { let t = lent_table coefficient.entry monomial.entry terms.entry variables in
-        RemainingOf t list (remove_faster variables (state_of t state) []) result.remaining
-        × (result.rounds ≡ max largest (count_faster variables (state_of t state) [] (atoms_of t list))) }
-{
-    let end = many(list.count);
-    let mut kept = Remaining {
-        atoms: Atoms {
-            count: 0,
-            number: [0; 64],
-            set: [0; 64],
-        },
-        keep: [false; 64],
-    };
-    let mut order = no_order();
-    let mut counting = Counting {
-        rounds: largest,
-        common: unknown(),
-    };
-    let mut i = 0;
-    while i < end {
-        let number = list.number[i];
-        let set = list.set[i];
-        let k = (number % 64) as usize;
-        let so_far = kept.atoms;
-        let others = joined(so_far, list, i + 1);
-        let told = goes(
-            coefficient,
-            monomial,
-            terms,
-            sign,
-            masks,
-            columns,
-            falls,
-            variables,
-            state,
-            others,
-            order,
-            k,
-            SignSet(set),
-        );
-        let out = told.yes;
-        order = told.order;
-        counting = counted(
-            coefficient,
-            monomial,
-            terms,
-            variables,
-            so_far,
-            list,
-            i,
-            others,
-            state,
-            counting,
-            out,
-        );
-        kept = kept_unless(out, kept, list, i);
-        i += 1;
     }
     Removed {
         remaining: kept,
@@ -366,22 +301,8 @@ pub fn remove_implied(
         &mut masks,
         &mut columns,
     );
-    if 2 * (variables + many(list.count)) + 1 <= largest {
-        return remove(
-            coefficient,
-            monomial,
-            terms,
-            &sign,
-            &masks,
-            &columns,
-            falls,
-            variables,
-            list,
-            state,
-            largest,
-        );
-    }
-    remove_counting(
+    let by_common = largest < 2 * (variables + many(list.count)) + 1;
+    remove(
         coefficient,
         monomial,
         terms,
@@ -393,5 +314,6 @@ pub fn remove_implied(
         list,
         state,
         largest,
+        by_common,
     )
 }

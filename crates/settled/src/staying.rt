@@ -32,7 +32,7 @@ fn said_before_pairs(
     others: Atoms,
     number: usize,
 ) -> SignSet
-    requires fact { let t = lent_table coefficient monomial terms variables in
+    requires ready { let t = lent_table coefficient monomial terms variables in
         Ready t (sets_of board) others sign.now × ((board.variables ≡ variables) × (number < 64)) }
     requires signed_slot { SignedSlot (lent_table coefficient monomial terms variables) (sets_of board) sign.now number }
     ensures { let t = lent_table coefficient.entry monomial.entry terms.entry variables in
@@ -69,9 +69,9 @@ fn said_inside(
     number: usize,
     set: SignSet,
 ) -> bool
-    requires fact { let t = lent_table coefficient monomial terms variables in
+    requires ready { let t = lent_table coefficient monomial terms variables in
         Ready t (sets_of state.board) state.atoms sign.now × ((state.board.variables ≡ variables) × (number < 64)) }
-    requires fact_2 { let t = lent_table coefficient monomial terms variables in
+    requires signed_settled { let t = lent_table coefficient monomial terms variables in
         SignedSlot t (sets_of state.board) sign.now number × Settled variables (state_of t state) }
     requires words { Words coefficient.now monomial.now terms.now sign.now state.atoms masks.now columns.now falls }
     ensures { let t = lent_table coefficient.entry monomial.entry terms.entry variables in
@@ -121,9 +121,9 @@ pub fn stays(
     number: usize,
     set: SignSet,
 ) -> bool
-    requires fact { let t = lent_table coefficient monomial terms variables in
+    requires ready { let t = lent_table coefficient monomial terms variables in
         Ready t (sets_of state.board) state.atoms sign.now × ((state.board.variables ≡ variables) × (number < 64)) }
-    requires fact_2 { let t = lent_table coefficient monomial terms variables in
+    requires signed_settled { let t = lent_table coefficient monomial terms variables in
         SignedSlot t (sets_of state.board) sign.now number × Settled variables (state_of t state) }
     requires words { Words coefficient.now monomial.now terms.now sign.now state.atoms masks.now columns.now falls }
     ensures { let t = lent_table coefficient.entry monomial.entry terms.entry variables in

@@ -2,50 +2,28 @@
 use mathlib.Core.Path.{◌≡◌, refl, sym, ap, ap₂, subst, ◌∙◌}
 use mathlib.Core.Bool.{Bool, true, false, not, ◌&&◌, true≢false}
 use mathlib.Core.List.{[], ◌∷◌}
-use Prim.Native.Nat.{ℕ, zero, suc, ◌+◌, ◌*◌, ◌/◌, ◌%◌, ◌<◌, ◌≤◌}
-use native.Mathlib.Nat.{mul-le-mul}
+use Prim.Native.Nat.{ℕ, zero, suc, ◌+◌, ◌/◌, ◌%◌, ◌<◌, ◌≤◌}
 use native.Mathlib.Omega.{arith}
-use borrow.Author.Tests.{ltb-true, ltb-false}
-use lib.Dec.{eqb, leb, ltb, lit<}
-use lib.IntN.{ℤ, pos, negsuc, nat_abs, neg_ℤ, ◌+ℤ◌, ◌-ℤ◌, ◌*ℤ◌}
+use borrow.Author.Count.{below_more}
+use lib.Dec.{eqb, leb}
+use lib.IntN.{ℤ, pos, negsuc, neg_ℤ, ◌+ℤ◌, ◌-ℤ◌, ◌*ℤ◌}
 use lib.ListN.{get_or}
-use lib.Signed.{mag, le_z, non_neg}
+use lib.Signed.{le_z, non_neg}
 use mir.Syntax.{w32, w64}
 use mir.Val.{SFits, to_z, of_z}
-use mir.ValLaws.{to_z-of_z}
 use Rattle.whole.specs.Differences.{order-by-difference}
 use Rattle.whole.specs.Solver.{solve, #, neg, ◌:-◌}
-use Rattle.plain_laws.specs.Bounds.{magnitude-product, magnitude-sum}
 use Rattle.rules.specs.Signs.{Sign, negative, positive, SignSet, sign_of, only, has, Kind, kind, open_signs}
-use Rattle.rules.specs.TwoAtoms.{factors}
 use Rattle.deduction_laws.specs.FractionSets.{Side, L, U}
 use Rattle.interval.specs.Coefficients.{back}
 use Rattle.masks.specs.Masks.{cuts}
 use Rattle.masks.specs.Weights.{against}
 use Rattle.two_atoms.specs.Tries.{factor_at}
+use Rattle.two_atoms.proofs.Sums.{product-back, plus-back}
+use Rattle.two_atoms.proofs.Factors.{factor-back}
 use Rattle.sieve.specs.Rows.{Rows}
 use Rattle.sieve.specs.Tries.{bars, side_of, can_be, RowBars, Caught, Stopped, StoppedAll, StoppedBoth, StoppedHalves, half_of, PassedTest}
 use Rattle.sieve.specs.Tries.{PassedPair, first_of, from_of}
-
--- ---- the coefficient, from the bits of its numbers
-
-within-magnitude : (z : ℤ) → mag z ≤ nat_abs z
-within-magnitude (pos n) = omega arith
-within-magnitude (negsuc n) = omega arith
-
-magnitude : {z : ℤ} → SFits w32 z → nat_abs z ≤ 2147483648
-magnitude {z = pos n} f = omega (arith, f.sfits)
-magnitude {z = negsuc n} f = omega (arith, f.sfits)
-
-plus-fits : {a u b : ℤ} → SFits w32 a → SFits w32 u → SFits w32 b → SFits w64 (a +ℤ u *ℤ b)
-plus-fits {a} {u} {b} f g h =
-    let l : nat_abs u * nat_abs b ≤ 2147483648 * 2147483648 = mul-le-mul (magnitude g) (magnitude h) in
-    record { sfits = omega (arith, within-magnitude (a +ℤ u *ℤ b), magnitude-sum a (u *ℤ b), magnitude f, magnitude-product u b) }
-
-product-fits : {w c : ℤ} → SFits w32 w → SFits w32 c → SFits w64 (w *ℤ c)
-product-fits {w} {c} f g =
-    let l : nat_abs w * nat_abs c ≤ 2147483648 * 2147483648 = mul-le-mul (magnitude f) (magnitude g) in
-    record { sfits = omega (arith, within-magnitude (w *ℤ c), magnitude-product w c) }
 
 -- ---- one row
 
@@ -72,10 +50,10 @@ below x y e = is_below (x -ℤ y) (sym (order-by-difference y x) ∙ e)
 module _ {a u b w c x y : ℤ} (fa : SFits w32 a) (fu : SFits w32 u) (fb : SFits w32 b) (fw : SFits w32 w) (fc : SFits w32 c)
     (e : x ≡ to_z w32 (of_z w32 a) +ℤ to_z w32 (of_z w32 u) *ℤ to_z w32 (of_z w32 b)) (h : y ≡ to_z w32 (of_z w32 w) *ℤ to_z w32 (of_z w32 c)) where
   sum_is : to_z w64 (of_z w64 x) ≡ a +ℤ u *ℤ b
-  sum_is = rw (e, back fa, back fu, back fb) (to_z-of_z w64 _ (plus-fits fa fu fb))
+  sum_is = plus-back fa fu fb e
 
   product_is : to_z w64 (of_z w64 y) ≡ w *ℤ c
-  product_is = rw (h, back fw, back fc) (to_z-of_z w64 _ (product-fits fw fc))
+  product_is = product-back fw fc h
 
   pub sum-above : le_z (to_z w64 (of_z w64 x)) (to_z w64 (of_z w64 y)) ≡ false → sign_of (a +ℤ u *ℤ b -ℤ w *ℤ c) ≡ positive
   sum-above k = above (a +ℤ u *ℤ b) (w *ℤ c) (sym (ap₂ le_z sum_is product_is) ∙ k)
@@ -128,21 +106,6 @@ un-false {b = false} e = absurd (true≢false e)
 
 -- ---- all w, all u
 
-factor-fits : (i : ℕ) → SFits w32 (factor_at i)
-unfolding factors factor_at
-factor-fits zero = record { sfits = lit< tt }
-factor-fits (suc zero) = record { sfits = lit< tt }
-factor-fits (suc (suc zero)) = record { sfits = lit< tt }
-factor-fits (suc (suc (suc zero))) = record { sfits = lit< tt }
-factor-fits (suc (suc (suc (suc zero)))) = record { sfits = lit< tt }
-factor-fits (suc (suc (suc (suc (suc zero))))) = record { sfits = lit< tt }
-factor-fits (suc (suc (suc (suc (suc (suc zero)))))) = record { sfits = lit< tt }
-factor-fits (suc (suc (suc (suc (suc (suc (suc zero))))))) = record { sfits = lit< tt }
-factor-fits (suc (suc (suc (suc (suc (suc (suc (suc i)))))))) = record { sfits = lit< tt }
-
-factor-back : {z : ℤ} (i : ℕ) → z ≡ factor_at i → to_z w32 (of_z w32 z) ≡ factor_at i
-factor-back i e = ap (λ (z : ℤ). to_z w32 (of_z w32 z)) e ∙ back (factor-fits i)
-
 -- the w at the indices from..j
 pub record SecondWalked (r : Rows) (n : ℕ) (u : ℤ) (lowers : Bool) (from j : ℕ) : Type 0 where
   pub each : (i : ℕ) → from ≤ i → i < j → Caught r n (side_of lowers) u (factor_at i)
@@ -150,20 +113,11 @@ pub record SecondWalked (r : Rows) (n : ℕ) (u : ℤ) (lowers : Bool) (from j :
 pub second-begun : {r : Rows} {n : ℕ} {u : ℤ} {lowers : Bool} {from : ℕ} → SecondWalked r n u lowers from from
 second-begun = record { each = λ i l m. absurd (omega (arith, l, m)) }
 
--- the last index, or one before
-last_or : {X : Type 0} {i j : ℕ} → i < j + 1 → (i < j → X) → (i ≡ j → X) → X
-last_or {X} {i} {j} h f g = by (ltb i j) refl
-  where
-    by : (b : Bool) → ltb i j ≡ b → X
-    by true e = f (ltb-true i j e)
-    by false e = g (omega (arith, h, ltb-false i j e))
-
 pub second-on : {r : Rows} {n : ℕ} {u w : ℤ} {lowers : Bool} {from j k : ℕ} → SecondWalked r n u lowers from j → w ≡ factor_at j
     → Stopped r n u (to_z w32 (of_z w32 w)) lowers k → k < n → SecondWalked r n u lowers from (j + 1)
-second-on {r} {n} {u} {lowers = lowers} {j = j} h e p l = record {
-  each = λ i a m. last_or m (λ b. h.each i a b)
-      (λ d. subst (λ (q : ℕ). Caught r n (side_of lowers) u (factor_at q)) (sym d)
-      (subst (Caught r n (side_of lowers) u) (factor-back j e) (p.caught l)));
+second-on {r} {n} {u} {lowers = lowers} {from} {j} h e p l = record {
+  each = λ i a m. below_more (λ (i : ℕ). from ≤ i → Caught r n (side_of lowers) u (factor_at i)) j (λ i b a. h.each i a b)
+      (λ a. subst (Caught r n (side_of lowers) u) (factor-back j e) (p.caught l)) i m a;
 }
 
 pub second_ended : {r : Rows} {n : ℕ} {u : ℤ} {lowers : Bool} {from to j k : ℕ} → SFits w32 u
@@ -184,10 +138,10 @@ both-begun = record { each = λ i l m j a b. absurd (omega (arith, l, m)) }
 
 pub both-on : {r : Rows} {n : ℕ} {u : ℤ} {lowers : Bool} {from to begin i k : ℕ} → BothWalked r n lowers from to begin i → u ≡ factor_at i
     → StoppedAll r n (to_z w32 (of_z w32 u)) from to lowers k → k < n → BothWalked r n lowers from to begin (i + 1)
-both-on {r} {n} {lowers = lowers} {i = i} h e p f = record {
-  each = λ k l m j a b. last_or m (λ d. h.each k l d j a b)
-      (λ d. subst (λ (q : ℕ). Caught r n (side_of lowers) (factor_at q) (factor_at j)) (sym d)
-      (subst (λ (z : ℤ). Caught r n (side_of lowers) z (factor_at j)) (factor-back i e) (p.caught f j a b)));
+both-on {r} {n} {lowers = lowers} {from} {to} {begin} {i} h e p f = record {
+  each = λ k l m.
+      below_more (λ (k : ℕ). begin ≤ k → (j : ℕ) → from ≤ j → j < to → Caught r n (side_of lowers) (factor_at k) (factor_at j)) i (λ k b a. h.each k a b)
+      (λ a j c d. subst (λ (z : ℤ). Caught r n (side_of lowers) z (factor_at j)) (factor-back i e) (p.caught f j c d)) k m l;
 }
 
 pub both-ended : {r : Rows} {n : ℕ} {lowers : Bool} {from to begin last i k : ℕ}

@@ -4,15 +4,14 @@ use mathlib.Core.Bool.{Bool, true, false, not, ◌&&◌, true≢false, false≢t
 use mathlib.Core.List.{List, [], ◌∷◌}
 use Prim.Native.Nat.{ℕ, ◌+◌, ◌<◌, ◌≤◌}
 use native.Mathlib.Omega.{arith}
-use lib.IntN.{ℤ, pos, negsuc, neg_ℤ, ◌+ℤ◌, ◌-ℤ◌, ◌*ℤ◌}
-use lib.ListN.{get_or}
+use lib.IntN.{ℤ, neg_ℤ, ◌+ℤ◌, ◌-ℤ◌, ◌*ℤ◌}
 use lib.Signed.{non_neg}
 use Rattle.rules.specs.Signs.{Sign, negative, nought, positive, SignSet, sign_of, Kind, named, kind, has, mirror_of_sign, inside, open_signs}
 use Rattle.rules.specs.Polynomial.{Polynomial, Board, monomial_sign, by_terms}
-use Rattle.rules.specs.TwoAtoms.{plus_times, non_positive, non_negative, never_positive, never_negative, try, factors, with_each}
+use Rattle.rules.specs.TwoAtoms.{plus_times, never_positive, never_negative, try, factors, with_each}
 use Rattle.whole.specs.Solver.{solve, #, neg, ◌:+◌, ◌:-◌, ◌:*◌}
-use Rattle.sign_laws.specs.Booleans.{and_intro, and_first, and_second, never_true}
-use Rattle.sign_laws.specs.Lists.{Every, every_none, every, every_append}
+use Rattle.sign_laws.specs.Booleans.{and_intro, never_true}
+use Rattle.sign_laws.specs.Lists.{Every, every_none, every_append}
 use Rattle.sign_laws.specs.Sets.{◌In◌, PartOf}
 use Rattle.sign_laws.specs.Whole.{◌∈◌, by_equal}
 use Rattle.deduction_laws.specs.FractionSets.{Side, L, U, asked}
@@ -27,7 +26,7 @@ use Rattle.masks.specs.Passes.{allowed, finding, none_found, found-own, own_alon
 use Rattle.two_atoms.specs.declared.pair.Pair.{Pair}
 use Rattle.two_atoms.specs.Tries.{factor_at, SignedOn}
 use Rattle.sieve.specs.Rows.{Rows, RowOf, Filled}
-use Rattle.sieve.specs.Tries.{bars, Caught, half_of, first_of, from_of, PassedPair}
+use Rattle.sieve.specs.Tries.{bars, half_of, first_of, from_of, PassedPair}
 use Rattle.sieve.specs.Sieve.{AnyLeft}
 
 -- ---- a row that bars a test

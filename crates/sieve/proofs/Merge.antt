@@ -6,7 +6,7 @@ use Prim.Native.Nat.{ℕ, zero, suc, ◌+◌, ◌-◌, ◌<◌, ◌≤◌}
 use native.Mathlib.Omega.{arith}
 use borrow.Author.Count.{below_more}
 use borrow.Author.Tests.{eq-eqb, ne_eqb, ltb-true, ltb-false}
-use lib.Dec.{eqb, ltb}
+use lib.Dec.{ltb}
 use lib.IntN.{ℤ, pos, one, ◌+ℤ◌, ◌*ℤ◌, +ℤ_idl, +ℤ_idr, *ℤ-one, *ℤ-zero}
 use lib.ListN.{length, get_or, set}
 use lib.Seq.{get_or-set_same, get_or-set_other}
@@ -14,15 +14,15 @@ use Rattle.rules.specs.Signs.{SignSet}
 use Rattle.rules.specs.Polynomial.{Term, Polynomial, Board, monomial_sign}
 use Rattle.rules.specs.Meaning.{value_by}
 use Rattle.sign_laws.specs.Sets.{PartOf, part-refl, in-empty}
-use Rattle.removal_laws.specs.AskedTerms.{one_at, coefficient_at}
+use Rattle.removal_laws.specs.AskedTerms.{coefficient_at}
 use Rattle.terms.specs.View.{term_at, terms_of, terms-cons, terms-nil}
 use Rattle.terms.specs.Signed.{Signed}
 use Rattle.two_atoms.specs.declared.pair.Pair.{Pair}
 use Rattle.two_atoms.specs.Tries.{PlacesOf, SignedOn}
 use Rattle.sieve.specs.declared.rows.Share.{Share}
 use Rattle.sieve.specs.declared.rows.Row.{Row}
-use Rattle.sieve.specs.Rows.{Falls, FallsOf, HeadOf, Larger, TakenAt, own, other, OneOf, first, second, third, NextRow, Rows, rows, RowOf}
-use Rattle.sieve.specs.Rows.{RowAt, Filled}
+use Rattle.sieve.specs.Rows.{Falls, FallsOf, HeadOf, Larger, TakenAt, own, other, OneOf, first, second, third, NextRow, rows, RowOf}
+use Rattle.sieve.specs.Rows.{RowAt}
 
 -- ---- the coefficient of a monomial in a run
 
@@ -126,13 +126,6 @@ module _ {cs : List ℤ} {ms : List ℕ} {ss : List SignSet} {from to i bound to
 
 pub record FallsTo (ms : List ℕ) (from to i : ℕ) : Type 0 where
   pub each : (j : ℕ) → from ≤ j → j < i → j + 1 < to → get_or ms (j + 1) 0 < get_or ms j 0
-
-pub falls-more : {ms : List ℕ} {from to i : ℕ} → FallsTo ms from to i → (i + 1 < to → get_or ms (i + 1) 0 < get_or ms i 0) → FallsTo ms from to (i + 1)
-falls-more {ms} {from} {to} {i} h f = record { each = λ j a b d. by j a b d (ltb j i) refl }
-  where
-    by : (j : ℕ) → from ≤ j → j < i + 1 → j + 1 < to → (q : Bool) → ltb j i ≡ q → get_or ms (j + 1) 0 < get_or ms j 0
-    by j a b d true e = h.each j a (ltb-true j i e) d
-    by j a b d false e = let same : j ≡ i = omega (arith, b, ltb-false j i e) in rw same (f (omega (arith, same, d)))
 
 pub falls-end : {ms : List ℕ} {from to i : ℕ} → FallsTo ms from to i → to ≤ i → Falls ms from to
 falls-end h l = record { each = λ j a d. h.each j a (omega (arith, d, l)) d }

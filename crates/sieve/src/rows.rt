@@ -32,16 +32,9 @@ pub fn falls(monomial: &[u64], run: Run) -> bool
     requires { run.to ≤ length monomial.now }
     ensures { result ≡ true → Falls monomial.now run.from run.to }
 {
-    let to = run.to;
-    let mut i = run.from;
-    while i < to {
-        let mine = monomial[i];
-        i += 1;
-        if i < to {
-            let next = monomial[i];
-            if mine <= next {
-                return false;
-            }
+    for i in run.from..run.to {
+        if i + 1 < run.to && monomial[i] <= monomial[i + 1] {
+            return false;
         }
     }
     true
@@ -58,7 +51,7 @@ fn head(monomial: &[u64], i: usize, to: usize) -> u64
 fn larger(x: u64, y: u64) -> u64
     ensures { Larger x y result }
 {
-    if x < y { y } else { x }
+    x.max(y)
 }
 
 // What the terms at i..to, of which the first is at most the greatest left, have at a monomial.
@@ -138,30 +131,25 @@ pub fn fill(
     s: &mut [u8],
 ) -> usize
     requires places_of { PlacesOf coefficient.now monomial.now sign.now pair × FallsOf monomial.now pair }
-    requires a_len { (length a.old ≡ 48) × ((length b.old ≡ 48) × ((length c.old ≡ 48) × (length s.old ≡ 48))) }
+    requires lengths { (length a.old ≡ 48) × ((length b.old ≡ 48) × ((length c.old ≡ 48) × (length s.old ≡ 48))) }
     ensures { let x = rows a.new b.new c.new s.new in
         Filled coefficient.now monomial.now sign.now pair x result }
 {
     let mut i = pair.p.from;
     let mut j = pair.q1.from;
     let mut k = pair.q2.from;
-    let mut count = 0;
-    while count < 48 {
+    for count in 0..48 {
         if i + j + k >= pair.p.to + pair.q1.to + pair.q2.to {
             return count;
         }
         let row = next_row(coefficient, monomial, sign, pair, i, j, k);
-        let x = row.a;
-        let y = row.b;
-        let z = row.c;
-        a[count] = x;
-        b[count] = y;
-        c[count] = z;
+        a[count] = row.a;
+        b[count] = row.b;
+        c[count] = row.c;
         s[count] = row.s;
         i = row.i;
         j = row.j;
         k = row.k;
-        count += 1;
     }
-    count
+    48
 }

@@ -57,15 +57,13 @@ fn may_pass(
     ensures { Stopped (rows a.now b.now c.now s.now) n u w lowers result }
 {
     let mut i = hint;
-    let mut count = 0;
-    while count < n {
+    for _ in 0..n {
         let at = wrapped(i, n);
         let x = a[at];
         let y = b[at];
         let z = c[at];
         let t = s[at];
         i = at + 1;
-        count += 1;
         if row_bars(x, y, z, t, u, w, lowers) {
             return at;
         }
@@ -90,10 +88,8 @@ fn some_second(
     ensures { StoppedAll (rows a.now b.now c.now s.now) n u from to lowers result }
 {
     let mut row = hint;
-    let mut j = from;
-    while j < to {
+    for j in from..to {
         let w = factor(j);
-        j += 1;
         row = may_pass(a, b, c, s, n, u, w, lowers, row);
         if n <= row {
             return n;
@@ -120,10 +116,8 @@ fn some_both(
     ensures { StoppedBoth (rows a.now b.now c.now s.now) n first last from to lowers result }
 {
     let mut row = hint;
-    let mut i = first;
-    while i < last {
+    for i in first..last {
         let u = factor(i);
-        i += 1;
         row = some_second(a, b, c, s, n, u, from, to, lowers, row);
         if n <= row {
             return n;
@@ -133,6 +127,7 @@ fn some_both(
 }
 
 // Whether u·q is never positive for the u above 0, or for those below, by q's set.
+#[tactic(auto, unfolding(crate::specs::Tries::half_of))]
 fn half(above: bool, set: u8) -> bool
     ensures { result ≡ half_of L above (kind set) }
 {

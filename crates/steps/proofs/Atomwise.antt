@@ -3,27 +3,27 @@ use mathlib.Core.Path.{◌≡◌, refl, sym, ◌∙◌, ap}
 use mathlib.Core.Bool.{Bool, true, false}
 use mathlib.Core.List.{List, [], ◌∷◌, ◌++◌}
 use mathlib.Core.Option.{Option, none, some}
-use Prim.Native.Nat.{ℕ, suc, ◌+◌, ◌-◌, ◌*◌, ◌/◌, ◌%◌, ◌<◌, ◌≤◌}
+use Prim.Native.Nat.{ℕ, ◌+◌, ◌-◌, ◌*◌, ◌/◌, ◌%◌, ◌<◌, ◌≤◌}
 use native.Mathlib.Numerals.{add-one}
 use native.Mathlib.Omega.{arith}
 use lib.Dec.{eqb}
 use lib.ListN.{length, take, drop, get_or, length-append}
 use lib.Seq.{drop-cons}
-use Rattle.rules.specs.Signs.{SignSet, empty, complement, intersect, inside}
-use Rattle.rules.specs.Formula.{end, atom, and, or}
+use Rattle.rules.specs.Signs.{empty, complement, intersect, inside}
+use Rattle.rules.specs.Formula.{atom}
 use Rattle.rules.specs.Level.{Formula, complemented, dual, or_parts, parts, unless_dropped, pruned_if, prune}
 use Rattle.sign_laws.specs.Sets.{intersect-below, complement-below}
-use Rattle.table.specs.Table.{Table, form_at}
+use Rattle.table.specs.Table.{Table}
 use Rattle.tape.specs.declared.rows.Row.{Row}
 use Rattle.round.specs.declared.State.{State}
 use Rattle.steps.specs.declared.sweeping.Cut.{Cut}
-use Rattle.steps.specs.declared.sweeping.Pruned.{Pruned}
 use Rattle.tape.specs.Row.{Lists}
-use Rattle.tape.specs.Token.{slot, place, atom_of, atoms_in}
+use Rattle.tape.specs.Token.{place, atom_of, atoms_in}
 use Rattle.tape.specs.Tape.{Children, ors_in}
 use Rattle.round.specs.Views.{state_of}
 use Rattle.steps.specs.Swept.{said, CutIs, unless_so, PruneIs}
-use Rattle.tape.specs.Listing.{held_at}
+use Rattle.std.proofs.lemmas.List.{drop_all}
+use Rattle.tape.specs.Listing.{part_held}
 use Rattle.tape.specs.Entering.{complement-twice, same_place}
 
 -- ---- one atom
@@ -140,12 +140,12 @@ prune-start t state all row h = record { list = []; lists = h; small = omega ari
 
 -- ---- what is left of a part of a row
 
-pub part-next : {row : Row} {l : List ℕ} (i to : ℕ) → Lists row l → i < to → to ≤ length l
-    → take (to - i) (drop i l) ≡ get_or row.token i 0 ∷ take (to - (i + 1)) (drop (i + 1) l)
-part-next {row} {l} i to h k m =
-    let z : to - i ≡ suc (to - (i + 1)) = omega arith in
-    let y : i < length l = omega arith in
-    rw (z, held_at h i y, add-one) (ap (take (suc (to - suc i))) (drop-cons l i 0 y))
+module _ {row : Row} {l : List ℕ} (from to i : ℕ) (h : Lists row l) (m : to ≤ length l) where
+  abbrev all : List ℕ
+  all = take (to - from) (drop from l)
 
-pub part-done : (l : List ℕ) (i to : ℕ) → to ≤ i → take (to - i) (drop i l) ≡ []
-part-done l i to h = let z : to - i ≡ 0 = omega arith in rw z
+  pub part-next : i < length (take (to - from) (drop from row.token)) → drop i all ≡ get_or (take (to - from) (drop from row.token)) i 0 ∷ drop (i + 1) all
+  part-next k = let e = part_held from to h m in rw (e, add-one) (drop-cons all i 0 (rw e at k))
+
+  pub part-done : length (take (to - from) (drop from row.token)) ≤ i → drop i all ≡ []
+  part-done k = drop_all i all (rw (part_held from to h m) at k)

@@ -2,12 +2,12 @@
 use mathlib.Core.Path.{◌≡◌, refl, sym, ◌∙◌, ap, ap₂}
 use mathlib.Core.Bool.{Bool, true, false}
 use mathlib.Core.List.{List, [], ◌∷◌, ◌++◌, map, append_assoc, append-nil}
-use Prim.Native.Nat.{ℕ, zero, suc, ◌+◌, ◌*◌, ◌/◌, ◌%◌, ◌<◌, ◌≤◌, max}
+use Prim.Native.Nat.{ℕ, suc, ◌+◌, ◌*◌, ◌/◌, ◌%◌, ◌≤◌, max}
 use native.Mathlib.Numerals.{add-one}
 use native.Mathlib.Omega.{arith}
-use lib.ListN.{length, get_or, drop, length-append}
+use lib.ListN.{length, get_or}
 use Rattle.rules.specs.Polynomial.{Atom}
-use Rattle.rules.specs.Rounds.{State, Outcome, run, settled, carried}
+use Rattle.rules.specs.Rounds.{run, settled, carried}
 use Rattle.rules.specs.Level.{Placed, plains, carry, remove_implied}
 use Rattle.rules.specs.Count.{run_count, removal_count}
 use Rattle.sign_laws.specs.Lists.{every_none, every}
@@ -16,9 +16,7 @@ use Rattle.terms.specs.View.{sets_of}
 use Rattle.table.specs.declared.Atoms.{Atoms}
 use Rattle.table.specs.Table.{Table, many, atoms_from, atoms_of}
 use Rattle.tape.specs.declared.rows.Row.{Row}
-use Rattle.round.specs.declared.State.{State as Left}
 use Rattle.rounds.specs.declared.Largest.{Largest}
-use Rattle.steps.specs.declared.carrying.Carrying.{Carrying}
 use Rattle.tape.specs.Row.{Lists}
 use Rattle.tape.specs.Token.{slot, place, atom_of, atoms_in}
 use Rattle.tape.specs.Entering.{same_place}

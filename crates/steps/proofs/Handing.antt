@@ -1,17 +1,15 @@
 -- The tokens of a list as the rounds take it: a number and a set for each, place by place.
-use mathlib.Core.Path.{◌≡◌, refl, sym, ◌∙◌, ap, ap₂}
-use mathlib.Core.List.{List, [], ◌∷◌}
+use mathlib.Core.Path.{◌≡◌, ◌∙◌, ap, ap₂}
+use mathlib.Core.List.{List, ◌∷◌}
 use mathlib.Core.Logic.{⊎_elim}
-use Prim.Native.Nat.{ℕ, zero, suc, ◌+◌, ◌-◌, ◌%◌, ◌<◌, ◌≤◌}
+use Prim.Native.Nat.{ℕ, zero, suc, ◌+◌, ◌%◌, ◌<◌, ◌≤◌}
 use native.Mathlib.Nat.{eq-or-lt_of_le}
-use native.Mathlib.Numerals.{add-one}
 use native.Mathlib.Omega.{arith}
-use lib.ListN.{length, drop, get_or, set, length-set}
+use lib.ListN.{length, drop, get_or, set}
 use lib.Seq.{drop-cons, get_or-set_same, get_or-set_other}
 use Rattle.rules.specs.Polynomial.{Atom}
 use Rattle.rules.specs.Level.{plain, plains}
-use Rattle.table.specs.declared.Atoms.{Atoms}
-use Rattle.table.specs.Table.{Table, form_at, many, atom_at, atoms_from, atoms_of}
+use Rattle.table.specs.Table.{Table, many, atom_at, atoms_from}
 use Rattle.tape.specs.declared.rows.Row.{Row}
 use Rattle.tape.specs.Row.{Lists}
 use Rattle.tape.specs.Token.{slot, atom_of, atoms_in}

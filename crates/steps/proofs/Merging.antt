@@ -13,10 +13,9 @@ use Rattle.rules.specs.Signs.{intersect}
 use Rattle.rules.specs.Polynomial.{same}
 use Rattle.rules.specs.Level.{Placed, with_set, merged_if, merge_into, merge, kept_if, without_full, after_merging, tidy, Tidied as Outcome, broken, tidied}
 use Rattle.sign_laws.specs.Sets.{intersect-below}
-use Rattle.table.specs.Table.{Table, form_at, Forms}
+use Rattle.table.specs.Table.{Table, Forms}
 use Rattle.tape.specs.declared.rows.Row.{Row}
-use Rattle.steps.specs.declared.tidying.Truth.{Truth}
-use Rattle.steps.specs.declared.tidying.Truth.TheVariants.{Open, True, False}
+use Rattle.std.specs.Prelude.{Option, None, Some}
 use Rattle.tape.specs.Row.{Lists}
 use Rattle.tape.specs.Token.{slot, place, atom_of, atoms_in}
 use Rattle.steps.specs.Tidied.{tidied_of, after_truth, TruthIs, Absent, Apart, MergesInto, Merges, WithoutFull, Tidies}
@@ -113,20 +112,20 @@ pub merge-end : {t : Table} {all : List ℕ} {row : Row} → Merging t all row [
 unfolding merge tidied_of
 merge-end m = record { list = m.list; lists = m.lists; is = sym m.is; apart = m.apart }
 
-module _ {t : Table} {all : List ℕ} {row : Row} {x : ℕ} {rest : List ℕ} (m : Merging t all row (x ∷ rest)) (r : Truth) (is-truth : TruthIs t x r) where
+module _ {t : Table} {all : List ℕ} {row : Row} {x : ℕ} {rest : List ℕ} (m : Merging t all row (x ∷ rest)) (r : Option Bool) (is-truth : TruthIs t x r) where
   next : merge (atoms_in t m.list) (atoms_in t (x ∷ rest)) ≡ after_truth r (merge (merge_into (atom_of t x) (atoms_in t m.list)) (atoms_in t rest)) (merge (atoms_in t m.list) (atoms_in t rest))
   unfolding merge
   next = is-truth.is (atoms_in t m.list) (λ (l : List Placed). merge l (atoms_in t rest))
 
-  pub merge-false : r ≡ False → Merges t all row true
+  pub merge-false : r ≡ Some false → Merges t all row true
   unfolding after_truth tidied_of
   merge-false e = record { list = m.list; lists = m.lists; is = sym m.is ∙ (rw e at next); apart = m.apart }
 
-  pub merge-true : r ≡ True → Merging t all row rest
+  pub merge-true : r ≡ Some true → Merging t all row rest
   unfolding after_truth
   merge-true e = record { list = m.list; lists = m.lists; is = sym (rw e at next) ∙ m.is; apart = m.apart }
 
-  pub merge-open : r ≡ Open → (longer : Row) → MergesInto t x m.list longer → Merging t all longer rest
+  pub merge-open : r ≡ None → (longer : Row) → MergesInto t x m.list longer → Merging t all longer rest
   unfolding after_truth
   merge-open e longer p = record { list = p.list; lists = p.lists; is = ap (λ (l : List Placed). merge l (atoms_in t rest)) (sym p.is) ∙ sym (rw e at next) ∙ m.is; apart = p.apart m.apart }
 

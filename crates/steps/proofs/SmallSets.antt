@@ -1,6 +1,6 @@
 -- The sets of tokens have three bits, and so a token can hold each set that its atom carries after the rounds.
 use mathlib.Core.List.{List, [], ◌∷◌}
-use Prim.Native.Nat.{ℕ, ◌%◌, ◌<◌}
+use Prim.Native.Nat.{ℕ}
 use native.Mathlib.Omega.{arith}
 use Rattle.rules.specs.Level.{plain, plains}
 use Rattle.sign_laws.specs.Lists.{every_none, every}

@@ -1,5 +1,5 @@
 -- Step 4 over tokens: an atom of a child, its atoms, a child and all children against what the list says, in the book's values.
-use Rattle.std.specs.Prelude.{◌≡◌, Bool, true, false, List, [], ◌∷◌, ◌++◌, ℕ, suc, ◌+◌, ◌%◌, ◌≤◌, eqb, length}
+use Rattle.std.specs.Prelude.{◌≡◌, Bool, true, false, List, ℕ, ◌+◌, ◌%◌, ◌≤◌, eqb, length}
 use Rattle.std.proofs.Math.Option.{Option, none, some}
 use Rattle.rules.specs.Signs.{SignSet, empty, complement, intersect, inside}
 use Rattle.rules.specs.Rounds.{says_in}

@@ -1,11 +1,9 @@
 -- Step 2 over tokens: what each of its functions leaves, in the book's values.
-use Rattle.std.specs.Prelude.{◌≡◌, Bool, true, false, List, [], ◌∷◌, ℕ, ◌%◌, ◌≤◌, eqb, length}
+use Rattle.std.specs.Prelude.{◌≡◌, Bool, true, false, Option, None, Some, List, [], ◌∷◌, ℕ, ◌≤◌, length}
 use Rattle.rules.specs.Polynomial.{constant}
 use Rattle.rules.specs.Level.{Placed, normal_placed, Tidied as Outcome, broken, tidied, merge_into, merge_normal, merge, without_full, tidy}
 use Rattle.table.specs.Table.{Table}
 use Rattle.tape.specs.declared.rows.Row.{Row}
-use Rattle.steps.specs.declared.tidying.Truth.{Truth}
-use Rattle.steps.specs.declared.tidying.Truth.TheVariants.{Open, True, False}
 use Rattle.tape.specs.Row.{Lists}
 use Rattle.tape.specs.Token.{slot, atom_of, atoms_in}
 
@@ -15,16 +13,12 @@ tidied_of false l = tidied l
 
 -- ---- A constant's atom is true or false, and step 2 goes on without it or breaks off; an open one is merged.
 
-unfoldable pub truth_if : Bool → Truth
-truth_if true = True
-truth_if false = False
+unfoldable pub after_truth : Option Bool → Outcome → Outcome → Outcome
+after_truth None merged without = merged
+after_truth (Some true) merged without = without
+after_truth (Some false) merged without = broken
 
-unfoldable pub after_truth : Truth → Outcome → Outcome → Outcome
-after_truth Open merged without = merged
-after_truth True merged without = without
-after_truth False merged without = broken
-
-pub record TruthIs (t : Table) (token : ℕ) (r : Truth) : Type 0 where
+pub record TruthIs (t : Table) (token : ℕ) (r : Option Bool) : Type 0 where
   pub is : (l : List Placed) (more : List Placed → Outcome)
       → merge_normal (constant (normal_placed (atom_of t token)).polynomial) (normal_placed (atom_of t token)) l more ≡ after_truth r (more (merge_into (atom_of t token) l)) (more l)
 

@@ -37,12 +37,8 @@ fn with_sets(list: &mut [u32], n: usize, atoms: Atoms)
     requires { (n ≤ length list.old) × (n ≤ 64) }
     ensures { (l : List ℕ) → Lists (row_of list.old n) l → Lists (row_of list.new n) (with_sets_of atoms.set 0 l) }
 {
-    let mut i = 0;
-    while i < n {
-        let token = list[i];
-        let set = atoms.set[i];
-        list[i] = with_set(token, SignSet(set));
-        i += 1;
+    for i in 0..n {
+        list[i] = with_set(list[i], SignSet(atoms.set[i]));
     }
 }
 
@@ -84,13 +80,9 @@ fn kept_of(list: &mut [u32], n: usize, kept: Remaining) -> usize
     ensures { (l : List ℕ) → Lists (row_of list.old n) l → Lists (row_of list.new result) (remaining kept.keep 0 l) }
 {
     let mut count = 0;
-    let mut i = 0;
-    while i < n {
-        let token = list[i];
-        let keeps = kept.keep[i];
-        i += 1;
-        if keeps {
-            list[count] = token;
+    for i in 0..n {
+        if kept.keep[i] {
+            list[count] = list[i];
             count += 1;
         }
     }

@@ -95,10 +95,7 @@ fn prune(
 {
     let mut left = [0u32; 256];
     let mut count = 0;
-    let mut i = from;
-    while i < to {
-        let token = row[i];
-        i += 1;
+    for &token in &row[from..to] {
         let cut = cut_atom(
             coefficient,
             monomial,
@@ -205,6 +202,7 @@ fn walk_over(
 {
     let mut walked = begin();
     let mut place = 0;
+    // kept: a step of this walk goes past a whole child
     while place < n {
         let head = ors[place];
         let atoms = atoms_of(head);

@@ -1,13 +1,12 @@
 // 01, "A level", step 2: "atoms of one polynomial become one at the first's place with the intersected set.
 // Full or true: dropped. Empty or false: the node is false." The tokens name normal forms already, so no atom is brought to one here.
 ghost use Rattle.std.specs.Prelude.{◌≡◌, true, false, List, ℕ, ◌+◌, ◌*◌, ◌/◌, ◌%◌, ◌<◌, ◌≤◌, length};
-ghost use Rattle.rules.specs.Signs.{inside};
 ghost use Rattle.rules.specs.Level.{plains};
 ghost use Rattle.table.specs.Table.{Table, Forms, atoms_of};
 ghost use Rattle.tape.specs.Row.{row_of, Lists, Ahead};
 ghost use Rattle.tape.specs.Token.{slot, atoms_in as atoms_in_of};
 ghost use Rattle.round.specs.Views.{lent_table};
-ghost use Rattle.steps.specs.Tidied.{truth_if, TruthIs, MergesInto, Merges, WithoutFull, Tidies};
+ghost use Rattle.steps.specs.Tidied.{TruthIs, MergesInto, Merges, WithoutFull, Tidies};
 
 use signs::SignSet;
 use table::Atoms;
@@ -22,47 +21,30 @@ pub struct Kept {
 }
 
 // "A constant polynomial makes its atom true or false"; every other polynomial leaves it open.
-#[derive(Clone, Copy)]
-enum Truth {
-    Open,
-    True,
-    False,
-}
-
-// An atom whose polynomial is a constant of this sign.
-fn truth_of(sign: SignSet, token: u32) -> Truth
-    ensures { result ≡ truth_if (inside sign.0 (token % 8)) }
-{
-    if sign.inside(set_of(token)) {
-        return Truth::True;
-    }
-    Truth::False
-}
-
 fn if_constant(
     coefficient: &[i32],
     monomial: &[u64],
     terms: &[u8],
     variables: usize,
     token: u32,
-) -> Truth
+) -> Option<bool>
     requires { Forms (lent_table coefficient monomial terms variables) }
     ensures { let t = lent_table coefficient.entry monomial.entry terms.entry variables in TruthIs t token result }
 {
     let number = slot_of(token);
     let count = terms[number];
     if 1 < count {
-        return Truth::Open;
+        return None;
     }
     if count == 0 {
-        return truth_of(SignSet(2), token);
+        return Some(SignSet(2).inside(set_of(token)));
     }
     let exponents = monomial[16 * number];
     if exponents == 0 {
         let c = coefficient[16 * number];
-        return truth_of(sign_of(c), token);
+        return Some(sign_of(c).inside(set_of(token)));
     }
-    Truth::Open
+    None
 }
 
 // An atom into the front of a list, which has each polynomial once. Past the next place nothing changes.
@@ -71,15 +53,13 @@ fn merge_into(list: &mut [u32], count: usize, token: u32) -> usize
     ensures { (result ≤ count + 1) × (Ahead list.new list.old (count + 1) × ((t : Table) (l : List ℕ) → Forms t → Lists (row_of list.old count) l → MergesInto t token l (row_of list.new result))) }
 {
     let number = slot_of(token);
-    let mut i = 0;
-    while i < count {
+    for i in 0..count {
         let other = list[i];
         if slot_of(other) == number {
             let set = set_of(other).intersect(set_of(token));
             list[i] = with_set(other, set);
             return count;
         }
-        i += 1;
     }
     list[count] = token;
     count + 1
@@ -97,17 +77,14 @@ fn merge(
     ensures { let t = lent_table coefficient.entry monomial.entry terms.entry variables in (result.count ≤ n) × ((l : List ℕ) → Lists (row_of list.old n) l → Merges t l (row_of list.new result.count) result.broken) }
 {
     let mut count = 0;
-    let mut i = 0;
-    while i < n {
+    for i in 0..n {
         let token = list[i];
-        i += 1;
-        let constant = if_constant(coefficient, monomial, terms, variables, token);
-        match constant {
-            Truth::Open => {
+        match if_constant(coefficient, monomial, terms, variables, token) {
+            None => {
                 count = merge_into(list, count, token);
             }
-            Truth::True => {}
-            Truth::False => {
+            Some(true) => {}
+            Some(false) => {
                 return Kept {
                     count: count,
                     broken: true,
@@ -126,10 +103,8 @@ fn without_full(list: &mut [u32], n: usize) -> Kept
     ensures { (t : Table) (l : List ℕ) → Lists (row_of list.old n) l → WithoutFull t l (row_of list.new result.count) result.broken }
 {
     let mut count = 0;
-    let mut i = 0;
-    while i < n {
+    for i in 0..n {
         let token = list[i];
-        i += 1;
         let set = set_of(token);
         if set.0 == SignSet::EMPTY.0 {
             return Kept {
@@ -179,12 +154,10 @@ pub fn atoms_in(list: &[u32], n: usize) -> Atoms
         number: [0; 64],
         set: [0; 64],
     };
-    let mut i = 0;
-    while i < n {
+    for i in 0..n {
         let token = list[i];
         atoms.number[i] = (token / 8 % 64) as u8;
         atoms.set[i] = (token % 8) as u8;
-        i += 1;
     }
     atoms
 }

@@ -3,11 +3,11 @@ use Rattle.std.specs.Prelude.{◌≡◌, Bool, not, ℕ, zero, suc, ◌+◌, ◌
 use Rattle.std.proofs.Math.Path.{refl, sym, ap}
 use Rattle.std.proofs.Common.{◌∙◌, ap₂, subst, arith, take_at, drop_at, take_all, drop-drop}
 use Rattle.std.proofs.Math.Bool.{true, false}
-use mathlib.Core.List.{List, [], ◌∷◌, ◌++◌, map, append_assoc, append-nil}
+use mathlib.Core.List.{List, [], ◌∷◌, ◌++◌, map, append-nil}
 use Rattle.std.proofs.Math.ListN.{length, length-append}
 use Rattle.rules.specs.Signs.{Sign, negative, nought, positive, SignSet, has, set_of, complement}
-use Rattle.rules.specs.Formula.{end, atom, and, or, is_end}
-use Rattle.rules.specs.Level.{Placed, Formula, complemented, dual, atoms_of, ors_of, or_parts, parts, Entry, fails, joins, stays, joins_if, enter, Walk, falls, still, moved}
+use Rattle.rules.specs.Formula.{atom, or, is_end}
+use Rattle.rules.specs.Level.{Placed, Formula, complemented, dual, atoms_of, ors_of, or_parts, parts, Entry, fails, joins, stays, joins_if, enter, Walk, falls, still}
 use Rattle.sign_laws.specs.Booleans.{not-not}
 use Rattle.sign_laws.specs.Sets.{set_of-has, has-complement, complement-below}
 use Rattle.table.specs.Table.{Table}
@@ -17,7 +17,7 @@ use Rattle.tape.specs.declared.walks.Walked.{Walked}
 use Rattle.tape.specs.Row.{Lists}
 use Rattle.tape.specs.Token.{place, atom_of, atoms_in, opposite}
 use Rattle.tape.specs.Tape.{Children, none, child, laid, also, ors_in}
-use Rattle.tape.specs.Walked.{Shows, walk_of, Stands, afterwards, Goes, one_if, room, load, size_of}
+use Rattle.tape.specs.Walked.{Shows, walk_of, Stands, afterwards, Goes, one_if, size_of}
 use Rattle.tape.specs.Listing.{held_at, laid-also, laid-child}
 
 pub map-append : {A B : Type 0} (f : A → B) (l m : List A) → map f (l ++ m) ≡ map f l ++ map f m

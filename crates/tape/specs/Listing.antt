@@ -1,6 +1,9 @@
 -- What rows hold: one token more, the rest from a place on, a part of another row, and a child with its atoms and its own children.
 use Rattle.std.specs.Prelude.{◌≡◌, refl, List, [], ◌∷◌, ◌++◌, ℕ, zero, suc, ◌+◌, ◌-◌, ◌*◌, ◌<◌, ◌≤◌, length, take, drop, get_or, set}
 use Rattle.std.proofs.Common.{sym, ◌∙◌, ap, append_assoc, append-nil, add-one, arith, length-drop, length-append, get_or-drop, get_or-take, take-suc, take-suc-set, drop-cons}
+use Rattle.std.proofs.lemmas.List.{take-append-drop, take-append-le, length-take-le}
+use Rattle.std.proofs.lemmas.Slice.{between_is, take-put_mid}
+use borrow.Rule.Slice.PartMut.{put_mid}
 use Rattle.std.proofs.Math.Seq.{take-length, drop-nil}
 use Rattle.tape.specs.declared.rows.Row.{Row}
 use Rattle.tape.specs.Row.{Lists}
@@ -40,7 +43,7 @@ rest-none (x ∷ l) (suc i) h = rest-none l i (omega arith)
 pub whole : (l : List ℕ) (n : ℕ) → n ≡ length l → take (n - 0) (drop 0 l) ≡ l
 whole l n e = let z : n - 0 ≡ length l = omega arith in rw (z, take-length l)
 
--- ---- a part of another row, token by token
+-- ---- a part of another row
 
 pub part-more : (l m : List ℕ) (from i : ℕ) → from ≤ i → i < length m
     → (l ++ take (i - from) (drop from m)) ++ (get_or m i 0 ∷ []) ≡ l ++ take (i + 1 - from) (drop from m)
@@ -58,6 +61,26 @@ part-start {l} m from w = let e : from - from ≡ 0 = omega arith in rw (e, appe
 pub part-turn : {row other : Row} (l : List ℕ) {m : List ℕ} (from i : ℕ) → Lists other m → from ≤ i → i < length m
     → Lists row ((l ++ take (i - from) (drop from m)) ++ (get_or other.token i 0 ∷ [])) → Lists row (l ++ take (i + 1 - from) (drop from m))
 part-turn l {m} from i q h k w = rw (held_at q i k, part-more l m from i h k) at w
+
+-- a row that holds a list has the parts of the list
+pub part_held : {other : Row} {m : List ℕ} (from to : ℕ) → Lists other m → to ≤ length m → take (to - from) (drop from other.token) ≡ take (to - from) (drop from m)
+part_held {other} {m} from to q h =
+    let front : take to other.token ≡ take to m =
+    ap (take to) (sym (take-append-drop other.count other.token))
+    ∙ take-append-le to (take other.count other.token) (drop other.count other.token) (omega (arith, ap length q.is)) ∙ ap (take to) q.is in
+    between_is other.token from to ∙ ap (drop from) front ∙ sym (between_is m from to)
+
+-- the part of another row, written after what a row holds
+pub part-laid : {row other longer : Row} {l m : List ℕ} (from to k : ℕ) → from ≤ to → row.count ≤ length row.token → Lists row l → Lists other m → to ≤ length m
+    → longer.token ≡ put_mid row.count k row.token (take (to - from) (drop from other.token)) → longer.count ≡ row.count + (to - from)
+    → Lists longer (l ++ take (to - from) (drop from m))
+part-laid {row} {other} {longer} {l} {m} from to k h room w q there stored more =
+    let part = take (to - from) (drop from m) in
+    let size : length part ≡ to - from = length-take-le (to - from) (drop from m) (omega (arith, length-drop from m)) in
+    record {
+      is = rw (stored, more, part_held from to q there, take-put_mid row.count k row.token part (row.count + (to - from)) (omega (arith, size)) room) (ap (λ (x : List ℕ). x ++ part) w.is);
+      size = omega (arith, length-append l part, w.size, size);
+    }
 
 -- ---- a child in a row of children
 

@@ -38,13 +38,7 @@ pub fn lay(out: &mut [u32], n: usize, tokens: &[u32], from: usize, to: usize)
     requires { (from ≤ to) × ((to ≤ length tokens.now) × (n + to ≤ length out.old + from)) }
     ensures { (k : ℕ) (l m : List ℕ) → Lists (row_of out.old n) l → Lists (row_of tokens.now k) m → to ≤ length m → Lists (row_of out.new (n + (to - from))) (l ++ take (to - from) (drop from m)) }
 {
-    let mut place = n;
-    let mut i = from;
-    while i < to {
-        out[place] = tokens[i];
-        place += 1;
-        i += 1;
-    }
+    out[n..n + (to - from)].copy_from_slice(&tokens[from..to]);
 }
 
 // The tokens of another row from one place up to another.

@@ -1,6 +1,6 @@
 -- Words over the variables of a board, one bit for each: the operations on words are those on the tests, one variable at a time.
 -- So what is asked of two masks is whether some variable passes one test and not the other, or both, or whether an odd number do.
-use Rattle.std.specs.Prelude.{◌≡◌, Bool, true, false, not, ◌&&◌, ◌||◌, ℕ, suc, ◌+◌, ◌*◌, ◌-◌, ◌%◌, ◌^◌, ◌<◌, eqb}
+use Rattle.std.specs.Prelude.{◌≡◌, Bool, true, false, not, ◌&&◌, ◌||◌, ℕ, suc, ◌+◌, ◌*◌, ◌%◌, ◌^◌, ◌<◌, eqb}
 use Rattle.std.proofs.Math.Path.{refl, ap₂}
 use Rattle.std.proofs.Common.{ap, ◌∙◌, zero-add, eq-eqb, ne_eqb, eqb-true}
 use mathlib.Core.List.{[], ◌∷◌}

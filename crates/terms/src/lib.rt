@@ -41,11 +41,8 @@ pub fn sign_by(masks: Masks, monomial: &[u64], sign: &mut [u8], from: usize, to:
     requires { (to ≤ length monomial.now) × (to ≤ length sign.old) }
     ensures { (board : BookBoard) → MasksOf board masks → sign.new ≡ signed board monomial.now sign.old from to }
 {
-    let mut i = from;
-    while i < to {
-        let s = masks.sign(monomial[i]);
-        sign[i] = s.0;
-        i += 1;
+    for i in from..to {
+        sign[i] = masks.sign(monomial[i]).0;
     }
 }
 
@@ -76,12 +73,9 @@ pub fn by_terms(coefficient: &[i32], sign: &[u8], from: usize, to: usize) -> Sig
     ensures { result.0 ≡ by_signs coefficient.now sign.now from to }
 {
     let mut sofar = SignSet(2);
-    let mut i = from;
-    while i < to {
+    for i in from..to {
         let c = coefficient[i];
-        let s = sign[i];
-        i += 1;
-        sofar = sofar.sum(sign_of(c).product(SignSet(s)));
+        sofar = sofar.sum(sign_of(c).product(SignSet(sign[i])));
     }
     sofar
 }

@@ -19,7 +19,7 @@ pub struct Masks {
     pub positive: u64,
 }
 
-// The masks of a board: variable i has the set at place i - 1, which has three bits, "in that order": negative, zero, positive.
+// The masks of a board: each variable has the set at its place, the first at 0, which has three bits, "in that order": negative, zero, positive.
 pub fn masks_of(b: Board) -> Masks
     ensures { MasksOf (sets_of b) result }
 {
@@ -28,10 +28,8 @@ pub fn masks_of(b: Board) -> Masks
     let mut negative = 0;
     let mut zero = 0;
     let mut positive = 0;
-    let mut i = 0;
-    while i < n {
-        i += 1;
-        let set = b.sets[i - 1];
+    for i in 0..n {
+        let set = b.sets[i];
         all = 16 * all + 1;
         negative = 16 * negative + (set / 4 % 2) as u64;
         zero = 16 * zero + (set / 2 % 2) as u64;

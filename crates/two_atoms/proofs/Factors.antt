@@ -136,7 +136,7 @@ from_on : {a b c : SignSet} → CutFrom a b → CutFrom b c → CutFrom a c
 from_on f g = record { part = part-trans g.part f.part; low = λ l. g.low (f.low l) }
 
 -- a set that stays as it is ends no tries
-never-stops : (all : Bool) (s : SignSet) → stops all s s ≡ false
+pub never-stops : (all : Bool) (s : SignSet) → stops all s s ≡ false
 unfolding stops
 never-stops all s = rw (eq-eqb s s refl) (and-false (not all))
 

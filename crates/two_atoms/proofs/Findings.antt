@@ -1,6 +1,6 @@
 -- What one try finds, by the code's tests.
-use mathlib.Core.Path.{◌≡◌, refl, sym, ap₂}
-use mathlib.Core.Bool.{Bool, true, false, ◌||◌, true≢false}
+use mathlib.Core.Path.{◌≡◌, refl}
+use mathlib.Core.Bool.{true, false, true≢false}
 use mathlib.Core.List.{[], ◌∷◌}
 use mathlib.Core.Logic.{inl, inr}
 use Prim.Native.Nat.{ℕ, suc}
@@ -10,9 +10,8 @@ use borrow.Author.Tests.{ltb-true, lt-leb}
 use lib.Dec.{leb}
 use lib.IntN.{ℤ, pos, negsuc}
 use lib.Signed.{lt_z, non_neg}
-use Rattle.rules.specs.Signs.{SignSet, Kind, kind, intersect, inside}
-use Rattle.rules.specs.Deduce.{found}
-use Rattle.rules.specs.TwoAtoms.{non_positive, non_negative, never_positive, never_negative, pair_found, pair_mirrored, tried, cut_by_all}
+use Rattle.rules.specs.Signs.{Kind, kind}
+use Rattle.rules.specs.TwoAtoms.{non_positive, non_negative, never_positive, never_negative}
 use Rattle.interval.specs.Kinds.{by-kind}
 
 -- <, ≤ and = are never positive, and no other
@@ -64,36 +63,3 @@ module _ (u : ℤ) (k : Kind) where
   pub negative-from : lt_z u (pos 0) ≡ false → non_negative k ≡ never_negative u k
   unfolding never_negative
   negative-from e = rw (from-zero u e)
-
--- the test of a set by terms
-module _ (t : SignSet) (strict : Bool) where
-  pub found-strictly : inside t 3 ≡ true → inside t 1 || strict ≡ true → 1 ≡ pair_found t strict
-  unfolding pair_found found
-  found-strictly e f = rw (e, f)
-
-  pub found-weakly : inside t 3 ≡ true → inside t 1 || strict ≡ false → 3 ≡ pair_found t strict
-  unfolding pair_found found
-  found-weakly e f = rw (e, f)
-
-  pub not_found : inside t 3 ≡ false → 7 ≡ pair_found t strict
-  unfolding pair_found found
-  not_found e = rw e
-
--- a set cut by the tests
-module _ (s t : SignSet) (strict : Bool) {below above : Bool} where
-  pub both-tests : below ≡ true → above ≡ true → intersect s (intersect (pair_found t strict) (pair_mirrored t strict))
-      ≡ cut_by_all s (tried below above t strict)
-  unfolding cut_by_all tried
-  both-tests e f = sym (ap₂ (λ (a b : Bool). cut_by_all s (tried a b t strict)) e f)
-
-  pub first-test : below ≡ true → above ≡ false → intersect s (pair_found t strict) ≡ cut_by_all s (tried below above t strict)
-  unfolding cut_by_all tried
-  first-test e f = sym (ap₂ (λ (a b : Bool). cut_by_all s (tried a b t strict)) e f)
-
-  pub second-test : below ≡ false → above ≡ true → intersect s (pair_mirrored t strict) ≡ cut_by_all s (tried below above t strict)
-  unfolding cut_by_all tried
-  second-test e f = sym (ap₂ (λ (a b : Bool). cut_by_all s (tried a b t strict)) e f)
-
-  pub no_test : below ≡ false → above ≡ false → s ≡ cut_by_all s (tried below above t strict)
-  unfolding cut_by_all tried
-  no_test e f = sym (ap₂ (λ (a b : Bool). cut_by_all s (tried a b t strict)) e f)

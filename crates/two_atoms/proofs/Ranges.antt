@@ -1,10 +1,8 @@
 -- A range of indices is narrowed: at its ends the monomial at hand fails, and with it the set by terms.
 use mathlib.Core.Path.{◌≡◌, refl, sym}
 use mathlib.Core.Bool.{Bool, true, false, false≢true}
-use Prim.Native.Nat.{ℕ, zero, suc, ◌+◌, ◌-◌, ◌<◌, ◌≤◌}
+use Prim.Native.Nat.{ℕ, zero, suc, ◌-◌, ◌<◌}
 use native.Mathlib.Omega.{arith}
-use borrow.Author.Tests.{ltb-true, ltb-false}
-use lib.Dec.{ltb}
 use lib.IntN.{ℤ, ◌-ℤ◌, ◌*ℤ◌}
 use mir.Syntax.{w32, w64}
 use mir.Val.{SFits, to_z, of_z}
@@ -14,7 +12,7 @@ use Rattle.sign_laws.specs.Sets.{◌In◌, set_of-small, in_all}
 use Rattle.removal_laws.specs.Terms.{Signed as HasSign}
 use Rattle.interval.specs.Coefficients.{back}
 use Rattle.two_atoms.specs.Tries.{factor_at}
-use Rattle.two_atoms.specs.Ranges.{asked_in, barred, added_at, Raised, Lowered}
+use Rattle.two_atoms.specs.Ranges.{asked_in, barred}
 use Rattle.two_atoms.proofs.Totals.{Outer, below, above, stays-first}
 use Rattle.two_atoms.proofs.Factors.{factor-back}
 
@@ -24,29 +22,6 @@ use Rattle.two_atoms.proofs.Factors.{factor-back}
 pub value-at : {x b z : ℤ} (i : ℕ) {r : SignSet} → SFits w64 x → SFits w32 b → z ≡ factor_at (7 - i)
     → r ≡ only (sign_of (to_z w64 (of_z w64 x) -ℤ to_z w32 (of_z w32 z) *ℤ to_z w32 (of_z w32 b))) → r ≡ only (sign_of (x -ℤ factor_at (7 - i) *ℤ b))
 value-at {x} i f g e h = rw (to_z-of_z w64 x f, back g, factor-back (7 - i) e) at h
-
--- below or at an index
-apart : {X : Type 0} {i j : ℕ} → i ≤ j → (i < j → X) → (i ≡ j → X) → X
-apart {X} {i} {j} h f g = by (ltb i j) refl
-  where
-    by : (b : Bool) → ltb i j ≡ b → X
-    by true e = f (ltb-true i j e)
-    by false e = g (omega (arith, ltb-false i j e))
-
-module _ {x b : ℤ} {s asked : SignSet} {from to i : ℕ} where
-  pub raise-on : Raised x b s asked from to i → i < to → inside (added_at x b s i) asked ≡ false → Raised x b s asked from to (i + 1)
-  raise-on h l e = record {
-    ordered = omega arith;
-    within = omega arith;
-    fails = λ j f g. apart {i = j} {j = i} (omega arith) (h.fails j f) (λ k. rw k e);
-  }
-
-  pub lower-on : Lowered x b s asked from to i → from < i → inside (added_at x b s (i - 1)) asked ≡ false → Lowered x b s asked from to (i - 1)
-  lower-on h l e = record {
-    ordered = omega arith;
-    within = omega arith;
-    fails = λ j f g. apart {i = i - 1} {j = j} f (λ k. h.fails j (omega arith) g) (λ k. rw (sym k) e);
-  }
 
 -- ---- what a monomial that fails makes of the set by terms
 

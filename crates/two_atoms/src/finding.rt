@@ -9,16 +9,13 @@ use signs::SignSet;
 pub fn non_positive(set: u8) -> bool
     ensures { result ≡ non_positive_of (kind set) }
 {
-    match set {
-        2 | 4 | 6 => true,
-        _ => false,
-    }
+    matches!(set, 2 | 4 | 6)
 }
 
 pub fn non_negative(set: u8) -> bool
     ensures { result ≡ non_negative_of (kind set) }
 {
-    if set == 0 { false } else { set <= 3 }
+    set != 0 && set <= 3
 }
 
 // Whether u·q is never positive, and never negative, by q's set.
@@ -45,13 +42,13 @@ pub fn never_negative(u: i32, set: u8) -> bool
 pub fn both(a: bool, b: bool) -> bool
     ensures { result ≡ (a && b) }
 {
-    if a { b } else { false }
+    a && b
 }
 
 pub fn either(a: bool, b: bool) -> bool
     ensures { result ≡ (a || b) }
 {
-    if a { true } else { b }
+    a || b
 }
 
 // Whether a set allows a test with any factor.
@@ -62,6 +59,7 @@ pub fn one_sided(set: u8) -> bool
 }
 
 // "If the set by terms lies inside ≥, then p ≥ 0; and p > 0 if that set is > or if q1's or q2's set is < or >."
+#[tactic(auto, unfolding(rules::specs::TwoAtoms::pair_found, rules::specs::Deduce::found))]
 pub fn found(total: SignSet, strict: bool) -> SignSet
     ensures { result.0 ≡ pair_found total.0 strict }
 {
@@ -75,6 +73,7 @@ pub fn found(total: SignSet, strict: bool) -> SignSet
 }
 
 // "The mirrored test gives ≤ and <."
+#[tactic(auto, unfolding(rules::specs::TwoAtoms::pair_mirrored))]
 pub fn mirrored(total: SignSet, strict: bool) -> SignSet
     ensures { result.0 ≡ pair_mirrored total.0 strict }
 {
@@ -82,6 +81,7 @@ pub fn mirrored(total: SignSet, strict: bool) -> SignSet
 }
 
 // A set, cut by the findings of the tests that the factors allow.
+#[tactic(auto, unfolding(rules::specs::TwoAtoms::cut_by_all, rules::specs::TwoAtoms::tried))]
 pub fn cut_by_tests(set: SignSet, below: bool, above: bool, total: SignSet, strict: bool) -> SignSet
     ensures { result.0 ≡ cut_by_all set.0 (tried below above total.0 strict) }
 {

@@ -39,6 +39,7 @@ pub fn factor(i: usize) -> i32
 }
 
 // Whether the tries end here: at the first that changes the set, unless all are asked for.
+#[tactic(auto, unfolding(crate::specs::Cuts::stops))]
 pub fn stops(all: bool, cut: u8, set: u8) -> bool
     ensures { result ≡ stops_at all cut set }
 {
@@ -120,10 +121,8 @@ pub fn cut_by_v(
         return set;
     }
     let mut sofar = set;
-    let mut i = 0;
-    while i < 8 {
+    for i in 0..8 {
         let cut = cut_at(coefficient, monomial, sign, pair, u, i, below, above, sofar);
-        i += 1;
         if stops(all, cut.0, sofar.0) {
             return cut;
         }
@@ -145,10 +144,8 @@ pub fn cut_by_u(
     ensures { CutByPair coefficient.now monomial.now sign.now pair all set.0 result.0 }
 {
     let mut sofar = set;
-    let mut i = 0;
-    while i < 8 {
+    for i in 0..8 {
         let u = factor(i);
-        i += 1;
         let cut = cut_by_v(coefficient, monomial, sign, pair, u, all, sofar);
         if stops(all, cut.0, sofar.0) {
             return cut;

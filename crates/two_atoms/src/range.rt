@@ -18,6 +18,7 @@ pub struct Range {
 }
 
 // The set that a test asks for: ≥, or ≤ if it is the mirrored one.
+#[tactic(auto, unfolding(crate::specs::Ranges::asked_in))]
 pub fn asked(mirrored: bool) -> SignSet
     ensures { result.0 ≡ asked_in mirrored }
 {
@@ -38,38 +39,31 @@ pub fn raised(x: i64, b: i32, s: u8, from: usize, to: usize, asked: SignSet) -> 
     requires { (from ≤ to) × (to ≤ 8) }
     ensures { Raised x b s asked.0 from to result }
 {
-    let mut i = from;
-    while i < to {
+    for i in from..to {
         if passes(x, b, s, i, asked) {
             return i;
         }
-        i += 1;
     }
-    i
+    to
 }
 
 pub fn lowered(x: i64, b: i32, s: u8, from: usize, to: usize, asked: SignSet) -> usize
     requires { (from ≤ to) × (to ≤ 8) }
     ensures { Lowered x b s asked.0 from to result }
 {
-    let mut i = to;
-    while from < i {
-        if passes(x, b, s, i - 1, asked) {
-            return i;
+    for i in (from..to).rev() {
+        if passes(x, b, s, i, asked) {
+            return i + 1;
         }
-        i -= 1;
     }
-    i
+    from
 }
 
 // Whether an index is in the range, and whether none is.
 pub fn within(range: Range, i: usize) -> bool
     ensures { result ≡ false → Outside range.from range.to i }
 {
-    if i < range.from {
-        return false;
-    }
-    i < range.to
+    range.from <= i && i < range.to
 }
 
 pub fn is_empty(range: Range) -> bool
@@ -149,6 +143,7 @@ pub fn allowed(set1: u8, set2: u8, u: i32, mirrored: bool) -> Range
 }
 
 // Whether no finding of the test cuts the set.
+#[tactic(auto, unfolding(crate::specs::Ranges::uncut_in))]
 pub fn uncut(set: SignSet, mirrored: bool) -> bool
     ensures { result ≡ inside set.0 (uncut_in mirrored) }
 {

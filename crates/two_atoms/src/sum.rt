@@ -17,6 +17,7 @@ pub struct Row {
 }
 
 // The first term of p + u·q, if there is one, and where the terms of p and q after it begin.
+// kept: `first` is public and gives it; a flag beside the term is not made an Option, since its contract names the parts.
 #[derive(Clone, Copy)]
 pub struct Lead {
     pub there: bool,

@@ -42,8 +42,8 @@ pub fn next_step(
     o: usize,
     u: i32,
 ) -> Step
-    requires places { Places coefficient.now monomial.now sign.now i m × Places coefficient.now monomial.now sign.now j n }
-    requires places_2 { Places coefficient.now monomial.now sign.now k o × (i + j + k < m + n + o) }
+    requires p_and_q1 { Places coefficient.now monomial.now sign.now i m × Places coefficient.now monomial.now sign.now j n }
+    requires q2_and_left { Places coefficient.now monomial.now sign.now k o × (i + j + k < m + n + o) }
     ensures { Stepped coefficient.now monomial.now sign.now i m j n k o u result }
 {
     let lead = first(coefficient, monomial, sign, i, m, j, n, u);
@@ -113,9 +113,9 @@ pub fn total(
     u: i32,
     w: i32,
 ) -> SignSet
-    requires places { Places coefficient.now monomial.now sign.now p.from p.to
+    requires p_and_q1 { Places coefficient.now monomial.now sign.now p.from p.to
         × Places coefficient.now monomial.now sign.now q1.from q1.to }
-    requires places_2 { Places coefficient.now monomial.now sign.now q2.from q2.to }
+    requires q2_places { Places coefficient.now monomial.now sign.now q2.from q2.to }
     ensures { Total coefficient.now monomial.now sign.now p q1 q2 u w result.0 }
 {
     let m = p.to;

@@ -1,14 +1,16 @@
--- Copies: a run of places, the forms of a list of slots, the tokens of a tape. Each is walked one place at a time; what is left, copied
+-- Copies: a run of places, the forms of a list of slots, the tokens of a tape. The last two are walked one place at a time; what is left, copied
 -- from the arrays as they stand, stays what was asked.
 use mathlib.Core.Path.{◌≡◌, refl, sym, ap, ◌∙◌}
-use mathlib.Core.List.{List, [], ◌∷◌, map}
+use mathlib.Core.List.{List, [], ◌∷◌, ◌++◌, map, append_assoc}
 use Prim.Native.Nat.{ℕ, zero, suc, ◌+◌, ◌-◌, ◌*◌, ◌<◌, ◌≤◌}
-use native.Mathlib.Nat.{add-zero}
 use native.Mathlib.Numerals.{add-one}
 use native.Mathlib.Omega.{arith}
 use lib.IntN.{ℤ, pos}
 use lib.ListN.{length, get_or, set, take, drop, length-set}
-use lib.Seq.{sets, slice, drop-cons, length-sets}
+use borrow.Rule.Slice.PartMut.{put_mid}
+use lib.Seq.{sets, sets-eq, slice, drop-cons, length-sets}
+use Rattle.std.proofs.lemmas.List.Edits.{paste_all}
+use Rattle.std.proofs.lemmas.Slice.{put_mid-paste}
 use Rattle.rules.specs.Polynomial.{Term, Polynomial}
 use Rattle.terms.specs.View.{numbers_from, numbers-cons, numbers-nil, terms_from}
 use Rattle.table.specs.Table.{Table, form_at}
@@ -19,37 +21,11 @@ use Rattle.used.proofs.Slots.{tape-next, tape-end}
 
 -- ---- A run of places.
 
--- What is left of the run at place i, copied.
-abbrev run_left : {A : Type 0} → List A → ℕ → ℕ → ℕ → List A → ℕ → List A
-run_left source from to count target i = sets target (to + i) (take (count - i) (drop (from + i) source))
-
--- It is what was to be copied.
-pub record Running {A : Type 0} (source : List A) (from to count : ℕ) (target target' : List A) (i : ℕ) : Type 0 where
-  pub size : length target' ≡ length target
-  pub left : run_left source from to count target' i ≡ sets target to (take count (drop from source))
-
-pub run-starts : {A : Type 0} (source : List A) (from to count : ℕ) (target : List A) → Running source from to count target target 0
-run-starts source from to count target = let e : count - 0 ≡ count = omega arith in record { size = refl; left = rw (add-zero to, add-zero from, e) }
-
-module _ {A : Type 0} {source : List A} {from to count : ℕ} {target target' : List A} {i : ℕ} (sofar : Running source from to count target target' i) where
-  -- The next place is copied.
-  pub run-next : (d : A) {x : A} → x ≡ get_or source (from + i) d → i < count → from + count ≤ length source
-      → Running source from to count target (set target' (to + i) x) (i + 1)
-  run-next d {x} e h long =
-      let one : count - i ≡ suc (count - (i + 1)) = omega arith in
-      let there : from + i < length source = omega arith in
-      let on : from + (i + 1) ≡ suc (from + i) = omega arith in
-      let onward : to + (i + 1) ≡ suc (to + i) = omega arith in
-      let step : run_left source from to count target' i ≡ run_left source from to count (set target' (to + i) x) (i + 1) =
-      rw (e, one, drop-cons source (from + i) d there, on, onward) in
-      record { size = length-set target' (to + i) x ∙ sofar.size; left = sym step ∙ sofar.left }
-
-  -- All of it is copied.
-  pub run_ends : count ≤ i → target' ≡ sets target to (take count (drop from source))
-  run_ends h =
-      let none : count - i ≡ 0 = omega arith in
-      let step : run_left source from to count target' i ≡ target' = rw none in
-      sym step ∙ sofar.left
+-- A part of a list that is written anew holds the new values one after the other.
+pub run-stored : {A : Type 0} (target run : List A) (to k : ℕ) → to + k ≤ length target → length run ≡ k → put_mid to k target run ≡ sets target to run
+run-stored target run to k h e =
+    let whole : sets target to run ≡ (take to target ++ run) ++ drop (to + k) target = rw (← e) (sets-eq run target to (omega arith)) in
+    put_mid-paste to k target run run k refl refl (sym e) ∙ paste_all target to run k (sym e) ∙ sym (whole ∙ append_assoc (take to target) run (drop (to + k) target))
 
 -- ---- The forms of a list of slots.
 

@@ -1,7 +1,7 @@
 -- The slots that a tape names, token by token and in the tokens of a tree, and how many atoms these are.
 -- The functions walk the tape; these laws carry what they find to the tree that it holds.
-use mathlib.Core.Path.{◌≡◌, refl, ap, ◌∙◌}
-use mathlib.Core.Bool.{Bool, true, false}
+use mathlib.Core.Path.{◌≡◌, refl, sym, ap, ◌∙◌}
+use mathlib.Core.Bool.{Bool, true, false, cond}
 use mathlib.Core.List.{List, [], ◌∷◌, ◌++◌}
 use Prim.Native.Nat.{ℕ, ◌+◌, ◌*◌, ◌/◌, ◌<◌, ◌≤◌}
 use native.Mathlib.Numerals.{add-one}
@@ -10,6 +10,9 @@ use lib.Dec.{ltb}
 use lib.ListN.{length, get_or, take, length-append, length-take}
 use lib.Seq.{slice, slice-cons, slice_empty, get_or-take}
 use borrow.Author.Tests.{lt-ltb, le-ltb}
+use Rattle.std.specs.List.{count_by}
+use Rattle.std.proofs.lemmas.List.{length-take-le}
+use Rattle.std.proofs.lemmas.List.Recursion.{is_count_by}
 use Rattle.rules.specs.Formula.{Parts, end, atom, and, or, Node, alone, atoms, children}
 use Rattle.rules.specs.Block.{NumberedAtom}
 use Rattle.sign_laws.specs.Lists.{Every, every_none, every, every_append, every-get_d}
@@ -114,43 +117,27 @@ tape-fits {token} {count} {tree} h = record {
 
 -- ---- Counting the atoms of a tape.
 
--- Of the tape's first tokens, i of them, so many are atoms'.
-pub record Counting (token : List ℕ) (count found i : ℕ) : Type 0 where
-  pub within : i ≤ count
-  pub few : found ≤ i
-  pub rest : found + length (slots_of (slice i count token)) ≡ length (slots_of (take count token))
+-- The tokens below 2 ^ 24 are as many as the slots that a tape names.
+few-counted : (tape : List ℕ) → count_by (λ token. ltb token 16777216) tape ≡ length (slots_of tape)
+unfolding slots_of slot_if
+few-counted tape = sym (is_count_by (λ (l : List ℕ). length (slots_of l)) (λ token. ltb token 16777216) refl (λ token later. by-test (ltb token 16777216) (token / 8) (slots_of later)) tape)
+  where
+    by-test : (b : Bool) (slot : ℕ) (later : List ℕ) → length (slot_if b slot later) ≡ cond b (1 + length later) (length later)
+    by-test true slot later = omega arith
+    by-test false slot later = refl
 
--- None of none.
-pub counting-starts : (token : List ℕ) (count : ℕ) → Counting token count 0 0
-counting-starts token count = record { within = omega arith; few = omega arith; rest = omega arith }
+-- All of them are the tree's atoms.
+pub counted : {token : List ℕ} {count : ℕ} (tree : Node NumberedAtom) → Holds token count tree
+    → count_by (λ token. ltb token 16777216) (take count token) ≡ atoms (alone tree)
+counted tree holds = rw holds.stored (few-counted (tokens (alone tree)) ∙ slots-counted (alone tree) holds.slots)
 
-module _ {token : List ℕ} {count found i : ℕ} (long : count ≤ length token) (h : i < count) (sofar : Counting token count found i) where
-  -- One more for an atom's token,
-  pub counting-atom : get_or token i 0 < 16777216 → Counting token count (found + 1) (i + 1)
-  counting-atom a = record {
-    within = omega arith;
-    few = omega (arith, sofar.few);
-    rest =
-        let left : slots_of (slice i count token) ≡ get_or token i 0 / 8 ∷ slots_of (slice (i + 1) count token) =
-        ap slots_of (tape-next token count i h long) ∙ slot-of-atom (get_or token i 0) (slice (i + 1) count token) a in
-        omega (arith, sofar.rest, ap length left);
-  }
+-- ---- The tokens that are counted, alone.
 
-  -- and none for another.
-  pub counting-join : 16777216 ≤ get_or token i 0 → Counting token count found (i + 1)
-  counting-join a = record {
-    within = omega arith;
-    few = omega (arith, sofar.few);
-    rest =
-        let left : slots_of (slice i count token) ≡ slots_of (slice (i + 1) count token) =
-        ap slots_of (tape-next token count i h long) ∙ slot-of-join (get_or token i 0) (slice (i + 1) count token) a in
-        omega (arith, sofar.rest, ap length left);
-  }
+pub tape-size : {token : List ℕ} {count : ℕ} → TapeFits token count → length (take count token) ≡ count
+tape-size {token} {count} tape = length-take-le count token tape.long
 
--- All of them counted are the tree's atoms.
-pub counted : {token : List ℕ} {count found i : ℕ} → Counting token count found i → count ≤ i
-    → (tree : Node NumberedAtom) → Holds token count tree → found ≡ atoms (alone tree)
-unfolding slots_of
-counted {token} {count} {found} {i} sofar h tree holds =
-    let all : slots_of (slice i count token) ≡ slots_of [] = ap slots_of (tape-end token count i sofar.within h) in
-    omega (arith, sofar.rest, ap length all, ap (λ (l : List ℕ). length (slots_of l)) holds.stored, slots-counted (alone tree) holds.slots)
+pub tape-front : {token : List ℕ} {count : ℕ} → TapeFits token count → TapeFits (take count token) count
+tape-front {token} {count} tape = record {
+  long = omega (arith, tape-size tape);
+  slots = λ i l. rw (get_or-take count token i 0 l) (tape.slots i l);
+}

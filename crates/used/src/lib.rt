@@ -22,16 +22,7 @@ pub fn atoms(token: &[u32], count: usize) -> usize
     requires { HoldsSome token.now count }
     ensures { (tree : Node NumberedAtom) → Holds token.now count tree → result ≡ atoms_of (alone tree) }
 {
-    let mut found = 0;
-    let mut i = 0;
-    while i < count {
-        let next = token[i];
-        i += 1;
-        if next < JOIN {
-            found += 1;
-        }
-    }
-    found
+    token[..count].iter().filter(|next| **next < JOIN).count()
 }
 
 // ---- the order of first use
@@ -42,10 +33,7 @@ fn order_slots(token: &[u32], count: usize, order: &mut [u8], number: &mut [u8])
     ensures { Ordered (order_of (take count token.now)) order.old order.new number.new result }
 {
     let mut used = 0;
-    let mut i = 0;
-    while i < count {
-        let next = token[i];
-        i += 1;
+    for &next in &token[..count] {
         if next < JOIN {
             let slot = (next / 8) as usize;
             if number[slot] == 64 {
@@ -82,11 +70,8 @@ fn count_forms(monomial: &[u64], terms: &[u8], order: &[u8], used: usize) -> usi
         → result ≡ length (without_constants (forms_in (lent n cs monomial.now terms.now) order.now used)) }
 {
     let mut forms = 0;
-    let mut i = 0;
-    while i < used {
-        let slot = order[i] as usize;
-        i += 1;
-        if !is_constant(monomial, terms, slot) {
+    for &slot in &order[..used] {
+        if !is_constant(monomial, terms, slot as usize) {
             forms += 1;
         }
     }
@@ -108,30 +93,12 @@ pub fn forms_used(monomial: &[u64], terms: &[u8], token: &[u32], count: usize) -
 
 // ---- the forms of the new block
 
-// Copies so many coefficients, from the place `from` of one slice to the place `to` of the other.
-fn copy_coefficients(source: &[i32], target: &mut [i32], from: usize, to: usize, count: usize)
+// Copies so many elements, from the place `from` of one slice to the place `to` of the other.
+fn copy_run<T: Copy>(source: &[T], target: &mut [T], from: usize, to: usize, count: usize)
     requires { (from + count ≤ length source.now) × (to + count ≤ length target.old) }
     ensures { target.new ≡ sets target.old to (take count (drop from source.now)) }
 {
-    let mut i = 0;
-    while i < count {
-        let x = source[from + i];
-        target[to + i] = x;
-        i += 1;
-    }
-}
-
-// The same of monomials.
-fn copy_monomials(source: &[u64], target: &mut [u64], from: usize, to: usize, count: usize)
-    requires { (from + count ≤ length source.now) × (to + count ≤ length target.old) }
-    ensures { target.new ≡ sets target.old to (take count (drop from source.now)) }
-{
-    let mut i = 0;
-    while i < count {
-        let x = source[from + i];
-        target[to + i] = x;
-        i += 1;
-    }
+    target[to..to + count].copy_from_slice(&source[from..from + count]);
 }
 
 // Copies the forms of the used slots, in order, to the slots 0, 1, .. of the new table.
@@ -151,20 +118,18 @@ fn copy_forms(
         new_coefficient.old new_coefficient.new new_monomial.old new_monomial.new
         new_terms.old new_terms.new }
 {
-    let mut i = 0;
-    while i < used {
+    for i in 0..used {
         let slot = order[i] as usize;
         let count = terms[slot];
         new_terms[i] = count;
-        copy_coefficients(
+        copy_run(
             coefficient,
             new_coefficient,
             16 * slot,
             16 * i,
             count as usize,
         );
-        copy_monomials(monomial, new_monomial, 16 * slot, 16 * i, count as usize);
-        i += 1;
+        copy_run(monomial, new_monomial, 16 * slot, 16 * i, count as usize);
     }
 }
 
@@ -187,10 +152,8 @@ fn renumber_all(number: &[u8], token: &[u32], count: usize, target: &mut [u32])
     requires { TapeFits token.now count × (length number.now ≡ 64) × (count ≤ length target.old) }
     ensures { target.new ≡ sets target.old 0 (map (renumbered number.now) (take count token.now)) }
 {
-    let mut i = 0;
-    while i < count {
+    for i in 0..count {
         target[i] = renumber(number, token[i]);
-        i += 1;
     }
 }
 

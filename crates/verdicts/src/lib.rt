@@ -2,19 +2,23 @@
 
 #![tactic(auto)]
 
-use evaluate::{Evaluation, evaluate};
+use evaluate::{Refusal, Verdict, evaluate};
 use std::io;
 use std::io::Write;
 
-fn tell<W: Write>(out: &mut W, evaluation: Evaluation) -> io::Result<()> {
+fn tell<W: Write>(out: &mut W, evaluation: Result<Verdict, Refusal>) -> io::Result<()> {
     match evaluation {
-        Evaluation::Refused(number) => writeln!(out, "REFUSED {number}"),
-        Evaluation::Deny => out.write_all(b"DENY\n"),
-        Evaluation::Permit => out.write_all(b"PERMIT\n"),
+        Err(refusal) => {
+            let number = refusal.number();
+            writeln!(out, "REFUSED {number}")
+        }
+        Ok(Verdict::Deny) => out.write_all(b"DENY\n"),
+        Ok(Verdict::Permit) => out.write_all(b"PERMIT\n"),
     }
 }
 
 // Runs the block on the first `count` readings. More than there are stand for readings of no number: no block has so few, which is 16 after the reader's.
+// kept: a number beside the readings, since a public function keeps its signature
 pub fn answer<W: Write>(
     out: &mut W,
     block: &[u8],

@@ -1,3 +1,4 @@
+pub mod Refusals
 pub mod Flat
 pub mod Entry
 pub mod Way

@@ -1,6 +1,6 @@
 -- The way of a block that was read to the records of its atoms: what is held, made normal, given places, and cut to the tokens behind the root's.
 -- Each step takes what the function of that step ensures, and gives what the next one asks.
-use Rattle.std.specs.Prelude.{◌≡◌, refl, Bool, true, false, ℕ, ◌+◌, ◌-◌, ◌<◌, ◌≤◌, leb, pos, replicate}
+use Rattle.std.specs.Prelude.{Ok, ◌≡◌, refl, Bool, true, false, ℕ, ◌+◌, ◌-◌, ◌<◌, ◌≤◌, leb, pos, replicate}
 use Rattle.std.proofs.Common.{sym, ◌∙◌, subst, take_all, le-leb}
 use Rattle.std.proofs.Math.Path.{ap, ap₂}
 use mathlib.Core.List.{List, ◌++◌}
@@ -38,7 +38,6 @@ use Rattle.why.specs.Flat.{behind_root, and_of_atoms, FlatRoot, flat-root, no-ro
 use Rattle.why.specs.Flat.{root-count, root-laid, root-tokens, flat-each, root-map, root-clauses}
 use Rattle.reasons.specs.Records.{Tells as TellsReasons}
 use Rattle.reasons.specs.Told.{reasons-long}
-use Rattle.why.specs.declared.Outcome.TheVariants.{Explained}
 use Rattle.why.specs.declared.Told.{Told}
 use Rattle.why.specs.Entry.{Tells, tells-explained, Taken}
 
@@ -249,7 +248,7 @@ blank-table = refl
 -- What is told of an AND of atoms.
 pub told-reasons : {bytes : List ℕ} {held : Held} (taken : Taken bytes held) → and_of_atoms held.root (take held.tokens held.token) ≡ true
     → (room : ℕ)
-    → held.tokens - behind_root held.root ≤ room → (told : Told) → told.outcome ≡ Explained (held.tokens - behind_root held.root)
+    → held.tokens - behind_root held.root ≤ room → (told : Told) → told.outcome ≡ Ok (held.tokens - behind_root held.root)
     → TellsReasons told.found (reasons held.variables (atoms_read taken.given)) → Tells room (why room bytes) told
 unfolding held_of
 told-reasons {held} taken e room h told is tells =
@@ -259,5 +258,5 @@ told-reasons {held} taken e room h told is tells =
     let many : held.tokens - behind_root held.root ≡ length (reasons held.variables (atoms_read taken.given)) = omega
     (arith, long, atoms-many taken e) in
     tells-explained told
-    (explains taken e room h ∙ ap (λ (k : ℕ). explained (reasons k (atoms_read taken.given))) (sym n)) tells (is ∙ ap Explained many)
+    (explains taken e room h ∙ ap (λ (k : ℕ). explained (reasons k (atoms_read taken.given))) (sym n)) tells (is ∙ ap Ok many)
     (omega (arith, many)) (omega (arith, many, tokens-few taken))

@@ -2,19 +2,20 @@
 // To C the records are a pointer to structs and how many there are, and each outcome is one number.
 ghost use Rattle.std.specs.Prelude.{◌≡◌, length};
 ghost use Rattle.rules.specs.Reasons.{why as why_book};
+ghost use Rattle.why.specs.Refusals.{by_number};
 ghost use Rattle.why.specs.Exported.{number_in as number_in_of, Few, Exports};
 
-use crate::{Outcome, why};
+use crate::{Refusal, why};
 use reasons::Reason;
 
 // One number for each outcome: below 256 the refusal, else 256 more than the number of records.
-fn number_in(outcome: Outcome) -> u32
-    requires { Few outcome }
-    ensures { result ≡ number_in_of outcome }
+fn number_in(outcome: Result<usize, Refusal>) -> u32
+    requires { Few (by_number outcome) }
+    ensures { result ≡ number_in_of (by_number outcome) }
 {
     match outcome {
-        Outcome::Refused(number) => number as u32,
-        Outcome::Explained(count) => count as u32 + 256,
+        Err(refusal) => refusal.number() as u32,
+        Ok(count) => count as u32 + 256,
     }
 }
 

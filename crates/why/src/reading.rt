@@ -1,27 +1,26 @@
 // From the bytes of a block to the records of its atoms, by value. 02, #106: "takes a block whose root is an AND of atoms only (a root atom is one)".
-ghost use Rattle.std.specs.Prelude.{◌≡◌, List, ℕ, ◌≤◌, length, take, drop};
+ghost use Rattle.std.specs.Prelude.{◌≡◌, Err, List, ℕ, ◌≤◌, length, take, drop};
 ghost use Rattle.block.specs.Held.{held_by};
 ghost use Rattle.rules.specs.Reasons.{reasons, why as why_book};
 ghost use Rattle.reasons.specs.Records.{Tells as TellsReasons};
 ghost use Rattle.why.specs.Flat.{all_atoms as all_atoms_of, behind_root as behind_root_of, and_of_atoms as and_of_atoms_of};
-ghost use Rattle.why.specs.declared.Outcome.TheVariants.{Refused};
 ghost use Rattle.why.specs.Entry.{Tells, Taken, TakenSome};
 ghost use Rattle.why.specs.Way.{atoms_read, AndSome};
 
-use crate::{Outcome, Told};
-use block::{Contents, read_into};
+use crate::{Refusal, Told};
+use block::read_into;
 use forms::{normal_tokens, work};
 use places::give;
 use reasons::{Found, refused, tell_all};
 use tape::rows::part;
 
-fn refuse(number: u8) -> Told
-    ensures { (result.outcome ≡ Refused number) × (result.found.count ≡ 0) }
+fn refuse(refusal: Refusal) -> Told
+    ensures { (result.outcome ≡ Err refusal) × (result.found.count ≡ 0) }
 {
     let found = refused(0);
     Told {
         found,
-        outcome: Outcome::Refused(number),
+        outcome: Err(refusal),
     }
 }
 
@@ -40,10 +39,8 @@ fn all_atoms(token: &[u32], from: usize, count: usize) -> bool
     requires { count ≤ length token.now }
     ensures { result ≡ all_atoms_of (drop from (take count token.now)) }
 {
-    let mut i = from;
-    while i < count {
+    for i in from..count {
         let t = token[i];
-        i += 1;
         if 16777216 <= t {
             return false;
         }
@@ -124,11 +121,11 @@ fn explain(
         token.old) → Tells room (why_book room bytes) result }
 {
     if !and_of_atoms(token, root, count) {
-        return refuse(19);
+        return refuse(Refusal::NotAndOfAtoms);
     }
     let atoms = count - behind_root(root);
     if room < atoms {
-        return refuse(20);
+        return refuse(Refusal::RecordsShort);
     }
     let found = records_of(
         variables,
@@ -142,7 +139,7 @@ fn explain(
     );
     Told {
         found,
-        outcome: Outcome::Explained(atoms),
+        outcome: Ok(atoms),
     }
 }
 
@@ -162,17 +159,12 @@ pub fn explained(input: &[u8], room: usize) -> Told
         &mut token,
     );
     match contents {
-        Contents::Refused(number) => refuse(number),
-        Contents::Numbers {
-            variables,
-            polynomials,
-            root,
-            tokens,
-        } => explain(
-            variables,
-            polynomials,
-            root,
-            tokens,
+        Err(refusal) => refuse(Refusal::Block(refusal)),
+        Ok(held) => explain(
+            held.variables,
+            held.polynomials,
+            held.root,
+            held.tokens,
             &coefficient,
             &monomial,
             &terms,

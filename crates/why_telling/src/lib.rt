@@ -3,11 +3,10 @@
 
 #![tactic(auto)]
 
-use block::{Contents, read_into};
+use block::read_into;
 use reasons::{Found, Reason, record};
 use std::io;
 use std::io::Write;
-use why::Outcome;
 use why::reading::explained;
 
 // ---- the line of a record
@@ -193,23 +192,19 @@ fn print_all<W: Write>(out: &mut W, input: &[u8], found: Found) -> io::Result<()
     );
     print_head(out, found)?;
     match contents {
-        Contents::Refused(_) => Ok(()),
-        Contents::Numbers {
-            variables: _,
-            polynomials: _,
-            root,
-            tokens: _,
-        } => print_lines(out, found, &coefficient, &token, root as usize),
+        Err(_) => Ok(()),
+        Ok(held) => print_lines(out, found, &coefficient, &token, held.root as usize),
     }
 }
 
 // A block has at most 255 atoms.
 pub fn tell<W: Write>(out: &mut W, input: &[u8]) -> io::Result<()> {
     let told = explained(input, 255);
-    let found = told.found;
-    let outcome = told.outcome;
-    match outcome {
-        Outcome::Refused(number) => writeln!(out, "REFUSED {number}"),
-        Outcome::Explained(_) => print_all(out, input, found),
+    match told.outcome {
+        Err(refusal) => {
+            let number = refusal.number();
+            writeln!(out, "REFUSED {number}")
+        }
+        Ok(_) => print_all(out, input, told.found),
     }
 }

@@ -1,6 +1,6 @@
 -- `arithmetic::sign_in` meets its contract.
-use mathlib.Core.Path.{refl, sym, ap, ◌∙◌}
-use Prim.Native.Nat.{ℕ, ◌/◌, ◌%◌}
+use mathlib.Core.Path.{sym, ap, ◌∙◌}
+use Prim.Native.Nat.{ℕ, ◌%◌}
 use native.Mathlib.Nat.{div-one}
 use lib.Dec.{eqb}
 use Rattle.rules.specs.Signs.{Sign, has, only}

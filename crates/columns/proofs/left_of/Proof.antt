@@ -1,10 +1,9 @@
 -- `left_of` meets its contract: no atom that passes has gone, whichever of the missing bits were asked.
 use borrow.Author.Rules.{rules}
-use mathlib.Core.Path.{◌≡◌, sym, subst}
-use Prim.Native.Nat.{ℕ, ◌+◌, ◌<◌}
+use mathlib.Core.Path.{subst}
+use Prim.Native.Nat.{◌<◌}
 use native.Mathlib.Omega.{arith}
 use lib.Count.{count_trailing_zeros}
-use lib.ListN.{length}
 use lib.Pow.{pow_pos}
 use Rattle.columns.specs.Bits.{has-lowest, lowest-below, power-at-most}
 use Rattle.columns.specs.Columns.{one_shifted, Asked, asked-none, ask, asked-left, LeftOf}

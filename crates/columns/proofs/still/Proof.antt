@@ -1,5 +1,4 @@
 -- `still` meets its contract, by the two sets.
-use borrow.Author.Rules.{rules}
 use Rattle.columns.specs.Columns.{still-same, still-all}
 use Rattle.columns.proofs.still.Statement.{statement}
 use Rattle.columns.proofs.still.Tie as tie

@@ -1,4 +1,4 @@
-use mathlib.Core.Path.{◌≡◌, refl}
+use mathlib.Core.Path.{refl}
 use borrow.Author.Rules.{rules}
 use Rattle.level.proofs.Rooted.{whole_is}
 use Rattle.level.proofs.simplified.Statement.{statement}

@@ -16,24 +16,24 @@ answer-to-requires c κs =
     let a = c.args in (
       record {
         bytes = a.input.now;
-        accepted = found-accepted c.read_into-contents.ensures (length a.output.now) c.in-Numbers.is c.requires.0
+        accepted = found-accepted c.read_into-contents.ensures (length a.output.now) c.in-Ok.is c.requires.0
             c.edition-number.ensures;
       },
       c.requires.1,
     )
 
-returns : tie.Need-returns-in-Refused
+returns : tie.Need-returns-in-Err
 returns c =
     let a = c.args in
-    let is = found-refused c.read_into-contents.ensures c.in-Refused.is in (
+    let is = found-refused c.read_into-contents.ensures c.in-Err.is in (
       answers-refused a.input.now a.output.now c.requires.0 is,
       (places-refused a.input.now (length a.output.now) c.requires.0 a.places.now is, refused-counts a.largest is),
     )
 
-returns-2 : tie.Need-returns-in-Numbers
+returns-2 : tie.Need-returns-in-Ok
 returns-2 c =
     let a = c.args in
-    let accepted = found-accepted c.read_into-contents.ensures (length a.output.now) c.in-Numbers.is c.requires.0
+    let accepted = found-accepted c.read_into-contents.ensures (length a.output.now) c.in-Ok.is c.requires.0
     c.edition-number.ensures in
     let told = c.answer_to.ensures a.input.now accepted in
     (told.0, (places-accepted a.input.now (length a.output.now) c.requires.0 a.places.now accepted.accepted told.1.0, told.1.1))

@@ -1,5 +1,5 @@
 -- `pairs::placed` meets its contract: four bits for each variable that follows, and nothing is shifted out.
-use mathlib.Core.Path.{sym, ap, ◌∙◌}
+use mathlib.Core.Path.{ap, ◌∙◌}
 use Prim.Native.Nat.{ℕ, ◌*◌}
 use native.Mathlib.Omega.{arith}
 use lib.Pow.{shl_exact}

@@ -1,10 +1,7 @@
 -- `forms_of` meets its contract: the working table, and the slots that are listed.
 use borrow.Author.Rules.{rules}
-use mathlib.Core.Path.{◌≡◌, ap, ◌∙◌}
+use mathlib.Core.Path.{◌∙◌}
 use native.Mathlib.Omega.{arith}
-use lib.ListN.{length}
-use Rattle.forms.specs.declared.WorkingTable.{WorkingTable}
-use Rattle.forms.specs.Working.{working_by}
 use Rattle.pool.specs.Reading.{blank-is, worked-room, worked-numbers, holds-forms}
 use Rattle.pool.proofs.forms_of.Statement.{statement}
 use Rattle.pool.proofs.forms_of.Tie as tie

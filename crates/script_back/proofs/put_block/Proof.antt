@@ -1,14 +1,12 @@
 -- `put_block` meets its contract: the block that was written apart goes to the output if there is room for it.
-use mathlib.Core.Path.{◌≡◌, sym, ◌∙◌}
-use Prim.Native.Nat.{ℕ, ◌≤◌}
+use mathlib.Core.Path.{sym, ◌∙◌}
+use Prim.Native.Nat.{◌≤◌}
 use native.Mathlib.Omega.{arith}
 use lib.ListN.{length}
 use lib.Seq.{length-take-le}
 use borrow.Author.Rules.{rules}
-use Rattle.rules.specs.Block.{Block, edition1, edition_of, write_block}
+use Rattle.rules.specs.Block.{edition1, edition_of, write_block}
 use Rattle.block_laws.specs.Sizes.{length-block}
-use Rattle.block.specs.Held.{held_by}
-use Rattle.writer.specs.Written.{Writable}
 use Rattle.convert.specs.Converted.{front-again}
 use Rattle.script_back.specs.Back.{converts-block}
 use Rattle.script_back.proofs.put_block.Statement.{statement}

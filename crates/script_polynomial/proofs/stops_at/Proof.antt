@@ -1,5 +1,4 @@
 -- `stops_at` meets its contract.
-use native.Mathlib.Omega.{arith}
 use borrow.Author.Rules.{rules}
 use Rattle.script_polynomial.proofs.Pieces.{some_read, stops-full}
 use Rattle.script_polynomial.proofs.stops_at.Statement.{statement}

@@ -1,6 +1,6 @@
 -- `search` meets its contract: the signs are worked out for the board at hand; the atoms are searched where nothing is found of the variables.
 use borrow.Author.Rules.{rules}
-use mathlib.Core.Path.{◌≡◌, refl, ap}
+use mathlib.Core.Path.{refl, ap}
 use mathlib.Core.Bool.{true≢false}
 use Prim.Native.Nat.{ℕ}
 use lib.ListN.{length-replicate}

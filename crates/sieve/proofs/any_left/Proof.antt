@@ -2,7 +2,6 @@
 use borrow.Author.Rules.{rules}
 use mathlib.Core.Path.{refl}
 use native.Mathlib.Omega.{arith}
-use Rattle.sieve.proofs.Bars.{un-false}
 use Rattle.sieve.proofs.Leaves.{none_left, some_left}
 use Rattle.sieve.proofs.any_left.Statement.{statement}
 use Rattle.sieve.proofs.any_left.Tie as tie

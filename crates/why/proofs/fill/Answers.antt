@@ -1,17 +1,14 @@
 -- One record more each turn, at the next place.
-use Rattle.std.proofs.Common.{refl, arith}
+use Rattle.std.proofs.Common.{arith}
 use Rattle.reasons.specs.Records.{blank}
 use Rattle.why.proofs.Filling.{filling, filled, filled-all}
 use Rattle.why.proofs.fill.Goals as goal
 
 pub loop-i-init : goal.loop-i-init
-loop-i-init c = record { all = refl; filling = filling _ _ _ }
+loop-i-init c = filling _ _ _
 
 pub loop-i-preserved : goal.loop-i-preserved
-loop-i-preserved c = record {
-  all = c.loop-i.invariant.all;
-  filling = filled blank c.loop-i.invariant.filling (omega arith) c.requires.there c.requires.enough c.record_at-r.ensures;
-}
+loop-i-preserved c = filled blank c.loop-i.invariant (omega arith) c.requires.there c.requires.enough c.record_at.ensures
 
 pub returns : goal.returns
-returns c = filled-all c.loop-i.invariant.filling (omega arith)
+returns c = filled-all c.loop-i.invariant (omega arith)

@@ -1,7 +1,6 @@
 -- `left` meets its contract: an atom on which no cut rests may go.
 use borrow.Author.Rules.{rules}
 use native.Mathlib.Omega.{arith}
-use borrow.Author.Tests.{not-true, not-false}
 use Rattle.common_run.proofs.Knowing.{left-staying, left-unmarked, left-unknown}
 use Rattle.common_run.proofs.without.left.Statement.{statement}
 use Rattle.common_run.proofs.without.left.Tie as tie

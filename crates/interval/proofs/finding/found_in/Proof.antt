@@ -2,7 +2,6 @@
 use borrow.Author.Rules.{rules}
 use mathlib.Core.Path.{◌≡◌, sym, ◌∙◌}
 use mathlib.Core.Bool.{◌&&◌, ◌||◌}
-use borrow.Author.Tests.{not-true, not-false}
 use Rattle.rules.specs.Signs.{kind}
 use Rattle.rules.specs.Deduce.{is_strict, has_other, found}
 use Rattle.deduction_laws.specs.Vanishing.{strict_by, found_by}

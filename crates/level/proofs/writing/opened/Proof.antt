@@ -3,7 +3,6 @@ use mathlib.Core.List.{[]}
 use borrow.Author.Rules.{rules}
 use native.Mathlib.Omega.{arith}
 use borrow.Author.Tests.{eq-eqb, ne_eqb}
-use Rattle.level.specs.Written.{opening}
 use Rattle.tape.specs.Storing.{stored}
 use Rattle.level.proofs.writing.opened.Statement.{statement}
 use Rattle.level.proofs.writing.opened.Tie as tie

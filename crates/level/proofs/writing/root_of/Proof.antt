@@ -1,5 +1,3 @@
-use mathlib.Core.Path.{◌≡◌}
-use borrow.Author.Rules.{rules}
 use borrow.Author.Tests.{eq-eqb, ne_eqb}
 use Rattle.level.proofs.writing.root_of.Statement.{statement}
 use Rattle.level.proofs.writing.root_of.Tie as tie

@@ -1,4 +1,3 @@
-use mathlib.Core.Path.{◌≡◌}
 use borrow.Author.Rules.{rules}
 use Rattle.level.proofs.writing.told.Statement.{statement}
 use Rattle.level.proofs.writing.told.Tie as tie

@@ -1,18 +1,14 @@
 -- `met` meets its contract: nothing, or the fraction and the value behind it.
 use borrow.Author.Rules.{rules}
-use mathlib.Core.Path.{◌≡◌, refl, sym, ap, ◌∙◌, subst}
-use mathlib.Core.List.{[]}
 use Prim.Native.Nat.{◌*◌}
 use mir.Syntax.{w32}
 use mir.Val.{SFits}
 use Rattle.rules.specs.Signs.{kind}
-use Rattle.rules.specs.Deduce.{End, at}
 use Rattle.plain_laws.specs.Bounds.{largest, double}
 use Rattle.interval.specs.Ends.{end_of, There}
 use Rattle.interval.specs.Coefficients.{is-zero, not_zero}
-use Rattle.plain.specs.Met.{met_end, neighbour, beside}
+use Rattle.plain.specs.Met.{beside}
 use Rattle.plain.specs.Values.{Held}
-use Rattle.plain.specs.Tests.{after, after_all}
 use Rattle.plain.proofs.Numbers.{none_there, is-there}
 use Rattle.plain.proofs.Seens.{none-met, one-met}
 use Rattle.plain.proofs.met.met.Statement.{statement}

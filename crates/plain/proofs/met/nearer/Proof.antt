@@ -1,11 +1,11 @@
 -- `nearer` meets its contract: none, one that is not above f, or the lower of two.
 use borrow.Author.Rules.{rules}
-use mathlib.Core.Path.{◌≡◌, sym, ap, ◌∙◌}
+use mathlib.Core.Path.{sym, ◌∙◌}
 use mathlib.Core.Bool.{true, false}
 use mir.Syntax.{w32}
 use mir.Val.{SFits}
-use Rattle.rules.specs.Deduce.{End, end_at_most}
-use Rattle.interval.specs.Ends.{end_of, There, one_of, lower_end}
+use Rattle.rules.specs.Deduce.{end_at_most}
+use Rattle.interval.specs.Ends.{end_of, There, lower_end}
 use Rattle.interval.specs.Coefficients.{is-zero, not_zero}
 use Rattle.plain.proofs.Numbers.{none_there, is-there}
 use Rattle.plain.proofs.Nears.{one-small, near_none, near-there}

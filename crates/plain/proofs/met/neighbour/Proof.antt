@@ -1,6 +1,6 @@
 -- `neighbour` meets its contract: the nearest so far, with the rows that are left, is the neighbour among all.
 use borrow.Author.Rules.{rules}
-use mathlib.Core.Path.{◌≡◌, refl, sym, ap, ◌∙◌}
+use mathlib.Core.Path.{◌≡◌, ap}
 use mathlib.Core.List.{List}
 use Prim.Native.Nat.{◌+◌, ◌-◌}
 use native.Mathlib.Omega.{arith}
@@ -9,7 +9,7 @@ use Rattle.interval.specs.declared.interval.End.{End as KeptEnd}
 use Rattle.interval.specs.Ends.{end_of, There}
 use Rattle.interval.specs.Coefficients.{back}
 use Rattle.plain.specs.Met.{nearest, neighbour}
-use Rattle.plain.specs.Values.{SmallEnd, SmallPair}
+use Rattle.plain.specs.Values.{SmallEnd}
 use Rattle.plain.proofs.Walks.{Walked, walk_from, walk-on, row_small, walk-done}
 use Rattle.plain.proofs.Nears.{pair_small, nearest-row, still-there, zero-there}
 use Rattle.plain.proofs.met.neighbour.Statement.{statement}

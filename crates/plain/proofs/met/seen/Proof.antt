@@ -1,16 +1,15 @@
 -- `seen` meets its contract: what is seen so far, and then of the values that the rows that are left bring, is what is seen of all.
 use borrow.Author.Rules.{rules}
-use mathlib.Core.Path.{◌≡◌, refl, sym, ap, ◌∙◌}
-use mathlib.Core.List.{List, [], ◌∷◌}
+use mathlib.Core.Path.{◌≡◌, refl, ◌∙◌}
+use mathlib.Core.List.{List}
 use Prim.Native.Nat.{◌+◌, ◌-◌}
 use native.Mathlib.Omega.{arith}
 use Rattle.rules.specs.Signs.{kind, Kind}
-use Rattle.rules.specs.Deduce.{Row, free, at_zero}
+use Rattle.rules.specs.Deduce.{Row, at_zero}
 use Rattle.interval.specs.Ends.{end_of}
 use Rattle.interval.specs.Coefficients.{back}
 use Rattle.plain.specs.declared.tests.Seen.{Seen}
 use Rattle.plain.specs.Met.{met_from, under}
-use Rattle.plain.specs.Values.{SmallEnd}
 use Rattle.plain.specs.Tests.{after_all, nothing}
 use Rattle.plain.proofs.Walks.{Walked, walk_from, walk-on, row_small, walk-done}
 use Rattle.plain.proofs.Nears.{pair_small}

@@ -1,6 +1,6 @@
 -- `tested` meets its contract: the sign of t is its numerator's, and the tests are the book's.
 use borrow.Author.Rules.{rules}
-use mathlib.Core.Path.{◌≡◌, ap, ◌∙◌}
+use mathlib.Core.Path.{ap, ◌∙◌}
 use Rattle.rules.specs.Signs.{sign_of, only}
 use Rattle.plain.specs.Tests.{after_all}
 use Rattle.plain.proofs.Seens.{seen-after}

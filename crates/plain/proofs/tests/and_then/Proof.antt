@@ -1,6 +1,5 @@
 -- `and_then` meets its contract: for L and for U a value of the wanted sign that passes, and one at which the finding is strict.
 use borrow.Author.Rules.{rules}
-use mathlib.Core.Path.{◌≡◌, ◌∙◌}
 use Rattle.rules.specs.Plain.{wanted_u}
 use Rattle.plain.proofs.tests.and_then.Statement.{statement}
 use Rattle.plain.proofs.tests.and_then.Tie as tie

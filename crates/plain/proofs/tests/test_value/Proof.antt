@@ -1,14 +1,12 @@
 -- `test_value` meets its contract: what is passed so far, with the rows that are left, is what all of them give.
 use borrow.Author.Rules.{rules}
-use mathlib.Core.Path.{◌≡◌, refl, sym, ◌∙◌}
-use mathlib.Core.Bool.{true, false, ◌&&◌, ◌||◌}
+use mathlib.Core.Path.{refl, sym, ◌∙◌}
 use mathlib.Core.List.{List}
 use Prim.Native.Nat.{◌+◌, ◌-◌}
 use native.Mathlib.Omega.{arith}
 use Rattle.sign_laws.specs.Booleans.{and-true, or-false}
-use Rattle.rules.specs.Signs.{only}
 use Rattle.rules.specs.Deduce.{Fraction, Row}
-use Rattle.rules.specs.Plain.{passes, strict_at, sign_at}
+use Rattle.rules.specs.Plain.{passes, strict_at}
 use Rattle.interval.specs.Coefficients.{back}
 use Rattle.plain.specs.declared.value.Value.{Value}
 use Rattle.plain.specs.declared.tests.Passed.{Passed}

@@ -1,15 +1,12 @@
 -- `beside` meets its contract: numerators added, denominators added, or 1 more.
 use borrow.Author.Rules.{rules}
-use mathlib.Core.Path.{◌≡◌, ◌∙◌, ap}
-use lib.IntN.{ℤ, pos, ◌+ℤ◌}
+use lib.IntN.{◌+ℤ◌}
 use mir.Syntax.{w32}
 use mir.Val.{SFits}
-use Rattle.rules.specs.Deduce.{Fraction, at, is_zero}
 use Rattle.rules.specs.Plain.{one_more, between}
 use Rattle.plain_laws.specs.Bounds.{Small, largest, one-more-small, between-small}
-use Rattle.interval.specs.Ends.{end_of, end_at, There}
+use Rattle.interval.specs.Ends.{There}
 use Rattle.interval.specs.Coefficients.{is-zero, not_zero}
-use Rattle.plain.specs.Met.{beside}
 use Rattle.plain.specs.Values.{Is}
 use Rattle.plain.proofs.Numbers.{fits, back, term_in, listed-c, listed-d, sum-in, more-is, between_is, none_there, is-there, none_beside, one-beside}
 use Rattle.plain.proofs.value.beside.Statement.{statement}

@@ -1,5 +1,4 @@
 -- `listed` meets its contract: the two coefficients, with the sign that makes the denominator positive.
-use mathlib.Core.Path.{◌≡◌}
 use mir.Syntax.{w32, w64}
 use mir.Val.{SFits}
 use mir.ValLaws.{to_z-of_z}

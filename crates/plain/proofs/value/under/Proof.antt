@@ -1,9 +1,8 @@
 -- `under` meets its contract: the least less 1.
 use borrow.Author.Rules.{rules}
 use lib.IntN.{◌-ℤ◌}
-use Rattle.rules.specs.Deduce.{at}
 use Rattle.rules.specs.Plain.{one_less}
-use Rattle.plain_laws.specs.Bounds.{Small, largest, one-less-small}
+use Rattle.plain_laws.specs.Bounds.{one-less-small}
 use Rattle.plain.specs.Met.{under}
 use Rattle.plain.proofs.Numbers.{fits, back, term_in, listed-c, listed-d, difference-in, less-is}
 use Rattle.plain.proofs.value.under.Statement.{statement}

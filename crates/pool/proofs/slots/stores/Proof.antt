@@ -1,12 +1,12 @@
 -- `stores` meets its contract: in use, as many terms, the same terms.
 use borrow.Author.Rules.{rules}
 use mathlib.Core.Path.{◌≡◌, sym, ap, ap₂, ◌∙◌}
-use mathlib.Core.Bool.{Bool, true, false, not, ◌&&◌}
+use mathlib.Core.Bool.{Bool, not, ◌&&◌}
 use Prim.Native.Nat.{ℕ, ◌+◌, ◌*◌}
 use native.Mathlib.Omega.{arith}
 use lib.ListN.{get_or}
 use Rattle.rules.specs.Polynomial.{same}
-use Rattle.rules.specs.Pool.{is_free, stores, slot_of}
+use Rattle.rules.specs.Pool.{stores, slot_of}
 use Rattle.terms.specs.View.{few, terms_from}
 use Rattle.pool.specs.Words.{slot_place, slot_at, terms_in}
 use Rattle.pool.proofs.Walks.{other-count}

@@ -1,14 +1,11 @@
 -- `unlist` meets its contract: without a mark left the word of the row is 0.
 use borrow.Author.Rules.{rules}
-use mathlib.Core.Path.{◌≡◌, sym, ap, ◌∙◌}
-use mathlib.Core.Bool.{Bool, true, false}
+use mathlib.Core.Path.{sym, ap, ◌∙◌}
+use mathlib.Core.Bool.{Bool, false}
 use mathlib.Core.List.{List}
-use Prim.Native.Nat.{ℕ}
-use native.Mathlib.Omega.{arith}
-use lib.Dec.{eqb}
-use lib.ListN.{get_or, set, length-set}
+use lib.ListN.{get_or, set}
 use borrow.Author.Tests.{eq-eqb, ne_eqb}
-use Rattle.rules.specs.Pool.{either, count}
+use Rattle.rules.specs.Pool.{either}
 use Rattle.pool.specs.Marks.{marks, row_word, count_word}
 use Rattle.pool.specs.Words.{zeros, unlisted}
 use Rattle.pool.proofs.slots.unlist.Statement.{statement}

@@ -1,9 +1,8 @@
 -- `coefficient_word` meets its contract: in 64 bits the number and its negation fit.
-use mathlib.Core.Path.{◌≡◌, ap, ◌∙◌}
+use mathlib.Core.Path.{◌≡◌}
 use mathlib.Core.Bool.{true, false}
-use Prim.Native.Nat.{◌-◌, ◌*◌, ◌≤◌, ◌<◌, ◌^◌}
 use native.Mathlib.Omega.{arith}
-use lib.IntN.{nat_abs, pos}
+use lib.IntN.{pos}
 use lib.Signed.{lt_z}
 use Rattle.pool.proofs.Numbers.{wide_fits, wide_back, minus-fits, minus-back, negative-turns, negative-magnitude, negative-word, whole}
 use Rattle.pool.proofs.Numbers.{whole-magnitude, whole_word}

@@ -1,6 +1,4 @@
 -- `opens` meets its contract.
-use mathlib.Core.Path.{◌≡◌, sym}
-use native.Mathlib.Omega.{arith}
 use borrow.Author.Rules.{rules}
 use borrow.Author.Tests.{eq-eqb, ne_eqb}
 use Rattle.script_polynomial.proofs.sums.opens.Statement.{statement}

@@ -1,6 +1,6 @@
 -- `agreed_slot` meets its contract.
 use mathlib.Core.Path.{◌≡◌, sym, ap, ◌∙◌}
-use Prim.Native.Nat.{ℕ, ◌+◌, ◌*◌, ◌<◌, ◌≤◌}
+use Prim.Native.Nat.{ℕ, ◌+◌, ◌*◌, ◌<◌}
 use native.Mathlib.Omega.{arith}
 use mathlib.Core.List.{List, [], ◌∷◌, ◌++◌}
 use lib.ListN.{length, drop, length-set, length-replicate}
@@ -10,8 +10,6 @@ use Rattle.lines.specs.Written.{wrote-long}
 use Rattle.terms.specs.View.{terms_from}
 use Rattle.rules.specs.Text.{polynomial_text}
 use Rattle.script_polynomial.specs.Agreement.{common}
-use Rattle.script_text.specs.Tree.{Terms}
-use Rattle.script_text.specs.Runs.{Fits}
 use Rattle.script_polynomial.proofs.Comparing.{slot-short, front-and}
 use Rattle.script_polynomial.proofs.tabled.agreed_slot.Statement.{statement}
 use Rattle.script_polynomial.proofs.tabled.agreed_slot.Tie as tie

@@ -1,6 +1,5 @@
 -- `same_slot` meets its contract.
-use mathlib.Core.Path.{◌≡◌, sym, ◌∙◌}
-use native.Mathlib.Omega.{arith}
+use mathlib.Core.Path.{sym, ◌∙◌}
 use borrow.Author.Rules.{rules}
 use Rattle.script_polynomial.proofs.Comparing.{other-count}
 use Rattle.script_polynomial.proofs.tabled.same_slot.Statement.{statement}

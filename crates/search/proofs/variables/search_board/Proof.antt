@@ -1,6 +1,5 @@
 -- `search_board` meets its contract: without a pair, and where each variable has its floor's set, nothing is found.
 use borrow.Author.Rules.{rules}
-use borrow.Author.Tests.{not-true}
 use mathlib.Core.Path.{refl}
 use Rattle.table.specs.Table.{Table}
 use Rattle.round.specs.Views.{lent_table}

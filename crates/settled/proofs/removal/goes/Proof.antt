@@ -1,6 +1,6 @@
 -- `goes` meets its contract: an atom that stays does not go, and any other goes if the others imply it.
 use borrow.Author.Rules.{rules}
-use mathlib.Core.Path.{sym, ◌∙◌}
+use mathlib.Core.Path.{sym}
 use Rattle.removal_laws.specs.Settled.{run-settles}
 use Rattle.settled.proofs.removal.goes.Statement.{statement}
 use Rattle.settled.proofs.removal.goes.Tie as tie

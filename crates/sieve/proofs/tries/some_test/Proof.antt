@@ -2,7 +2,7 @@
 use borrow.Author.Rules.{rules}
 use borrow.Author.Tests.{leb-false}
 use native.Mathlib.Omega.{arith}
-use Rattle.sieve.proofs.Bars.{un_not, test-cannot, test-passes, test-passed}
+use Rattle.sieve.proofs.Bars.{test-cannot, test-passes, test-passed}
 use Rattle.sieve.proofs.tries.some_test.Statement.{statement}
 use Rattle.sieve.proofs.tries.some_test.Tie as tie
 

@@ -1,6 +1,5 @@
 -- `without_implied` meets its contract: the engine marks the atoms that remain, and their tokens are moved to the front.
 use borrow.Author.Rules.{rules}
-use native.Mathlib.Omega.{arith}
 use Rattle.steps.proofs.Cutting.{remains}
 use Rattle.steps.proofs.carrying.without_implied.Statement.{statement}
 use Rattle.steps.proofs.carrying.without_implied.Tie as tie

@@ -1,6 +1,5 @@
 use native.Mathlib.Omega.{arith}
 use mathlib.Core.Path.{refl}
-use Prim.Native.Nat.{ℕ}
 use borrow.Author.Rules.{rules}
 use Rattle.tape.specs.Listing.{pushed}
 use Rattle.tape.proofs.rows.push.Statement.{statement}

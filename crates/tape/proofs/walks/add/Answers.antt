@@ -1,6 +1,4 @@
-use mathlib.Core.Path.{◌≡◌, ◌∙◌}
 use native.Mathlib.Omega.{arith}
-use borrow.Author.Rules.{rules}
 use Rattle.tape.specs.Entering.{goes-as, tells_none, tells-atom, tells-child, tells_more}
 use Rattle.tape.proofs.walks.add.Goals.{then-n-eq0+else-end-eq0+else-first-inner, else-n-eq0, then-n-eq1+else-end-eq0-2, else-n-eq1}
 use Rattle.tape.proofs.walks.add.Goals as goal

@@ -3,7 +3,7 @@ use borrow.Author.Rules.{rules}
 use mathlib.Core.Path.{sym, ap, ◌∙◌, subst}
 use Prim.Native.Nat.{ℕ, ◌-◌, ◌<◌, ◌≤◌}
 use native.Mathlib.Omega.{arith}
-use Rattle.why.specs.declared.Outcome.TheVariants.{Explained}
+use Rattle.std.specs.Prelude.{Ok}
 use Rattle.why.specs.Entry.{tells-refusal}
 use Rattle.why.specs.Way.{tokens-there, refuses-19, refuses-20, atoms-many, told-reasons}
 use Rattle.why.proofs.reading.explain.Statement.{statement}
@@ -53,7 +53,7 @@ returns-3 c bytes taken =
     let behind = here.behind_root.ensures in
     let only = sym here.and_of_atoms.ensures ∙ here.if-not-and_of_atoms.false in
     told-reasons taken only s.args.room (subst (λ (k : ℕ). s.args.count - k ≤ s.args.room) behind (omega arith)) _ (ap
-    (λ (k : ℕ). Explained (s.args.count - k)) behind) (here.records_of-found.ensures bytes taken)
+    (λ (k : ℕ). Ok (s.args.count - k)) behind) (here.records_of-found.ensures bytes taken)
 
 pub explain_spec : {M : Type 1} → statement M
 explain_spec =

@@ -13,22 +13,22 @@ explain-requires c κs =
     let chosen = c in
     let reading = chosen in
     let a = reading.args in
-    record { bytes = a.input.now; taken = found-taken reading.read_into-contents.ensures chosen.in-Numbers.is }
+    record { bytes = a.input.now; taken = found-taken reading.read_into-contents.ensures chosen.in-Ok.is }
 
-returns : tie.Need-returns-in-Refused
+returns : tie.Need-returns-in-Err
 returns c =
     let chosen = c in
     let reading = chosen in
     let a = reading.args in
-    tells-refusal c.refuse.result (found-refused reading.read_into-contents.ensures a.room chosen.in-Refused.is) c.refuse.ensures
+    tells-refusal c.refuse.result (found-refused reading.read_into-contents.ensures a.room chosen.in-Err.is) c.refuse.ensures
 
-returns-2 : tie.Need-returns-in-Numbers
+returns-2 : tie.Need-returns-in-Ok
 returns-2 c =
     let told = c in
     let chosen = told in
     let reading = chosen in
     let a = reading.args in
-    told.explain.ensures a.input.now (found-taken reading.read_into-contents.ensures chosen.in-Numbers.is)
+    told.explain.ensures a.input.now (found-taken reading.read_into-contents.ensures chosen.in-Ok.is)
 
 pub explained_spec : {M : Type 1} → statement M
 explained_spec =

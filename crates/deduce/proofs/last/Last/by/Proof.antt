@@ -1,6 +1,6 @@
 -- `Last::by` meets its contract: what L asks for, and what U asks for, each from its set.
 use borrow.Author.Rules.{rules}
-use mathlib.Core.Path.{refl, ◌∙◌}
+use mathlib.Core.Path.{refl}
 use Rattle.deduce.proofs.SignSets.{asked-mirrored}
 use Rattle.deduce.proofs.last.Last.by.Statement.{statement}
 use Rattle.deduce.proofs.last.Last.by.Tie as tie

@@ -1,6 +1,5 @@
 -- `Seen::finding` meets its contract: what L gives and what U gives, intersected.
 use borrow.Author.Rules.{rules}
-use mathlib.Core.Path.{◌≡◌, ◌∙◌}
 use Rattle.plain.specs.Tests.{finding_from}
 use Rattle.plain.proofs.tests.Seen.finding.Statement.{statement}
 use Rattle.plain.proofs.tests.Seen.finding.Tie as tie

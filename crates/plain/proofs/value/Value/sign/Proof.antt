@@ -1,7 +1,7 @@
 -- `Value::sign` meets its contract: the sign of the numerator.
 use borrow.Author.Rules.{rules}
-use mathlib.Core.Path.{◌≡◌, ap, ◌∙◌}
-use lib.IntN.{pos, +ℤ_idr}
+use mathlib.Core.Path.{◌∙◌}
+use lib.IntN.{+ℤ_idr}
 use mir.Syntax.{w64}
 use mir.Val.{SFits}
 use mir.ValLaws.{to_z-of_z}

@@ -1,9 +1,9 @@
 -- `Value::sign-at` meets its contract: each product fits, and their order is the sign.
 use borrow.Author.Rules.{rules}
-use mathlib.Core.Path.{◌≡◌, ◌∙◌}
+use mathlib.Core.Path.{◌∙◌}
 use native.Mathlib.Omega.{arith}
 use lib.IntN.{pos, ◌-ℤ◌, ◌*ℤ◌}
-use mir.Syntax.{w32, w64}
+use mir.Syntax.{w32}
 use mir.ValLaws.{to_z-of_z}
 use Rattle.plain.proofs.Numbers.{fits, widened, wide, back, held-c, held-d, wider, minus-in, product-in, compared}
 use Rattle.plain.proofs.value.Value.sign_at.Statement.{statement}
