@@ -305,12 +305,17 @@ root_node token b p rest tree here within few e = record {
 }
 
 module _ {token : List ℕ} {root : ℕ} where
-  -- a root that is no atom is a node of its kind
-  pub held-node : (tree : Node ℕ) → TreeHeld token root tree → (root ≡ 0 → ⊥) → RootNode token (eqb root 1) tree
+  pub held-and : (tree : Node ℕ) → TreeHeld token root tree → root ≡ 1 → RootNode token true tree
   unfolding open_formula tokens TokensWithin back root_parts
-  held-node (formula.leaf x) h m = absurd (m h.root_is)
-  held-node (all_of kids) h m = rw h.root_is (root_node token true kids h.rest (all_of kids) h.here h.within.2 (omega (arith, h.few)) (λ t. refl))
-  held-node (any_of kids) h m = rw h.root_is (root_node token false kids h.rest (any_of kids) h.here h.within.2 (omega (arith, h.few)) (λ t. refl))
+  held-and (formula.leaf x) h e = absurd (omega (arith, h.root_is))
+  held-and (all_of kids) h e = root_node token true kids h.rest (all_of kids) h.here h.within.2 (omega (arith, h.few)) (λ t. refl)
+  held-and (any_of kids) h e = absurd (omega (arith, h.root_is))
+
+  pub held-or : (tree : Node ℕ) → TreeHeld token root tree → (root ≡ 0 → ⊥) → (root ≡ 1 → ⊥) → RootNode token false tree
+  unfolding open_formula tokens TokensWithin back root_parts
+  held-or (formula.leaf x) h m n = absurd (m h.root_is)
+  held-or (all_of kids) h m n = absurd (n h.root_is)
+  held-or (any_of kids) h m n = root_node token false kids h.rest (any_of kids) h.here h.within.2 (omega (arith, h.few)) (λ t. refl)
 
 -- ---- the whole
 

