@@ -108,7 +108,7 @@ pub fn answer_each<R: Read, W: Write, F: FnMut(&mut W, &[u8]) -> io::Result<()>>
     Ok(())
 }
 
-// The same for an answer that gets the whole space, and how many of its first bytes are the block: to stay within them is a fact about the answer.
+// The same for an answer that gets the whole space, and how many of its first bytes are the block. That it looks at no others nothing here says.
 // kept: beside `answer_each` and not under it; a closure of `answer_each` that hands a part of the space on was tried, and its proof did not close
 pub fn answer_each_in_space<R: Read, W: Write, F: FnMut(&mut W, &[u8], usize) -> io::Result<()>>(
     input: &mut R,
