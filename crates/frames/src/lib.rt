@@ -3,7 +3,7 @@
 
 #![tactic(auto)]
 
-ghost use Rattle.std.specs.Prelude.{◌≤◌, ◌<◌, ◌≡◌, ◌+◌, IfOk, IfSome, length, take, drop};
+ghost use Rattle.std.specs.Prelude.{ℕ, ◌≤◌, ◌<◌, ◌≡◌, ◌+◌, IfOk, IfSome, length, take, drop};
 ghost use Rattle.std.specs.Io.KnownBytes.{Consumes, IsAtEnd};
 ghost use Rattle.frames.specs.Taken.{taken_of};
 
@@ -101,6 +101,26 @@ pub fn answer_each<R: Read, W: Write, F: FnMut(&mut W, &[u8]) -> io::Result<()>>
     for _ in 0..u64::MAX {
         match next(input, space)? {
             Frame::Block(length) => answer(out, &space[..length])?,
+            Frame::CutOff => return out.write_all(b"CUT OFF\n"),
+            Frame::End => return Ok(()),
+        }
+    }
+    Ok(())
+}
+
+// The same for an answer that gets the whole space, and how many of its first bytes are the block. That it looks at no others nothing here says.
+// kept: beside `answer_each` and not under it; a closure of `answer_each` that hands a part of the space on was tried, and its proof did not close
+pub fn answer_each_in_space<R: Read, W: Write, F: FnMut(&mut W, &[u8], usize) -> io::Result<()>>(
+    input: &mut R,
+    out: &mut W,
+    space: &mut [u8],
+    mut answer: F,
+) -> io::Result<()>
+    requires { (state : F) (to : _) (held : _) (taken : ℕ) → taken ≤ length held.now → F.pre state to held taken }
+{
+    for _ in 0..u64::MAX {
+        match next(input, space)? {
+            Frame::Block(length) => answer(out, space, length)?,
             Frame::CutOff => return out.write_all(b"CUT OFF\n"),
             Frame::End => return Ok(()),
         }

@@ -1,6 +1,6 @@
 // 01, "A level", step 1 and the OR rule: "The AND rule and the OR rule call one another, each time one nesting lower."
 // The tree is a tape of tokens, parent before children. A node's kind is not stored: it is the one that its parent's is not.
-// kept: two functions in a cycle, and no rule with a parameter for the kind, since document 01 names this form for this place ("Where each form goes").
+// kept: two functions in a cycle, and no rule with a parameter for the kind: document 01 names this form for this place ("Where each form goes").
 ghost use Rattle.std.specs.Prelude.{◌≡◌, true, false, List, ℕ, suc, ◌+◌};
 ghost use Rattle.table.specs.Table.{Forms};
 ghost use Rattle.round.specs.Views.{lent_table};

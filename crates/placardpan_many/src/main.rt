@@ -3,7 +3,7 @@
 
 #![tactic(auto)]
 
-use frames::answer_each;
+use frames::answer_each_in_space;
 use printing::{Asked, asked_for, print_asked};
 use std::io;
 use std::io::Write;
@@ -13,10 +13,10 @@ fn main(rt: HostRuntime) -> io::Result<()> {
     let mut output = [0u8; 65536];
     let mut text = [0u8; 65536];
     let asked = asked_for(&rt);
-    answer_each(
+    answer_each_in_space(
         &mut rt.stdin(),
         &mut rt.stdout(),
         &mut space,
-        |out, block| print_asked(out, block, &mut output, &mut text, asked),
+        |out, space, n| print_asked(out, &space[..n], &mut output, &mut text, asked),
     )
 }

@@ -3,7 +3,7 @@
 
 #![tactic(auto)]
 
-use frames::answer_each;
+use frames::answer_each_in_space;
 use std::io;
 use std::io::Write;
 
@@ -16,10 +16,10 @@ fn tell<W: Write>(out: &mut W, block: &[u8]) -> io::Result<()> {
 
 fn main(rt: HostRuntime) -> io::Result<()> {
     let mut space = [0u8; 65536];
-    answer_each(
+    answer_each_in_space(
         &mut rt.stdin(),
         &mut rt.stdout(),
         &mut space,
-        |out, block| tell(out, block),
+        |out, space, n| tell(out, &space[..n]),
     )
 }

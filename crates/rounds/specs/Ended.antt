@@ -1,5 +1,5 @@
 -- What the rounds to their end ensure: the outcome, how many were begun, and the state that the last one left.
--- The rounds are counted down from the book's own number.
+-- The rounds are counted up to the book's own number.
 use Rattle.std.specs.Prelude.{◌≡◌, Bool, true, false}
 use Rattle.std.proofs.Math.Option.{Option, some}
 use Rattle.rules.specs.Rounds.{unchanged, search, rounds, begun, enough}

@@ -2,15 +2,15 @@
 
 #![tactic(auto)]
 
-use frames::answer_each;
+use frames::answer_each_in_space;
 use std::io;
 
 fn main(rt: HostRuntime) -> io::Result<()> {
     let mut space = [0u8; 65536];
-    answer_each(
+    answer_each_in_space(
         &mut rt.stdin(),
         &mut rt.stdout(),
         &mut space,
-        |out, block| why_telling::tell(out, block),
+        |out, space, n| why_telling::tell(out, &space[..n]),
     )
 }
